@@ -1,0 +1,9 @@
+pub mod Bits
+pub mod Members
+pub mod Ones
+pub mod Turn
+pub mod Comb
+pub mod Dot
+pub mod Finding
+pub mod Choosing
+pub mod Words
