@@ -95,3 +95,7 @@ first-is f d k le hit miss = go (ltb m k) (ltb k m) refl refl
         let h : k < m = ltb-true k m q in
         absurd (never (hit (omega (arith, first-le f d 0))) (first-before f d 0 k (omega arith) h))
     go false false p q = omega (arith, ltb-false m k p, ltb-false k m q)
+
+-- a search begins with all its numbers to try
+pub first-all : (f : ℕ → Bool) (n : ℕ) → firstOf f (n - 0) 0 ≡ firstOf f n 0
+first-all f n = ap (λ (d : ℕ). firstOf f d 0) (omega arith)

@@ -7,7 +7,7 @@ use native.Mathlib.Decide.{ℕ-discrete}
 use lib.Bits.{bitXor, xor-zero-r}
 use Rattle.sets.specs.Bit.{bit, when, In, Sub}
 use Rattle.sets.specs.Columns.{turn}
-use Rattle.sets.proofs.Bits.{by-bit, bit-lt, bit-xor, bit-of-zero, bit-pow-same, bit-pow-other, bit-when, when-zero}
+use Rattle.sets.proofs.Bits.{by-bit, bit-lt, bit-xor, bit-of-zero, bit-pow-same, bit-pow-other, bit-when, when-zero, ext}
 
 pub turn-other : (x c t j : ℕ) → c ≢ j → bit (turn x c t) j ≡ bit x j
 unfolding turn
@@ -41,3 +41,13 @@ turn-sub Q x c t h f i k = go (ℕ-discrete c i)
     go : Dec (c ≡ i) → In i Q
     go (yes e) = subst (λ (j : ℕ). In j Q) e h
     go (no n) = f i (sym (turn-other x c t i n) ∙ k)
+
+-- a CNOT undoes itself
+pub turn-back : (x c t : ℕ) → c ≢ t → turn (turn x c t) c t ≡ x
+turn-back x c t ne = ext (turn (turn x c t) c t) x (λ j. at j (ℕ-discrete c j))
+  where
+    at : (j : ℕ) → Dec (c ≡ j) → bit (turn (turn x c t) c t) j ≡ bit x j
+    at j (no n) = turn-other (turn x c t) c t j n ∙ turn-other x c t j n
+    at j (yes e) =
+        subst (λ (k : ℕ). bit (turn (turn x c t) c t) k ≡ bit x k) e
+        (turn-same (turn x c t) c t ∙ omega (arith, turn-same x c t, turn-other x c t t ne, bit-lt x c, bit-lt x t))

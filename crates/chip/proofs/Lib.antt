@@ -1,0 +1,4 @@
+pub mod Chains
+pub mod Growth
+pub mod Closure
+pub mod Spares

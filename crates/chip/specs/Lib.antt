@@ -1,0 +1,2 @@
+pub mod Graph
+pub mod Spare

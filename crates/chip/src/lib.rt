@@ -1,0 +1,1 @@
+// The chip: couplers, islands, connected sets. It knows numbers and sets, and no gates.

@@ -1,0 +1,127 @@
+-- The parities that bear a rotation: how they grow with the gates, and that no other has an angle. Assumes nothing.
+use mathlib.Core.Path.{_≡_, refl, sym, ap, ap₂, _∙_, subst}
+use mathlib.Core.Logic.{_≢_, _⊎_, inl, inr, ⊎-elim}
+use mathlib.Core.List.{List, [], _∷_, _++_, map}
+use Prim.Native.Nat.{ℕ, zero, suc, _+_, _%_, _≤_, _<_, zero-le}
+use native.Mathlib.Omega.{arith}
+use native.Mathlib.Decide.{ℕ-discrete}
+use lib.ListN.{length, getD}
+use Rattle.meaning.specs.declared.gate.Gate.{Gate}
+use Rattle.meaning.specs.declared.gate.Gate.the-variants.{Cnot, Rotation, Bad}
+use Rattle.meaning.specs.Circuit.{step, run, start, gives, given, sumOf, Term}
+use Rattle.meaning.specs.Borne.{insert, bears, borneFrom, borne, kept, sumsOf, terms, Ascending, Among}
+use Rattle.meaning.proofs.Steps.{gives-cnot, gives-bad, gives-other}
+use Rattle.meaning.proofs.Circuits.{run-snoc, given-append}
+use Rattle.meaning.proofs.Lists.{Up, up-none, up-ascending, up-insert, up-kept, insert-has, insert-keeps, insert-back, kept-has, kept-back}
+
+-- ---- one gate more
+
+pub bears-rotation : (q a : ℕ) (W ps : List ℕ) → bears (Rotation q a) W ps ≡ insert (getD W q 0) ps
+unfolding bears
+bears-rotation q a W ps = refl
+
+borne-from-append : (g h : List Gate) (W ps : List ℕ) → borneFrom (g ++ h) W ps ≡ borneFrom h (run g W) (borneFrom g W ps)
+unfolding borneFrom run
+borne-from-append [] h W ps = refl
+borne-from-append (x ∷ g) h W ps = borne-from-append g h (step x W) (bears x W ps)
+
+pub borne-snoc : (gs : List Gate) (g : Gate) → borne (gs ++ g ∷ []) ≡ bears g (run gs start) (borne gs)
+unfolding borne borneFrom
+borne-snoc gs g = borne-from-append gs (g ∷ []) start []
+
+pub borne-cnot : (gs : List Gate) (c t : ℕ) → borne (gs ++ Cnot c t ∷ []) ≡ borne gs
+unfolding bears
+borne-cnot gs c t = borne-snoc gs (Cnot c t)
+
+pub borne-bad : (gs : List Gate) → borne (gs ++ Bad ∷ []) ≡ borne gs
+unfolding bears
+borne-bad gs = borne-snoc gs Bad
+
+-- ---- the order
+
+bears-up : (g : Gate) (W ps : List ℕ) → Up 0 ps → Up 0 (bears g W ps)
+unfolding bears
+bears-up (Cnot c t) W ps u = u
+bears-up (Rotation q a) W ps u = up-insert 0 (getD W q 0) ps u zero-le
+bears-up Bad W ps u = u
+
+borne-from-up : (gs : List Gate) (W ps : List ℕ) → Up 0 ps → Up 0 (borneFrom gs W ps)
+unfolding borneFrom
+borne-from-up [] W ps u = u
+borne-from-up (g ∷ gs) W ps u = borne-from-up gs (step g W) (bears g W ps) (bears-up g W ps u)
+
+pub borne-up : (gs : List Gate) → Up 0 (borne gs)
+unfolding borne
+borne-up gs = borne-from-up gs start [] (up-none 0)
+
+pub borne-ascending : (gs : List Gate) → Ascending (borne gs)
+borne-ascending gs = up-ascending 0 (borne gs) (borne-up gs)
+
+-- ---- who is among them
+
+bears-keeps : (g : Gate) (W ps : List ℕ) (p : ℕ) → Among p ps → Among p (bears g W ps)
+unfolding bears
+bears-keeps (Cnot c t) W ps p h = h
+bears-keeps (Rotation q a) W ps p h = insert-keeps (getD W q 0) p ps h
+bears-keeps Bad W ps p h = h
+
+borne-from-keeps : (gs : List Gate) (W ps : List ℕ) (p : ℕ) → Among p ps → Among p (borneFrom gs W ps)
+unfolding borneFrom
+borne-from-keeps [] W ps p h = h
+borne-from-keeps (g ∷ gs) W ps p h = borne-from-keeps gs (step g W) (bears g W ps) p (bears-keeps g W ps p h)
+
+bears-given : (g : Gate) (W ps : List ℕ) (p : ℕ) → gives p g W ≢ 0 → Among p (bears g W ps)
+unfolding bears
+bears-given (Cnot c t) W ps p n = absurd (n (gives-cnot p c t W))
+bears-given (Rotation q a) W ps p n = go (ℕ-discrete (getD W q 0) p)
+  where
+    go : Dec (getD W q 0 ≡ p) → Among p (insert (getD W q 0) ps)
+    go (yes e) = subst (λ (r : ℕ). Among r (insert (getD W q 0) ps)) e (insert-has (getD W q 0) ps)
+    go (no ne) = absurd (n (gives-other p q a W ne))
+bears-given Bad W ps p n = absurd (n (gives-bad p W))
+
+borne-from-given : (gs : List Gate) (W ps : List ℕ) (p : ℕ) → given p gs W ≢ 0 → Among p (borneFrom gs W ps)
+unfolding borneFrom given
+borne-from-given [] W ps p n = absurd (n refl)
+borne-from-given (g ∷ gs) W ps p n = go (ℕ-discrete (gives p g W) 0) (borne-from-given gs (step g W) (bears g W ps) p)
+  where
+    go : Dec (gives p g W ≡ 0) → (given p gs (step g W) ≢ 0 → Among p (borneFrom gs (step g W) (bears g W ps))) → Among p (borneFrom gs (step g W) (bears g W ps))
+    go (yes z) ih = ih (λ (e : given p gs (step g W) ≡ 0). n (omega arith))
+    go (no ne) ih = borne-from-keeps gs (step g W) (bears g W ps) p (bears-given g W ps p ne)
+
+-- "sums only of parities that were borne"
+pub given-borne : (p : ℕ) (gs : List Gate) → given p gs start ≢ 0 → Among p (borne gs)
+unfolding borne
+given-borne p gs n = borne-from-given gs start [] p n
+
+pub sum-borne : (p : ℕ) (gs : List Gate) → sumOf p gs ≢ 0 → Among p (borne gs)
+unfolding sumOf
+sum-borne p gs n = given-borne p gs (λ (e : given p gs start ≡ 0). n (omega (arith, ap (λ (k : ℕ). k % 65536) e)))
+
+pub not-borne : (p : ℕ) (gs : List Gate) → (Among p (borne gs) → ⊥) → given p gs start ≡ 0
+not-borne p gs n = go (ℕ-discrete (given p gs start) 0)
+  where
+    go : Dec (given p gs start ≡ 0) → given p gs start ≡ 0
+    go (yes e) = e
+    go (no ne) = absurd (n (given-borne p gs ne))
+
+-- ---- the terms: exactly the parities whose sum is not 0, ascending, each once
+
+pub terms-up : (gs : List Gate) → Up 0 (terms gs)
+unfolding terms
+terms-up gs = up-kept (λ p. sumOf p gs) 0 (borne gs) (borne-up gs)
+
+pub terms-ascending : (gs : List Gate) → Ascending (terms gs)
+terms-ascending gs = up-ascending 0 (terms gs) (terms-up gs)
+
+pub term-among : (p : ℕ) (gs : List Gate) → Term gs p → Among p (terms gs)
+unfolding terms Term
+term-among p gs t = kept-has (λ p. sumOf p gs) p (borne gs) (sum-borne p gs t) t
+
+pub among-term : (p : ℕ) (gs : List Gate) → Among p (terms gs) → Term gs p
+unfolding terms Term
+among-term p gs h = kept-back (λ p. sumOf p gs) p (borne gs) h .1
+
+pub terms-borne : (p : ℕ) (gs : List Gate) → Among p (terms gs) → Among p (borne gs)
+unfolding terms
+terms-borne p gs h = kept-back (λ p. sumOf p gs) p (borne gs) h .0

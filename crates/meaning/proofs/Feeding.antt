@@ -1,0 +1,40 @@
+-- One gate fed to the wires and to a meaning. Assumes nothing.
+use mathlib.Core.Path.{_≡_, refl, sym, ap, _∙_}
+use mathlib.Core.Bool.{false}
+use mathlib.Core.List.{List}
+use Prim.Native.Nat.{ℕ, _≤_, _<_}
+use lib.ListN.{getD}
+use borrow.Author.Tests.{lt-ltb, le-ltb}
+use Rattle.sets.specs.Columns.{cnot}
+use Rattle.meaning.specs.declared.gate.Gate.{Gate}
+use Rattle.meaning.specs.declared.gate.Gate.the-variants.{Cnot, Rotation, Bad}
+use Rattle.meaning.specs.declared.wires.Wires.{Wires}
+use Rattle.meaning.specs.declared.told.Meaning.{Meaning}
+use Rattle.meaning.specs.declared.told.Fed.{Fed}
+use Rattle.meaning.specs.declared.sums.Added.{Added}
+use Rattle.meaning.specs.Circuit.{step}
+use Rattle.meaning.specs.Told.{fedWires, addedTo, fedMeaning}
+
+module _ (w : Wires) (g : Gate) where
+  pub wires-cnot : (c t : ℕ) (xs : List ℕ) → g ≡ Cnot c t → xs ≡ cnot c t (w .parity) → _≡_ {A = Wires} (record { parity = xs }) (fedWires w g)
+  unfolding fedWires step
+  wires-cnot c t xs e h = ap (λ (ys : List ℕ). record { parity = ys }) h ∙ ap (fedWires w) (sym e)
+
+  pub wires-rotation : (q a : ℕ) → g ≡ Rotation q a → w ≡ fedWires w g
+  unfolding fedWires step
+  wires-rotation q a e = ap (fedWires w) (sym e)
+
+  pub wires-bad : g ≡ Bad → w ≡ fedWires w g
+  unfolding fedWires step
+  wires-bad e = ap (fedWires w) (sym e)
+
+pub fed-rotation : (m : Meaning) (g : Gate) (q a x : ℕ) (s : Added) → g ≡ Rotation q a → x ≡ getD (m .wires .parity) q 0 → s ≡ addedTo (m .sums) x a
+    → _≡_ {A = Fed} (record { meaning = record { wires = m .wires; sums = s .sums }; full = s .full }) (fedMeaning m g)
+unfolding fedMeaning
+fed-rotation m g q a x s e h d =
+    ap (λ (t : Added). record { meaning = record { wires = m .wires; sums = t .sums }; full = t .full }) (d ∙ ap (λ (p : ℕ). addedTo (m .sums) p a) h)
+    ∙ ap (fedMeaning m) (sym e)
+
+pub fed-bad : (m : Meaning) (g : Gate) → g ≡ Bad → _≡_ {A = Fed} (record { meaning = m; full = false }) (fedMeaning m g)
+unfolding fedMeaning
+fed-bad m g e = ap (fedMeaning m) (sym e)

@@ -1,0 +1,16 @@
+pub mod Records
+pub mod Steps
+pub mod Circuits
+pub mod Ranks
+pub mod Moving
+pub mod Feeding
+pub mod Lists
+pub mod Bearing
+pub mod Tables
+pub mod Telling
+pub mod Tallies
+pub mod Layers
+pub mod Keeping
+pub mod Wiring
+pub mod Alls
+pub mod Examples

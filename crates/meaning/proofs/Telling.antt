@@ -1,0 +1,166 @@
+-- Feeding gates one by one tells the meaning of the list, up to the gate that brings the 257th parity. Assumes nothing.
+use mathlib.Core.Path.{_≡_, refl, sym, ap, ap₂, _∙_, subst}
+use mathlib.Core.Bool.{Bool, true, false}
+use mathlib.Core.List.{List, [], _∷_, _++_, map}
+use Prim.Native.Nat.{ℕ, zero, suc, _+_, _-_, _%_, _≤_, _<_}
+use native.Mathlib.Nat.{not-suc-le-zero, le-of-suc-le-suc}
+use native.Mathlib.Omega.{arith}
+use native.Mathlib.Numerals.{add-one}
+use lib.Dec.{ltb}
+use lib.ListN.{length, getD, take, length-map}
+use lib.Seq.{take-suc, take-all}
+use borrow.Author.Tests.{lt-ltb, le-ltb, ltb-true, ltb-false}
+use Rattle.sets.specs.Pick.{pick}
+use Rattle.sets.specs.Search.{firstOf}
+use Rattle.sets.proofs.Finding.{first-all, first-here, first-next, first-end}
+use Rattle.meaning.specs.declared.gate.Gate.{Gate}
+use Rattle.meaning.specs.declared.gate.Gate.the-variants.{Cnot, Rotation, Bad}
+use Rattle.meaning.specs.declared.sums.Added.{Added}
+use Rattle.meaning.specs.declared.sums.Sums.{Sums}
+use Rattle.meaning.specs.declared.wires.Wires.{Wires}
+use Rattle.meaning.specs.declared.told.Meaning.{Meaning}
+use Rattle.meaning.specs.declared.told.Fed.{Fed}
+use Rattle.meaning.specs.declared.told.Told.{Told}
+use Rattle.meaning.specs.Layout.{gateOf, gatesOf}
+use Rattle.meaning.specs.Circuit.{step, run, start, given, sumOf}
+use Rattle.meaning.specs.Borne.{bears, borne, borneFrom, sumsOf, overAt}
+use Rattle.meaning.specs.Told.{fedWires, fedMeaning, addedTo, wiresOf, tableOf, meaningOf, toldOf}
+use Rattle.meaning.proofs.Steps.{gives-cnot, gives-bad}
+use Rattle.meaning.proofs.Circuits.{run-snoc, given-snoc}
+use Rattle.meaning.proofs.Bearing.{borne-cnot, borne-bad}
+use Rattle.meaning.proofs.Tables.{added-fits, added-full}
+
+-- ---- one gate more
+
+wires-more : (gs : List Gate) (g : Gate) → fedWires (wiresOf gs) g ≡ wiresOf (gs ++ g ∷ [])
+unfolding fedWires wiresOf
+wires-more gs g = ap (λ (W : List ℕ). record { parity = W }) (sym (run-snoc gs g start))
+
+-- a gate that gives no angle leaves the table
+sums-same : (gs : List Gate) (g : Gate) (ps : List ℕ) → ((p : ℕ) → given p (gs ++ g ∷ []) start ≡ given p gs start) → sumsOf (gs ++ g ∷ []) ps ≡ sumsOf gs ps
+unfolding sumOf
+sums-same gs g [] h = refl
+sums-same gs g (p ∷ ps) h = ap₂ (λ (a : ℕ) (as′ : List ℕ). a ∷ as′) (ap (λ (m : ℕ). m % 65536) (h p)) (sums-same gs g ps h)
+
+table-same : (gs : List Gate) (g : Gate) → borne (gs ++ g ∷ []) ≡ borne gs → ((p : ℕ) → given p (gs ++ g ∷ []) start ≡ given p gs start) → tableOf (gs ++ g ∷ []) ≡ tableOf gs
+unfolding tableOf
+table-same gs g b h = rw (b, sums-same gs g (borne gs) h)
+
+pub table-cnot : (gs : List Gate) (c t : ℕ) → tableOf (gs ++ Cnot c t ∷ []) ≡ tableOf gs
+table-cnot gs c t = table-same gs (Cnot c t) (borne-cnot gs c t) (λ p. given-snoc p gs (Cnot c t) start ∙ omega (arith, gives-cnot p c t (run gs start)))
+
+pub table-bad : (gs : List Gate) → tableOf (gs ++ Bad ∷ []) ≡ tableOf gs
+table-bad gs = table-same gs Bad (borne-bad gs) (λ p. given-snoc p gs Bad start ∙ omega (arith, gives-bad p (run gs start)))
+
+borne-by : (gs : List Gate) → wiresOf gs .parity ≡ run gs start
+unfolding wiresOf
+borne-by gs = refl
+
+wires-rotation : (gs : List Gate) (q a : ℕ) → wiresOf gs ≡ wiresOf (gs ++ Rotation q a ∷ [])
+unfolding wiresOf step
+wires-rotation gs q a = ap (λ (W : List ℕ). record { parity = W }) (sym (run-snoc gs (Rotation q a) start))
+
+wires-bad : (gs : List Gate) → wiresOf gs ≡ wiresOf (gs ++ Bad ∷ [])
+unfolding wiresOf step
+wires-bad gs = ap (λ (W : List ℕ). record { parity = W }) (sym (run-snoc gs Bad start))
+
+abbrev fed : Wires → Sums → Bool → Fed
+fed w s b = record { meaning = record { wires = w; sums = s }; full = b }
+
+module _ (gs : List Gate) (few : length (borne gs) ≤ 256) where
+  -- it fits: the meaning of one gate more
+  pub feed-fits : (g : Gate) → length (borne (gs ++ g ∷ [])) ≤ 256 → fedMeaning (meaningOf gs) g ≡ record { meaning = meaningOf (gs ++ g ∷ []); full = false }
+  unfolding fedMeaning meaningOf
+  feed-fits (Cnot c t) h = ap₂ (λ (w : Wires) (s : Sums). fed w s false) (wires-more gs (Cnot c t)) (sym (table-cnot gs c t))
+  feed-fits (Rotation q a) h =
+      ap₂ (λ (w : Wires) (s : Added). fed w (s .sums) (s .full)) (wires-rotation gs q a)
+      (ap (λ (W : List ℕ). addedTo (tableOf gs) (getD W q 0) a) (borne-by gs) ∙ added-fits gs q a few h)
+  feed-fits Bad h = ap₂ (λ (w : Wires) (s : Sums). fed w s false) (wires-bad gs) (sym (table-bad gs))
+
+  -- it does not: the gate brings the 257th
+  pub feed-full : (g : Gate) → 256 < length (borne (gs ++ g ∷ [])) → fedMeaning (meaningOf gs) g .full ≡ true
+  unfolding fedMeaning meaningOf
+  feed-full (Cnot c t) h = absurd (omega (arith, ap length (borne-cnot gs c t)))
+  feed-full (Rotation q a) h =
+      ap (λ (W : List ℕ). addedTo (tableOf gs) (getD W q 0) a .full) (borne-by gs) ∙ added-full gs q a few h
+  feed-full Bad h = absurd (omega (arith, ap length (borne-bad gs)))
+
+-- ---- the whole list
+
+abbrev pub overTest : List Gate → ℕ → Bool
+overTest gs k = ltb 256 (length (borne (take (k + 1) gs)))
+
+-- the state of the loop at place i: the gates before it are told, and none of them brings the 257th
+pub record Telling (gs : List Gate) (m : Meaning) (i : ℕ) : Type 0 where
+  pub within : i ≤ length gs
+  pub told : m ≡ meaningOf (take i gs)
+  pub few : length (borne (take i gs)) ≤ 256
+  pub still : firstOf (overTest gs) (length gs - i) i ≡ overAt gs
+
+pub telling-none : (gs : List Gate) (m : Meaning) → m ≡ meaningOf [] → Telling gs m 0
+unfolding overAt borne borneFrom
+telling-none gs m e = record { within = omega arith; told = e; few = omega arith; still = first-all (overTest gs) (length gs) }
+
+take-more : (gs : List Gate) (i : ℕ) → i < length gs → take (i + 1) gs ≡ take i gs ++ getD gs i Bad ∷ []
+take-more gs i h = ap (λ (k : ℕ). take k gs) (add-one i) ∙ take-suc gs i Bad h
+
+module _ (gs : List Gate) (m : Meaning) (i : ℕ) (t : Telling gs m i) (h : i < length gs) (next : Fed) (e : next ≡ fedMeaning m (getD gs i Bad)) where
+  after : next ≡ fedMeaning (meaningOf (take i gs)) (getD gs i Bad)
+  after = e ∙ ap (λ (n : Meaning). fedMeaning n (getD gs i Bad)) (t .told)
+
+  pub telling-next : next .full ≡ false → Telling gs (next .meaning) (i + 1)
+  telling-next f = go (ltb 256 (length (borne (take (i + 1) gs)))) refl
+    where
+      go : (b : Bool) → ltb 256 (length (borne (take (i + 1) gs))) ≡ b → Telling gs (next .meaning) (i + 1)
+      go true o =
+          let big : 256 < length (borne (take i gs ++ getD gs i Bad ∷ [])) = rw (take-more gs i h) at (ltb-true 256 (length (borne (take (i + 1) gs))) o) in
+          let z : _≡_ {A = ℕ} 1 0 = ap (λ (b : Bool). pick b 1 0) (sym (ap (λ (n : Fed). n .full) after ∙ feed-full (take i gs) (t .few) (getD gs i Bad) big) ∙ f) in
+          absurd (omega arith)
+      go false o =
+          let small : length (borne (take (i + 1) gs)) ≤ 256 = ltb-false 256 (length (borne (take (i + 1) gs))) o in
+          record {
+            within = omega arith;
+            told = ap (λ (n : Fed). n .meaning) (after ∙ feed-fits (take i gs) (t .few) (getD gs i Bad) (rw (take-more gs i h) at small)) ∙ ap meaningOf (sym (take-more gs i h));
+            few = small;
+            still = sym (first-next (overTest gs) (length gs) i h o) ∙ t .still;
+          }
+
+  pub telling-full : next .full ≡ true → overAt gs ≡ i
+  telling-full f = go (ltb 256 (length (borne (take (i + 1) gs)))) refl
+    where
+      go : (b : Bool) → ltb 256 (length (borne (take (i + 1) gs))) ≡ b → overAt gs ≡ i
+      go true o = sym (t .still) ∙ first-here (overTest gs) (length gs) i h o
+      go false o =
+          let small : length (borne (take i gs ++ getD gs i Bad ∷ [])) ≤ 256 = rw (take-more gs i h) at (ltb-false 256 (length (borne (take (i + 1) gs))) o) in
+          let z : _≡_ {A = ℕ} 1 0 = ap (λ (b : Bool). pick b 1 0) (sym f ∙ ap (λ (n : Fed). n .full) (after ∙ feed-fits (take i gs) (t .few) (getD gs i Bad) small)) in
+          absurd (omega arith)
+
+-- ---- the loop, over the records
+
+gate-at : (n : ℕ) (xs : List ℕ) (i : ℕ) → i < length xs → gateOf n (getD xs i 0) ≡ getD (gatesOf n xs) i Bad
+gate-at n [] i h = absurd (not-suc-le-zero h)
+gate-at n (x ∷ xs) zero h = refl
+gate-at n (x ∷ xs) (suc i) h = gate-at n xs i (le-of-suc-le-suc h)
+
+module _ (n : ℕ) (xs : List ℕ) (m : Meaning) (i : ℕ) (t : Telling (gatesOf n xs) m i) where
+  module _ (h : i < length xs) (g : Gate) (d : g ≡ gateOf n (getD xs i 0)) (next : Fed) (e : next ≡ fedMeaning m g) where
+    here : i < length (gatesOf n xs)
+    here = omega (arith, length-map xs (gateOf n))
+
+    fed-here : next ≡ fedMeaning m (getD (gatesOf n xs) i Bad)
+    fed-here = e ∙ ap (fedMeaning m) (d ∙ gate-at n xs i h)
+
+    pub tell-next : next .full ≡ false → Telling (gatesOf n xs) (next .meaning) (i + 1)
+    tell-next f = telling-next (gatesOf n xs) m i t here next fed-here f
+
+    pub tell-full : next .full ≡ true → _≡_ {A = Told} (record { meaning = m; fed = i }) (toldOf n xs)
+    unfolding toldOf
+    tell-full f = rw (telling-full (gatesOf n xs) m i t here next fed-here f) (ap (λ (k : Meaning). record { meaning = k; fed = i }) (t .told))
+
+  pub tell-all : length xs ≤ i → _≡_ {A = Told} (record { meaning = m; fed = length xs }) (toldOf n xs)
+  unfolding toldOf
+  tell-all h =
+      let long : length (gatesOf n xs) ≡ length xs = length-map xs (gateOf n) in
+      let last : i ≡ length xs = omega (arith, t .within) in
+      let o : overAt (gatesOf n xs) ≡ length xs = sym (t .still) ∙ first-end (overTest (gatesOf n xs)) (length (gatesOf n xs)) i (omega arith) ∙ last in
+      rw o (ap (λ (k : Meaning). record { meaning = k; fed = length xs }) (t .told ∙ ap (λ (k : ℕ). meaningOf (take k (gatesOf n xs))) last))

@@ -1,0 +1,14 @@
+-- `meaning::wires::Wires::new` meets its contract: 20 powers of two. Assumes nothing.
+use mathlib.Core.Path.{refl}
+use Rattle.sets.specs.Columns.{units}
+use Rattle.meaning.specs.Circuit.{run, start}
+use Rattle.meaning.specs.Told.{wiresOf}
+use Rattle.meaning.proofs.wires.Wires.new.Statement.{statement}
+use Rattle.meaning.proofs.wires.Wires.new.Tie as tie
+
+returns : tie.Need-returns
+unfolding wiresOf run start units
+returns c = refl
+
+pub new-spec : {M : Type 1} → statement M
+new-spec = tie.close (tie.spec returns)

@@ -1,0 +1,62 @@
+-- The parities that bear a rotation, and the terms among them, ascending (document 01, "Meaning of a circuit", refusal 6).
+use mathlib.Core.Path.{_≡_}
+use mathlib.Core.Logic.{_⊎_}
+use mathlib.Core.List.{List, [], _∷_, _++_, map}
+use Prim.Native.Nat.{ℕ, zero, suc, _+_, _-_, _≤_, _<_}
+use lib.Dec.{eqb, ltb}
+use lib.ListN.{length, getD, take, replicate}
+use Rattle.sets.specs.Pick.{pick}
+use Rattle.sets.specs.Search.{firstOf}
+use Rattle.meaning.specs.Limits.{mostParities}
+use Rattle.meaning.specs.declared.gate.Gate.{Gate}
+use Rattle.meaning.specs.declared.gate.Gate.the-variants.{Cnot, Rotation, Bad}
+use Rattle.meaning.specs.Circuit.{step, start, sumOf}
+
+-- p put into an ascending list, once
+unfoldable pub insert : ℕ → List ℕ → List ℕ
+insert p [] = p ∷ []
+insert p (x ∷ xs) = pick (ltb x p) (x ∷ insert p xs) (pick (eqb x p) (x ∷ xs) (p ∷ x ∷ xs))
+
+-- the parities ps, with the one that gate g turns
+unfoldable pub bears : Gate → List ℕ → List ℕ → List ℕ
+bears (Cnot c t) W ps = ps
+bears (Rotation q a) W ps = insert (getD W q 0) ps
+bears Bad W ps = ps
+
+unfoldable pub borneFrom : List Gate → List ℕ → List ℕ → List ℕ
+borneFrom [] W ps = ps
+borneFrom (g ∷ gs) W ps = borneFrom gs (step g W) (bears g W ps)
+
+-- the different parities that bear a rotation ("sum 0 and angle 0 included"), ascending
+unfoldable pub borne : List Gate → List ℕ
+borne gs = borneFrom gs start []
+
+-- refusal 6: the "gate that brings the 257th, from 0"; the number of gates where none does
+unfoldable pub overAt : List Gate → ℕ
+overAt gs = firstOf (λ k. ltb mostParities (length (borne (take (k + 1) gs)))) (length gs) 0
+
+-- those of xs beside which ss has another number than 0
+unfoldable pub kept : List ℕ → List ℕ → List ℕ
+kept [] ss = []
+kept (x ∷ xs) [] = []
+kept (x ∷ xs) (s ∷ ss) = pick (eqb s 0) (kept xs ss) (x ∷ kept xs ss)
+
+abbrev pub sumsOf : List Gate → List ℕ → List ℕ
+sumsOf gs ps = map (λ p. sumOf p gs) ps
+
+-- "A term is a parity whose sum is not 0": the terms, ascending
+unfoldable pub terms : List Gate → List ℕ
+terms gs = kept (borne gs) (sumsOf gs (borne gs))
+
+-- each number is greater than those before it
+unfoldable pub Ascending : List ℕ → Type 0
+Ascending xs = (i j : ℕ) → i < j → j < length xs → getD xs i 0 < getD xs j 0
+
+-- p is a number of the list
+unfoldable pub Among : ℕ → List ℕ → Type 0
+Among p [] = ⊥
+Among p (x ∷ xs) = (x ≡ p) ⊎ Among p xs
+
+-- a list at the front of n places, 0 behind it
+unfoldable pub padded : ℕ → List ℕ → List ℕ
+padded n xs = xs ++ replicate (n - length xs) 0

@@ -1,0 +1,62 @@
+-- The examples marked P of document 01, "Examples by number". Each crate lists those that it can state; the last one joins the lists.
+use mathlib.Core.Path.{_≡_}
+use mathlib.Core.List.{List, [], _∷_}
+use Prim.Native.Nat.{ℕ}
+use Rattle.meaning.specs.declared.gate.Gate.{Gate}
+use Rattle.meaning.specs.Layout.{packed, gatesOf}
+use Rattle.meaning.specs.Circuit.{finalOf, sumOf}
+use Rattle.meaning.specs.Borne.{terms}
+use Rattle.meaning.specs.Tally.{depthOf, boundOf}
+
+-- an example: its number, and what it says
+pub record Example : Type 1 where
+  pub number : ℕ
+  pub says : Type 0
+
+-- all of them hold
+unfoldable pub True : List Example → Type 0
+True [] = Unit {0}
+True (e ∷ es) = e .says × True es
+
+-- records of gates, control first
+abbrev pub cnotRecord : ℕ → ℕ → ℕ
+cnotRecord c t = packed 1 c t
+
+abbrev pub rotationRecord : ℕ → ℕ → ℕ
+rotationRecord q a = packed 2 q a
+
+-- 1. "n=2, CNOTs 0-1, 1-0, 0-1 (control first): final parities 2, 1."
+abbrev pub gates1 : List Gate
+gates1 = gatesOf 2 (cnotRecord 0 1 ∷ cnotRecord 1 0 ∷ cnotRecord 0 1 ∷ [])
+
+-- 2. "n=2, rotation 5 on 1, CNOT 0-1, rotation 5 on 1: sums 5 for parity 2, 5 for parity 3."
+abbrev pub gates2 : List Gate
+gates2 = gatesOf 2 (rotationRecord 1 5 ∷ cnotRecord 0 1 ∷ rotationRecord 1 5 ∷ [])
+
+-- 3. "n=1, angles 65,535 and 1 on 0: no term."
+abbrev pub gates3 : List Gate
+gates3 = gatesOf 1 (rotationRecord 0 65535 ∷ rotationRecord 0 1 ∷ [])
+
+-- 5. "CNOT 0-2, angle 40 on 2, CNOT 0-2", on three qubits
+abbrev pub records5 : List ℕ
+records5 = cnotRecord 0 2 ∷ rotationRecord 2 40 ∷ cnotRecord 0 2 ∷ []
+
+-- 6. "the same with angles 40 and 65,496 between: .. no term."
+abbrev pub records6 : List ℕ
+records6 = cnotRecord 0 2 ∷ rotationRecord 2 40 ∷ rotationRecord 2 65496 ∷ cnotRecord 0 2 ∷ []
+
+-- 10. "depth of CNOT 0-1, rotation on 1, CNOT 0-1: 3."
+abbrev pub gates10 : List Gate
+gates10 = gatesOf 2 (cnotRecord 0 1 ∷ rotationRecord 1 1 ∷ cnotRecord 0 1 ∷ [])
+
+-- what the examples say of meaning, sums, depth and B
+unfoldable pub meaningExamples : List Example
+meaningExamples =
+    record { number = 1; says = (finalOf gates1 0 ≡ 2) × (finalOf gates1 1 ≡ 1) }
+    ∷ record { number = 2; says = (sumOf 2 gates2 ≡ 5) × (sumOf 3 gates2 ≡ 5) × (terms gates2 ≡ 2 ∷ 3 ∷ []) }
+    ∷ record { number = 3; says = terms gates3 ≡ [] }
+    ∷ record { number = 5; says = (sumOf 5 (gatesOf 3 records5) ≡ 40) × (terms (gatesOf 3 records5) ≡ 5 ∷ []) }
+    ∷ record { number = 6; says = terms (gatesOf 3 records6) ≡ [] }
+    ∷ record { number = 9; says = boundOf 2 1 ≡ 7 }
+    ∷ record { number = 10; says = depthOf gates10 ≡ 3 }
+    ∷ []

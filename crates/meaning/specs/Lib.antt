@@ -1,0 +1,9 @@
+pub mod Limits
+pub mod Layout
+pub mod Circuit
+pub mod Borne
+pub mod Same
+pub mod Tally
+pub mod Verdicts
+pub mod Told
+pub mod Examples
