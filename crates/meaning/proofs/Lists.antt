@@ -32,7 +32,7 @@ unfolding Up Among
 up-among m p (x ∷ xs) u (inl e) = omega (arith, u .0)
 up-among m p (x ∷ xs) u (inr h) = omega (arith, u .0, up-among (suc x) p xs (u .1) h)
 
-up-at : (m : ℕ) (xs : List ℕ) → Up m xs → (j : ℕ) → j < length xs → m ≤ getD xs j 0
+pub up-at : (m : ℕ) (xs : List ℕ) → Up m xs → (j : ℕ) → j < length xs → m ≤ getD xs j 0
 unfolding Up
 up-at m [] u j h = absurd (not-suc-le-zero h)
 up-at m (x ∷ xs) u zero h = u .0
@@ -219,3 +219,42 @@ module _ (f : ℕ → ℕ) where
       go (inl z) k ih = let r = ih (subst (Among p) (kept-drop x xs z) k) in (inr (r .0), r .1)
       go (inr y) k ih =
           ⊎-elim (λ e. (inl e, λ w. y (ap f e ∙ w))) (λ j. let r = ih j in (inr (r .0), r .1)) (subst (Among p) (kept-take x xs y) k)
+
+-- ---- the same facts for crates above, where the definitions are shut
+
+pub among-none : (p : ℕ) → Among p [] → ⊥
+unfolding Among
+among-none p h = h
+
+pub among-first : (p x : ℕ) (xs : List ℕ) → x ≡ p → Among p (x ∷ xs)
+unfolding Among
+among-first p x xs e = inl e
+
+pub among-rest : (p x : ℕ) (xs : List ℕ) → Among p xs → Among p (x ∷ xs)
+unfolding Among
+among-rest p x xs h = inr h
+
+pub among-cases : (p x : ℕ) (xs : List ℕ) → Among p (x ∷ xs) → (x ≡ p) ⊎ Among p xs
+unfolding Among
+among-cases p x xs h = h
+
+pub up-cons : (m x : ℕ) (xs : List ℕ) → m ≤ x → Up (suc x) xs → Up m (x ∷ xs)
+unfolding Up
+up-cons m x xs h u = (h, u)
+
+pub up-head : (m x : ℕ) (xs : List ℕ) → Up m (x ∷ xs) → m ≤ x
+unfolding Up
+up-head m x xs u = u .0
+
+pub up-tail : (m x : ℕ) (xs : List ℕ) → Up m (x ∷ xs) → Up (suc x) xs
+unfolding Up
+up-tail m x xs u = u .1
+
+-- no number stands twice
+pub up-once : (m : ℕ) (xs : List ℕ) → Up m xs → (i j : ℕ) → i < length xs → j < length xs → getD xs i 0 ≡ getD xs j 0 → i ≡ j
+unfolding Up
+up-once m [] u i j hi hj e = absurd (not-suc-le-zero hi)
+up-once m (x ∷ xs) u zero zero hi hj e = refl
+up-once m (x ∷ xs) u zero (suc j) hi hj e = absurd (omega (arith, up-at (suc x) xs (u .1) j (le-of-suc-le-suc hj)))
+up-once m (x ∷ xs) u (suc i) zero hi hj e = absurd (omega (arith, up-at (suc x) xs (u .1) i (le-of-suc-le-suc hi)))
+up-once m (x ∷ xs) u (suc i) (suc j) hi hj e = ap suc (up-once (suc x) xs (u .1) i j (le-of-suc-le-suc hi) (le-of-suc-le-suc hj) e)

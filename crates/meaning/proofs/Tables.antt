@@ -69,7 +69,7 @@ padded-moved n k v xs h l =
 
 -- ---- a function of a list
 
-map-at : (f : ℕ → ℕ) (xs : List ℕ) (i : ℕ) → i < length xs → getD (map f xs) i 0 ≡ f (getD xs i 0)
+pub map-at : (f : ℕ → ℕ) (xs : List ℕ) (i : ℕ) → i < length xs → getD (map f xs) i 0 ≡ f (getD xs i 0)
 map-at f [] i h = absurd (not-suc-le-zero h)
 map-at f (x ∷ xs) zero h = refl
 map-at f (x ∷ xs) (suc i) h = map-at f xs i (le-of-suc-le-suc h)

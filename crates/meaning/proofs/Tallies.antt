@@ -66,3 +66,7 @@ bound-none n t e = rw e (omega arith)
 
 pub product-le : (a b c d : ℕ) → a ≤ c → b ≤ d → a * b ≤ c * d
 product-le a b c d h g = omega (arith, mul-le-mul-right b h, mul-le-mul-left c g)
+
+pub tally-none : (f : Gate → ℕ) → tally f [] ≡ 0
+unfolding tally
+tally-none f = refl
