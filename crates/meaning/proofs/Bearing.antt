@@ -5,7 +5,10 @@ use mathlib.Core.List.{List, [], _∷_, _++_, map}
 use Prim.Native.Nat.{ℕ, zero, suc, _+_, _%_, _≤_, _<_, zero-le}
 use native.Mathlib.Omega.{arith}
 use native.Mathlib.Decide.{ℕ-discrete}
+use lib.Dec.{eqb}
 use lib.ListN.{length, getD}
+use mathlib.Core.Bool.{Bool, true, false}
+use Rattle.sets.specs.Pick.{pick}
 use Rattle.meaning.specs.declared.gate.Gate.{Gate}
 use Rattle.meaning.specs.declared.gate.Gate.the-variants.{Cnot, Rotation, Bad}
 use Rattle.meaning.specs.Circuit.{step, run, start, gives, given, sumOf, Term}
@@ -125,3 +128,19 @@ among-term p gs h = kept-back (λ p. sumOf p gs) p (borne gs) h .1
 pub terms-borne : (p : ℕ) (gs : List Gate) → Among p (terms gs) → Among p (borne gs)
 unfolding terms
 terms-borne p gs h = kept-back (λ p. sumOf p gs) p (borne gs) h .0
+
+-- ---- no more terms than parities that bear a rotation
+
+kept-few : (xs ss : List ℕ) → length (kept xs ss) ≤ length xs
+unfolding kept
+kept-few [] ss = omega arith
+kept-few (x ∷ xs) [] = omega arith
+kept-few (x ∷ xs) (s ∷ ss) = go (eqb s 0) (kept-few xs ss)
+  where
+    go : (b : Bool) → length (kept xs ss) ≤ length xs → length (pick b (kept xs ss) (x ∷ kept xs ss)) ≤ suc (length xs)
+    go true h = omega arith
+    go false h = omega arith
+
+pub terms-few : (gs : List Gate) → length (terms gs) ≤ length (borne gs)
+unfolding terms
+terms-few gs = kept-few (borne gs) (sumsOf gs (borne gs))

@@ -1,6 +1,6 @@
 -- The wires of good gates: their parities stay below 2^n, not empty and different; columns over them. Assumes nothing.
 use mathlib.Core.Path.{_≡_, refl, sym, ap, ap₂, _∙_, subst}
-use mathlib.Core.Logic.{_≢_}
+use mathlib.Core.Logic.{_≢_, _⊎_, ⊎-elim}
 use mathlib.Core.List.{List, [], _∷_}
 use Prim.Native.Nat.{ℕ, zero, suc, _+_, _^_, _≤_, _<_}
 use native.Mathlib.Nat.{lt-of-lt-of-le}
@@ -18,9 +18,11 @@ use Rattle.meaning.specs.declared.gate.Gate.{Gate}
 use Rattle.meaning.specs.declared.gate.Gate.the-variants.{Cnot, Rotation, Bad}
 use Rattle.meaning.specs.Layout.{Good}
 use Rattle.meaning.specs.Circuit.{step, run, start}
+use Rattle.meaning.specs.Borne.{bears, borneFrom, borne, Among}
 use Rattle.meaning.specs.Same.{All}
 use Rattle.meaning.proofs.Steps.{cnot-target, cnot-other, cnot-length, step-length}
 use Rattle.meaning.proofs.Circuits.{run-length, start-length}
+use Rattle.meaning.proofs.Lists.{insert-back, among-none}
 
 -- ---- below 2^n
 
@@ -106,3 +108,46 @@ module _ (n : ℕ) (gs : List Gate) (few : n ≤ 20) (good : All (Good n) gs) wh
 
   pub parities-different : (i j : ℕ) → i < n → j < n → i ≢ j → getD (run gs start) i 0 ≢ getD (run gs start) j 0
   parities-different i j hi hj ne = apart-different (run gs start) apart i j (omega arith) (omega arith) ne
+
+-- gates on n qubits leave the wires past them
+pub wires-past : (n : ℕ) (gs : List Gate) (W : List ℕ) (i : ℕ) → n ≤ i → All (Good n) gs → getD (run gs W) i 0 ≡ getD W i 0
+unfolding run step All Good
+wires-past n [] W i l g = refl
+wires-past n (Cnot c t ∷ gs) W i l g = wires-past n gs (cnot c t W) i l (g .1) ∙ cnot-other c t i W (λ (e : i ≡ t). omega (arith, g .0 .1))
+wires-past n (Rotation q a ∷ gs) W i l g = wires-past n gs W i l (g .1)
+wires-past n (Bad ∷ gs) W i l g = absurd (g .0)
+
+-- a gate on n qubits is one on more
+pub good-up : (n m : ℕ) (g : Gate) → n ≤ m → Good n g → Good m g
+unfolding Good
+good-up n m (Cnot c t) l h = (omega (arith, h .0), omega (arith, h .1), h .2)
+good-up n m (Rotation q a) l h = (omega (arith, h .0), h .1)
+good-up n m Bad l h = h
+
+-- ---- the parities that bear a rotation are parities of wires
+
+module _ (n : ℕ) (few : n ≤ 20) (P : ℕ → Type 0) (parity : (W : List ℕ) → Apart W → Below n W → (q : ℕ) → q < n → P (getD W q 0)) where
+  bears-only : (g : Gate) (W ps : List ℕ) → Good n g → Apart W → Below n W → ((p : ℕ) → Among p ps → P p) → (p : ℕ) → Among p (bears g W ps) → P p
+  unfolding bears Good
+  bears-only (Cnot c t) W ps g a b h p k = h p k
+  bears-only (Rotation q x) W ps g a b h p k = ⊎-elim (λ e. subst P e (parity W a b q (g .0))) (λ j. h p j) (insert-back (getD W q 0) p ps k)
+  bears-only Bad W ps g a b h p k = absurd g
+
+  borne-only-from : (gs : List Gate) (W ps : List ℕ) → length W ≡ 20 → All (Good n) gs → Apart W → Below n W → ((p : ℕ) → Among p ps → P p)
+      → (p : ℕ) → Among p (borneFrom gs W ps) → P p
+  unfolding borneFrom All
+  borne-only-from [] W ps l g a b h = h
+  borne-only-from (x ∷ gs) W ps l g a b h =
+      borne-only-from gs (step x W) (bears x W ps) (step-length x W ∙ l) (g .1) (apart-step n x W few l (g .0) a) (below-step n x W (omega arith) (g .0) b)
+      (bears-only x W ps (g .0) a b h)
+
+  pub borne-only : (gs : List Gate) → All (Good n) gs → (p : ℕ) → Among p (borne gs) → P p
+  unfolding borne
+  borne-only gs g = borne-only-from gs start [] start-length g apart-start (below-start n few) (λ p h. absurd (among-none p h))
+
+-- "non-empty", and below 2^n
+pub borne-not-empty : (n : ℕ) (gs : List Gate) → n ≤ 20 → All (Good n) gs → (p : ℕ) → Among p (borne gs) → p ≢ 0
+borne-not-empty n gs few g = borne-only n few (λ p. p ≢ 0) (λ W a b q (h : q < n). apart-not-empty W a q (omega arith)) gs g
+
+pub borne-below : (n : ℕ) (gs : List Gate) → n ≤ 20 → All (Good n) gs → (p : ℕ) → Among p (borne gs) → p < 2 ^ n
+borne-below n gs few g = borne-only n few (λ p. p < 2 ^ n) (λ W a b q h. b .small q h) gs g

@@ -1,0 +1,84 @@
+-- What the writer accepts fits a text: laws of `meaning`'s tests. Assumes nothing.
+use mathlib.Core.Path.{_≡_, refl}
+use mathlib.Core.Logic.{_⊎_, inl, inr}
+use mathlib.Core.Bool.{Bool, true, false}
+use mathlib.Core.List.{List, [], _∷_}
+use Prim.Native.Nat.{ℕ, suc, _≤_, _<_}
+use native.Mathlib.Omega.{arith}
+use lib.Dec.{leb, ltb, eqb}
+use lib.ListN.{length, getD}
+use borrow.Author.Tests.{ltb-false, leb-true, eqb-true}
+use Rattle.sets.specs.Pick.{pick, both}
+use Rattle.sets.proofs.Finding.{first-before}
+use Rattle.meaning.specs.Limits.{mostQubits, mostCouplers}
+use Rattle.meaning.specs.Layout.{kindIn, aIn, bIn, gateOf, isBad, cnotOf, rotationOf, couplerOf, isWrong}
+use Rattle.meaning.specs.declared.gate.Gate.the-variants.{Bad}
+use Rattle.meaning.specs.declared.coupler.Coupler.{Coupler}
+use Rattle.meaning.specs.declared.coupler.Coupler.the-variants.{Wrong}
+use Rattle.meaning.specs.Verdicts.{numberOf, firstFailing, judgedQubits, wrongAt, judgedCouplers, badAt, judgedGates}
+use Rattle.meaning.specs.declared.verdict.Verdict.the-variants.{Accepted, Qubits, ManyCouplers, WrongCoupler, BadGate}
+use Rattle.text.specs.Limits.{mostFirst}
+use Rattle.text.specs.Misfit.{Fit, AllFit}
+
+two : {B : Type 0} → true ≡ false → B
+two e = let z : _≡_ {A = ℕ} 0 1 = cc e in absurd (omega arith)
+
+pub qubits-few : (n : ℕ) → numberOf (judgedQubits n) ≡ 0 → n ≤ mostFirst
+unfolding judgedQubits
+qubits-few n e = go (leb 1 n) (leb n mostQubits) refl e
+  where
+    go : (t u : Bool) → leb n mostQubits ≡ u → numberOf (pick (both t u) Accepted Qubits) ≡ 0 → n ≤ mostFirst
+    go true true q e = omega (arith, leb-true n mostQubits q)
+    go true false q e = let z : _≡_ {A = ℕ} 1 0 = e in absurd (omega arith)
+    go false u q e = let z : _≡_ {A = ℕ} 1 0 = e in absurd (omega arith)
+
+-- every record of a list
+all-fit : (g : Bool) (xs : List ℕ) → ((k : ℕ) → k < length xs → Fit g (getD xs k 0)) → AllFit g xs
+unfolding AllFit
+all-fit g [] h = tt
+all-fit g (x ∷ xs) h = (h 0 (omega arith), all-fit g xs (λ k l. h (suc k) (omega arith)))
+
+coupler-kind : (n x : ℕ) → isWrong (couplerOf n x) ≡ false → kindIn x ≡ 0
+unfolding couplerOf
+coupler-kind n x e = go (eqb (kindIn x) 0) _ refl e
+  where
+    go : (t : Bool) (c : Coupler) → eqb (kindIn x) 0 ≡ t → isWrong (pick t c Wrong) ≡ false → kindIn x ≡ 0
+    go true c q e = eqb-true (kindIn x) 0 q
+    go false c q e = two e
+
+gate-kind : (n x : ℕ) → isBad (gateOf n x) ≡ false → (kindIn x ≡ 1) ⊎ (kindIn x ≡ 2)
+unfolding gateOf
+gate-kind n x e = go (eqb (kindIn x) 1) (eqb (kindIn x) 2) refl refl e
+  where
+    go : (t u : Bool) → eqb (kindIn x) 1 ≡ t → eqb (kindIn x) 2 ≡ u
+        → isBad (pick t (cnotOf n (aIn x) (bIn x)) (pick u (rotationOf n (aIn x) (bIn x)) Bad)) ≡ false → (kindIn x ≡ 1) ⊎ (kindIn x ≡ 2)
+    go true u p q e = inl (eqb-true (kindIn x) 1 p)
+    go false true p q e = inr (eqb-true (kindIn x) 2 q)
+    go false false p q e = two e
+
+pub couplers-fit : (n : ℕ) (xs : List ℕ) → numberOf (judgedCouplers n xs) ≡ 0 → AllFit false xs
+unfolding judgedCouplers wrongAt firstFailing
+couplers-fit n xs e = go (ltb mostCouplers (length xs)) (ltb (wrongAt n xs) (length xs)) refl e
+  where
+    f : ℕ → Bool
+    f k = isWrong (couplerOf n (getD xs k 0))
+
+    go : (t u : Bool) → ltb (wrongAt n xs) (length xs) ≡ u → numberOf (pick t ManyCouplers (pick u (WrongCoupler (wrongAt n xs)) Accepted)) ≡ 0 → AllFit false xs
+    go true u q e = let z : _≡_ {A = ℕ} 2 0 = e in absurd (omega arith)
+    go false true q e = let z : _≡_ {A = ℕ} 3 0 = e in absurd (omega arith)
+    go false false q e =
+        let w : length xs ≤ wrongAt n xs = ltb-false (wrongAt n xs) (length xs) q in
+        all-fit false xs (λ k l. coupler-kind n (getD xs k 0) (first-before f (length xs) 0 k (omega arith) (omega arith)))
+
+pub gates-fit : (n : ℕ) (xs : List ℕ) → numberOf (judgedGates n xs) ≡ 0 → AllFit true xs
+unfolding judgedGates badAt firstFailing
+gates-fit n xs e = go (ltb (badAt n xs) (length xs)) refl e
+  where
+    f : ℕ → Bool
+    f k = isBad (gateOf n (getD xs k 0))
+
+    go : (u : Bool) → ltb (badAt n xs) (length xs) ≡ u → numberOf (pick u (BadGate (badAt n xs)) Accepted) ≡ 0 → AllFit true xs
+    go true q e = let z : _≡_ {A = ℕ} 5 0 = e in absurd (omega arith)
+    go false q e =
+        let w : length xs ≤ badAt n xs = ltb-false (badAt n xs) (length xs) q in
+        all-fit true xs (λ k l. gate-kind n (getD xs k 0) (first-before f (length xs) 0 k (omega arith) (omega arith)))

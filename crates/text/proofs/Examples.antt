@@ -1,0 +1,51 @@
+-- The definitions at small texts: document 01's own example, and texts that it refuses. Assumes nothing.
+use mathlib.Core.Path.{_≡_, refl}
+use mathlib.Core.List.{List, [], _∷_, _++_}
+use Prim.Native.Nat.{ℕ}
+use Rattle.meaning.specs.Layout.{packed, kindIn, aIn, bIn}
+use Rattle.text.specs.Lines.{digitsIn, digits, fieldsText, lineText, letter, recordText, recordsText, textOf, refusalText, countsText}
+use Rattle.text.specs.Parsing.{misfit, job, parsed, bodyOf, endOf, headOf, runOf, runIn, oneOf, orElse, lineOf, readNumber, numberIn, moreOf, digitOf, skipped}
+
+-- q 2, e 1 0, r 1 500, r 0 7, r 1 65036
+text : List ℕ
+text =
+    (113 ∷ 9 ∷ 50 ∷ 10 ∷ []) ++ (101 ∷ 9 ∷ 49 ∷ 9 ∷ 48 ∷ 10 ∷ []) ++ (114 ∷ 9 ∷ 49 ∷ 9 ∷ 53 ∷ 48 ∷ 48 ∷ 10 ∷ [])
+    ++ (114 ∷ 9 ∷ 48 ∷ 9 ∷ 55 ∷ 10 ∷ []) ++ (114 ∷ 9 ∷ 49 ∷ 9 ∷ 54 ∷ 53 ∷ 48 ∷ 51 ∷ 54 ∷ 10 ∷ [])
+
+couplers : List ℕ
+couplers = packed 0 1 0 ∷ []
+
+gates : List ℕ
+gates = packed 2 1 500 ∷ packed 2 0 7 ∷ packed 2 1 65036 ∷ []
+
+its-text : textOf 2 couplers gates ≡ text
+unfolding text couplers gates packed kindIn aIn bIn textOf recordsText recordText letter lineText fieldsText digits digitsIn
+its-text = refl
+
+its-job : parsed text ≡ job 2 couplers gates
+unfolding text couplers gates packed parsed bodyOf endOf headOf runOf runIn oneOf orElse lineOf readNumber numberIn moreOf digitOf skipped letter
+its-job = refl
+
+-- "s 0 1 1", and "x 7 2"
+its-counts : countsText 0 1 1 ≡ 115 ∷ 9 ∷ 48 ∷ 9 ∷ 49 ∷ 9 ∷ 49 ∷ 10 ∷ []
+unfolding countsText lineText fieldsText digits digitsIn
+its-counts = refl
+
+a-refusal : refusalText 7 2 ≡ 120 ∷ 9 ∷ 55 ∷ 9 ∷ 50 ∷ 10 ∷ []
+unfolding refusalText lineText fieldsText digits digitsIn
+a-refusal = refl
+
+-- q 02
+leading-zero : parsed (113 ∷ 9 ∷ 48 ∷ 50 ∷ 10 ∷ []) ≡ misfit 1
+unfolding packed parsed bodyOf endOf headOf runOf runIn oneOf orElse lineOf readNumber numberIn moreOf digitOf skipped letter
+leading-zero = refl
+
+-- q 2, c 0 1, e 0 1
+coupler-after-gate : parsed (113 ∷ 9 ∷ 50 ∷ 10 ∷ 99 ∷ 9 ∷ 48 ∷ 9 ∷ 49 ∷ 10 ∷ 101 ∷ 9 ∷ 48 ∷ 9 ∷ 49 ∷ 10 ∷ []) ≡ misfit 3
+unfolding packed parsed bodyOf endOf headOf runOf runIn oneOf orElse lineOf readNumber numberIn moreOf digitOf skipped letter
+coupler-after-gate = refl
+
+-- q 2, c 256 0
+too-large : parsed (113 ∷ 9 ∷ 50 ∷ 10 ∷ 99 ∷ 9 ∷ 50 ∷ 53 ∷ 54 ∷ 9 ∷ 48 ∷ 10 ∷ []) ≡ misfit 2
+unfolding packed parsed bodyOf endOf headOf runOf runIn oneOf orElse lineOf readNumber numberIn moreOf digitOf skipped letter
+too-large = refl

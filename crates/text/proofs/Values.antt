@@ -1,0 +1,68 @@
+-- Document 01's number, place and values of what `read` and `write` answer. Assumes nothing.
+use mathlib.Core.Path.{_≡_, refl, sym}
+use mathlib.Core.Bool.{Bool, true, false}
+use mathlib.Core.List.{List}
+use Prim.Native.Nat.{ℕ}
+use native.Mathlib.Omega.{arith}
+use lib.Dec.{eqb}
+use lib.ListN.{length}
+use borrow.Author.Tests.{eqb-true}
+use Rattle.sets.specs.Pick.{pick}
+use Rattle.meaning.specs.declared.verdict.Verdict.{Verdict}
+use Rattle.meaning.specs.declared.verdict.Verdict.the-variants.{Accepted, Qubits, ManyCouplers, WrongCoupler, ManyGates, BadGate, ManyParities, Unreachable, Room, Stuck, Line, LongText}
+use Rattle.meaning.specs.Verdicts.{numberOf}
+use Rattle.text.specs.Lines.{textOf}
+use Rattle.text.specs.Parsing.{parsed}
+use Rattle.text.specs.Readings.{readVerdict, readJob, jobIn, judgedReading, readingOf}
+use Rattle.text.specs.Writings.{writeVerdict, writeBytes, judgedText, writingOf}
+use Rattle.text.specs.declared.read.Reading.the-variants as reading
+use Rattle.text.specs.declared.write.Writing.the-variants as writing
+
+-- the number 0 is that of acceptance alone
+pub zero-accepted : (v : Verdict) → numberOf v ≡ 0 → v ≡ Accepted
+zero-accepted Accepted e = refl
+zero-accepted Qubits e = let z : _≡_ {A = ℕ} 1 0 = e in absurd (omega arith)
+zero-accepted ManyCouplers e = let z : _≡_ {A = ℕ} 2 0 = e in absurd (omega arith)
+zero-accepted (WrongCoupler k) e = let z : _≡_ {A = ℕ} 3 0 = e in absurd (omega arith)
+zero-accepted ManyGates e = let z : _≡_ {A = ℕ} 4 0 = e in absurd (omega arith)
+zero-accepted (BadGate k) e = let z : _≡_ {A = ℕ} 5 0 = e in absurd (omega arith)
+zero-accepted (ManyParities k) e = let z : _≡_ {A = ℕ} 6 0 = e in absurd (omega arith)
+zero-accepted (Unreachable k) e = let z : _≡_ {A = ℕ} 7 0 = e in absurd (omega arith)
+zero-accepted Room e = let z : _≡_ {A = ℕ} 8 0 = e in absurd (omega arith)
+zero-accepted Stuck e = let z : _≡_ {A = ℕ} 9 0 = e in absurd (omega arith)
+zero-accepted (Line k) e = let z : _≡_ {A = ℕ} 10 0 = e in absurd (omega arith)
+zero-accepted LongText e = let z : _≡_ {A = ℕ} 11 0 = e in absurd (omega arith)
+
+module _ (s : List ℕ) (a b : ℕ) where
+  pub reading-verdict : readVerdict (readingOf s a b) ≡ judgedReading s a b
+  unfolding readingOf
+  reading-verdict = go (judgedReading s a b) (eqb (numberOf (judgedReading s a b)) 0) refl
+    where
+      go : (v : Verdict) (t : Bool) → eqb (numberOf v) 0 ≡ t → readVerdict (pick t (reading.Read (jobIn (parsed s))) (reading.Refused v)) ≡ v
+      go v true e = sym (zero-accepted v (eqb-true (numberOf v) 0 e))
+      go v false e = refl
+
+  pub reading-values : readJob (readingOf s a b) ≡ pick (eqb (numberOf (judgedReading s a b)) 0) (jobIn (parsed s)) (record { qubits = 0; couplers = 0; gates = 0 })
+  unfolding readingOf
+  reading-values = go (judgedReading s a b) (eqb (numberOf (judgedReading s a b)) 0)
+    where
+      go : (v : Verdict) (t : Bool) → readJob (pick t (reading.Read (jobIn (parsed s))) (reading.Refused v)) ≡ pick t (jobIn (parsed s)) (record { qubits = 0; couplers = 0; gates = 0 })
+      go v true = refl
+      go v false = refl
+
+module _ (n : ℕ) (couplers gates : List ℕ) (room : ℕ) where
+  pub writing-verdict : writeVerdict (writingOf n couplers gates room) ≡ judgedText n couplers gates room
+  unfolding writingOf
+  writing-verdict = go (judgedText n couplers gates room) (eqb (numberOf (judgedText n couplers gates room)) 0) refl
+    where
+      go : (v : Verdict) (t : Bool) → eqb (numberOf v) 0 ≡ t → writeVerdict (pick t (writing.Written (length (textOf n couplers gates))) (writing.Refused v)) ≡ v
+      go v true e = sym (zero-accepted v (eqb-true (numberOf v) 0 e))
+      go v false e = refl
+
+  pub writing-values : writeBytes (writingOf n couplers gates room) ≡ pick (eqb (numberOf (judgedText n couplers gates room)) 0) (length (textOf n couplers gates)) 0
+  unfolding writingOf
+  writing-values = go (judgedText n couplers gates room) (eqb (numberOf (judgedText n couplers gates room)) 0)
+    where
+      go : (v : Verdict) (t : Bool) → writeBytes (pick t (writing.Written (length (textOf n couplers gates))) (writing.Refused v)) ≡ pick t (length (textOf n couplers gates)) 0
+      go v true = refl
+      go v false = refl

@@ -1,0 +1,53 @@
+-- What writing answers, and what it leaves in the lent text (document 01, "Records and refusals").
+use Prim.Native.Nat.{ℕ}
+use mathlib.Core.List.{List}
+use lib.ListN.{length}
+use lib.Dec.{leb, eqb}
+use Rattle.sets.specs.Pick.{pick}
+use Rattle.meaning.specs.declared.verdict.Verdict.{Verdict}
+use Rattle.meaning.specs.declared.verdict.Verdict.the-variants.{Accepted, Room}
+use Rattle.meaning.specs.Verdicts.{numberOf, judgedQubits, judgedCouplers, judgedGates}
+use Rattle.text.specs.InOrder.{andThen}
+use Rattle.text.specs.Lines.{textOf}
+use Rattle.text.specs.Places.{onto}
+use Rattle.text.specs.declared.write.Writing.{Writing}
+use Rattle.text.specs.declared.write.Writing.the-variants.{Written, Refused}
+
+-- ---- number, place and value of each answer: `numberOf` and `placeOf` of the verdict, and "the number of bytes", 0 on refusal
+
+abbrev pub writeVerdict : Writing → Verdict
+writeVerdict (Written bytes) = Accepted
+writeVerdict (Refused v) = v
+
+abbrev pub writeBytes : Writing → ℕ
+writeBytes (Written bytes) = bytes
+writeBytes (Refused v) = 0
+
+-- ---- the tests
+
+-- 8: "given exactly when the text is longer than the room"
+abbrev pub judgedRoom : ℕ → ℕ → Verdict
+judgedRoom need room = pick (leb need room) Accepted Room
+
+-- "writing tests 1, 2, 3, 5 and then 8"
+unfoldable pub judgedText : ℕ → List ℕ → List ℕ → ℕ → Verdict
+judgedText n couplers gates room =
+    andThen (judgedQubits n)
+    (andThen (judgedCouplers n couplers) (andThen (judgedGates n gates) (judgedRoom (length (textOf n couplers gates)) room)))
+
+unfoldable pub writingOf : ℕ → List ℕ → List ℕ → ℕ → Writing
+writingOf n couplers gates room =
+    pick (eqb (numberOf (judgedText n couplers gates room)) 0) (Written (length (textOf n couplers gates)))
+    (Refused (judgedText n couplers gates room))
+
+-- the lent text on return: new bytes at the front; a refusal leaves it as it was
+abbrev pub textAfter : Writing → List ℕ → List ℕ → List ℕ
+textAfter r new old = pick (eqb (numberOf (writeVerdict r)) 0) (onto new old) old
+
+-- ---- a single line in a room of so many bytes: its length, or 0 and nothing written where it is too long
+
+abbrev pub lineLength : List ℕ → ℕ → ℕ
+lineLength line room = pick (leb (length line) room) (length line) 0
+
+abbrev pub lineAfter : List ℕ → List ℕ → List ℕ
+lineAfter line old = pick (leb (length line) (length old)) (onto line old) old
