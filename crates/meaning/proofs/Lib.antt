@@ -14,3 +14,4 @@ pub mod Keeping
 pub mod Wiring
 pub mod Alls
 pub mod Examples
+pub mod Judged

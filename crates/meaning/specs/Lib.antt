@@ -7,3 +7,4 @@ pub mod Tally
 pub mod Verdicts
 pub mod Told
 pub mod Examples
+pub mod InOrder

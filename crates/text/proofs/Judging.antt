@@ -11,31 +11,11 @@ use Rattle.sets.specs.Pick.{pick}
 use Rattle.meaning.specs.Verdicts.{numberOf, judgedQubits, judgedCouplers, judgedGates}
 use Rattle.meaning.specs.declared.verdict.Verdict.{Verdict}
 use Rattle.meaning.specs.declared.verdict.Verdict.the-variants.{Accepted, Room}
-use Rattle.text.specs.InOrder.{andThen}
+use Rattle.meaning.specs.InOrder.{andThen}
+use Rattle.meaning.proofs.Judged.{then-on, then-stop, then-zero}
 use Rattle.text.specs.Lines.{textOf}
 use Rattle.text.specs.Writings.{judgedRoom, judgedText, writingOf}
 use Rattle.text.specs.declared.write.Writing.the-variants.{Written, Refused}
-
--- v stands for the verdict w of a test, and k for v's number
-module _ {v w : Verdict} {k : ℕ} (e : v ≡ w) (f : k ≡ numberOf v) where
-  pub passed : k ≡ 0 → numberOf w ≡ 0
-  passed z = sym (ap numberOf e) ∙ sym f ∙ z
-
-  pub refused : (k ≡ 0 → ⊥) → numberOf w ≡ 0 → ⊥
-  refused z p = z (f ∙ ap numberOf e ∙ p)
-
-then-on : (v w : Verdict) → numberOf v ≡ 0 → w ≡ andThen v w
-then-on v w e = rw (eq-eqb (numberOf v) 0 e)
-
-then-stop : (v w : Verdict) → (numberOf v ≡ 0 → ⊥) → v ≡ andThen v w
-then-stop v w e = rw (ne-eqb (numberOf v) 0 e)
-
-then-zero : (v w : Verdict) → numberOf (andThen v w) ≡ 0 → (numberOf v ≡ 0) × (numberOf w ≡ 0)
-then-zero v w e = go (eqb (numberOf v) 0) refl e
-  where
-    go : (t : Bool) → eqb (numberOf v) 0 ≡ t → numberOf (pick t w v) ≡ 0 → (numberOf v ≡ 0) × (numberOf w ≡ 0)
-    go true q e = (eqb-true (numberOf v) 0 q, e)
-    go false q e = let z : _≡_ {A = Bool} false true = sym q ∙ eq-eqb (numberOf v) 0 e in let y : _≡_ {A = ℕ} 0 1 = cc z in absurd (omega arith)
 
 room-zero : (need room : ℕ) → numberOf (judgedRoom need room) ≡ 0 → need ≤ room
 room-zero need room e = go (leb need room) refl e

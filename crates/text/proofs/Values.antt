@@ -11,27 +11,13 @@ use Rattle.sets.specs.Pick.{pick}
 use Rattle.meaning.specs.declared.verdict.Verdict.{Verdict}
 use Rattle.meaning.specs.declared.verdict.Verdict.the-variants.{Accepted, Qubits, ManyCouplers, WrongCoupler, ManyGates, BadGate, ManyParities, Unreachable, Room, Stuck, Line, LongText}
 use Rattle.meaning.specs.Verdicts.{numberOf}
+use Rattle.meaning.proofs.Judged.{zero-accepted}
 use Rattle.text.specs.Lines.{textOf}
 use Rattle.text.specs.Parsing.{parsed}
 use Rattle.text.specs.Readings.{readVerdict, readJob, jobIn, judgedReading, readingOf}
 use Rattle.text.specs.Writings.{writeVerdict, writeBytes, judgedText, writingOf}
 use Rattle.text.specs.declared.read.Reading.the-variants as reading
 use Rattle.text.specs.declared.write.Writing.the-variants as writing
-
--- the number 0 is that of acceptance alone
-pub zero-accepted : (v : Verdict) → numberOf v ≡ 0 → v ≡ Accepted
-zero-accepted Accepted e = refl
-zero-accepted Qubits e = let z : _≡_ {A = ℕ} 1 0 = e in absurd (omega arith)
-zero-accepted ManyCouplers e = let z : _≡_ {A = ℕ} 2 0 = e in absurd (omega arith)
-zero-accepted (WrongCoupler k) e = let z : _≡_ {A = ℕ} 3 0 = e in absurd (omega arith)
-zero-accepted ManyGates e = let z : _≡_ {A = ℕ} 4 0 = e in absurd (omega arith)
-zero-accepted (BadGate k) e = let z : _≡_ {A = ℕ} 5 0 = e in absurd (omega arith)
-zero-accepted (ManyParities k) e = let z : _≡_ {A = ℕ} 6 0 = e in absurd (omega arith)
-zero-accepted (Unreachable k) e = let z : _≡_ {A = ℕ} 7 0 = e in absurd (omega arith)
-zero-accepted Room e = let z : _≡_ {A = ℕ} 8 0 = e in absurd (omega arith)
-zero-accepted Stuck e = let z : _≡_ {A = ℕ} 9 0 = e in absurd (omega arith)
-zero-accepted (Line k) e = let z : _≡_ {A = ℕ} 10 0 = e in absurd (omega arith)
-zero-accepted LongText e = let z : _≡_ {A = ℕ} 11 0 = e in absurd (omega arith)
 
 module _ (s : List ℕ) (a b : ℕ) where
   pub reading-verdict : readVerdict (readingOf s a b) ≡ judgedReading s a b

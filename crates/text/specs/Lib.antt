@@ -4,6 +4,5 @@ pub mod Misfit
 pub mod Parsing
 pub mod Places
 pub mod Room
-pub mod InOrder
 pub mod Readings
 pub mod Writings

@@ -8,7 +8,7 @@ use Rattle.meaning.specs.declared.job.Job.{Job}
 use Rattle.meaning.specs.declared.verdict.Verdict.{Verdict}
 use Rattle.meaning.specs.declared.verdict.Verdict.the-variants.{Accepted, Room, Line, LongText}
 use Rattle.meaning.specs.Verdicts.{numberOf}
-use Rattle.text.specs.InOrder.{andThen}
+use Rattle.meaning.specs.InOrder.{andThen}
 use Rattle.text.specs.Limits.{mostBytes}
 use Rattle.text.specs.Parsing.{Parsed, misfit, job, parsed}
 use Rattle.text.specs.Places.{onto}

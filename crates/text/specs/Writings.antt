@@ -7,7 +7,7 @@ use Rattle.sets.specs.Pick.{pick}
 use Rattle.meaning.specs.declared.verdict.Verdict.{Verdict}
 use Rattle.meaning.specs.declared.verdict.Verdict.the-variants.{Accepted, Room}
 use Rattle.meaning.specs.Verdicts.{numberOf, judgedQubits, judgedCouplers, judgedGates}
-use Rattle.text.specs.InOrder.{andThen}
+use Rattle.meaning.specs.InOrder.{andThen}
 use Rattle.text.specs.Lines.{textOf}
 use Rattle.text.specs.Places.{onto}
 use Rattle.text.specs.declared.write.Writing.{Writing}

@@ -6,7 +6,8 @@ use Rattle.sets.specs.Pick.{pick}
 use Rattle.meaning.specs.declared.verdict.Verdict.the-variants.{Accepted, Room}
 use Rattle.text.specs.Lines.{textOf}
 use Rattle.text.specs.Writings.{judgedRoom, judgedText}
-use Rattle.text.proofs.Judging.{passed, refused, judged-qubits, judged-couplers, judged-gates, judged-room}
+use Rattle.meaning.proofs.Judged.{passed, refused}
+use Rattle.text.proofs.Judging.{judged-qubits, judged-couplers, judged-gates, judged-room}
 use borrow.Author.Needs.{needs}
 use Rattle.text.proofs.write.judge.Statement.{statement}
 use Rattle.text.proofs.write.judge.Tie as tie

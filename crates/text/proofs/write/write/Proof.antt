@@ -6,7 +6,8 @@ use borrow.Author.Tests.{ne-eqb}
 use Rattle.meaning.specs.Verdicts.{numberOf}
 use Rattle.text.specs.Lines.{textOf}
 use Rattle.text.specs.declared.write.Writing.the-variants.{Written, Refused}
-use Rattle.text.proofs.Judging.{passed, accepts, writing-yes, writing-no}
+use Rattle.meaning.proofs.Judged.{passed}
+use Rattle.text.proofs.Judging.{accepts, writing-yes, writing-no}
 use Rattle.text.proofs.Writes.{sets-onto}
 use borrow.Author.Needs.{needs}
 use native.Mathlib.Omega.{arith}
