@@ -147,7 +147,7 @@ keeping-all parity sum n i parities sums len lp ls h k =
 
 -- ---- the terms of the table of a meaning
 
-kept-map : (f : ℕ → ℕ) (ps : List ℕ) → kept (map f ps) (map f ps) ≡ map f (kept ps (map f ps))
+pub kept-map : (f : ℕ → ℕ) (ps : List ℕ) → kept (map f ps) (map f ps) ≡ map f (kept ps (map f ps))
 unfolding kept
 kept-map f [] = refl
 kept-map f (p ∷ ps) = go (eqb (f p) 0) (kept-map f ps)
@@ -157,7 +157,7 @@ kept-map f (p ∷ ps) = go (eqb (f p) 0) (kept-map f ps)
     go true h = h
     go false h = ap (λ (l : List ℕ). f p ∷ l) h
 
-take-padded : (n k : ℕ) (xs : List ℕ) → k ≡ length xs → take k (padded n xs) ≡ xs
+pub take-padded : (n k : ℕ) (xs : List ℕ) → k ≡ length xs → take k (padded n xs) ≡ xs
 unfolding padded
 take-padded n k xs e = ap (λ (j : ℕ). take j (xs ++ replicate (n - length xs) 0)) e ∙ take-append-seam xs (replicate (n - length xs) 0)
 

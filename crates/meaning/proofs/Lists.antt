@@ -174,11 +174,11 @@ insert-new p (suc k) (x ∷ xs) low l high =
 -- ---- some kept
 
 module _ (f : ℕ → ℕ) where
-  kept-drop : (x : ℕ) (xs : List ℕ) → f x ≡ 0 → kept (x ∷ xs) (map f (x ∷ xs)) ≡ kept xs (map f xs)
+  pub kept-drop : (x : ℕ) (xs : List ℕ) → f x ≡ 0 → kept (x ∷ xs) (map f (x ∷ xs)) ≡ kept xs (map f xs)
   unfolding kept
   kept-drop x xs e = simp (eq-eqb (f x) 0 e)
 
-  kept-take : (x : ℕ) (xs : List ℕ) → f x ≢ 0 → kept (x ∷ xs) (map f (x ∷ xs)) ≡ x ∷ kept xs (map f xs)
+  pub kept-take : (x : ℕ) (xs : List ℕ) → f x ≢ 0 → kept (x ∷ xs) (map f (x ∷ xs)) ≡ x ∷ kept xs (map f xs)
   unfolding kept
   kept-take x xs ne = simp (ne-eqb (f x) 0 ne)
 
@@ -258,3 +258,7 @@ up-once m (x ∷ xs) u zero zero hi hj e = refl
 up-once m (x ∷ xs) u zero (suc j) hi hj e = absurd (omega (arith, up-at (suc x) xs (u .1) j (le-of-suc-le-suc hj)))
 up-once m (x ∷ xs) u (suc i) zero hi hj e = absurd (omega (arith, up-at (suc x) xs (u .1) i (le-of-suc-le-suc hi)))
 up-once m (x ∷ xs) u (suc i) (suc j) hi hj e = ap suc (up-once (suc x) xs (u .1) i j (le-of-suc-le-suc hi) (le-of-suc-le-suc hj) e)
+
+pub kept-nil : (ss : List ℕ) → kept [] ss ≡ []
+unfolding kept
+kept-nil ss = refl
