@@ -1,0 +1,94 @@
+-- Columns that begin as the terms' parities and end struck off: the terms are laid. Assumes nothing.
+use mathlib.Core.Path.{_≡_, refl, sym, ap, ap₂, _∙_, subst}
+use mathlib.Core.Logic.{_≢_}
+use mathlib.Core.List.{List, [], _∷_}
+use Prim.Native.Nat.{ℕ, zero, suc, _-_, _*_, _/_, _%_, _^_, _≤_, _<_}
+use native.Mathlib.Nat.{suc-ne-zero, suc-inj, pow-suc, mod-lt, zero-lt-suc}
+use native.Mathlib.Omega.{arith}
+use lib.Arith.{lt-one}
+use lib.Dec.{eqb}
+use lib.Count.{ones}
+use lib.ListN.{length, getD, List·getD-eq-default}
+use lib.Bits.{bitXor}
+use Rattle.sets.specs.Pick.{pick}
+use Rattle.sets.specs.Bit.{when, In, Sub}
+use Rattle.sets.specs.Columns.{comb, units}
+use Rattle.sets.proofs.Bits.{bit-of-zero, bit-zero, bit-suc, by-bit}
+use Rattle.sets.proofs.Members.{in-lt, sub-eq}
+use Rattle.sets.proofs.Comb.{comb-units, getD-units, length-units}
+use Rattle.meaning.specs.declared.gate.Gate.{Gate}
+use Rattle.meaning.specs.Circuit.{run}
+use Rattle.meaning.specs.Tally.{cnotsOf}
+use Rattle.columns.specs.Terms.{Bears, totalOf, LaysTerms, due, left, liveOne, live, Laying}
+use Rattle.columns.proofs.Tabling.{sum-ext, sum-none, sum-front, sum-same}
+use Rattle.columns.proofs.Layings.{due-struck, due-is, live-one, live-none}
+
+-- a part of a set of n qubits is a number below 2^n
+pub sub-below : (n x Q : ℕ) → Sub x Q → Q < 2 ^ n → x < 2 ^ n
+sub-below zero x Q f l =
+    let z : Q ≡ 0 = lt-one l in
+    let e : x ≡ 0 = sub-eq x 0 (λ i h. subst (In i) z (f i h)) (λ i h. absurd (omega (arith, h, bit-of-zero i))) in
+    omega (arith, e)
+sub-below (suc n) x Q f l =
+    let l2 : Q < 2 ^ n * 2 = rw pow-suc at l in
+    let h : x / 2 < 2 ^ n = sub-below n (x / 2) (Q / 2) (λ i k. sym (bit-suc Q i) ∙ f (suc i) (bit-suc x i ∙ k)) (omega arith) in
+    rw pow-suc (omega arith)
+
+-- a column stands for a parity that only its own wires decide
+comb-agree : (W U : List ℕ) (x : ℕ) → length W ≡ length U → ((i : ℕ) → In i x → getD W i 0 ≡ getD U i 0) → comb x W ≡ comb x U
+unfolding comb
+comb-agree [] [] x e h = refl
+comb-agree [] (v ∷ vs) x e h = absurd (suc-ne-zero (length vs) (sym e))
+comb-agree (w ∷ ws) [] x e h = absurd (suc-ne-zero (length ws) e)
+comb-agree (w ∷ ws) (v ∷ vs) x e h =
+    ap₂ bitXor (by-bit (λ (b : ℕ). x % 2 ≡ b → when b w ≡ when b v) (λ z. refl) (λ z. h 0 (bit-zero x ∙ z)) (x % 2) (mod-lt x (zero-lt-suc 1)) refl)
+    (comb-agree ws vs (x / 2) (suc-inj e) (λ i k. h (suc i) (bit-suc x i ∙ k)))
+
+-- where the wires of Q stand as at the start, a column inside Q stands for itself
+pub comb-bears : (Q : ℕ) (W : List ℕ) (x : ℕ) → Q < 2 ^ 20 → length W ≡ 20 → Bears Q W → Sub x Q → comb x W ≡ x
+comb-bears Q W x low l b f =
+    comb-agree W (units 20) x (l ∙ sym (length-units 20)) (λ i h. b i (f i h) ∙ sym (getD-units 20 i (in-lt 20 Q i low (f i h))))
+    ∙ comb-units 20 x (sub-below 20 x Q f low)
+
+module _ (near : List ℕ) (Q : ℕ) (ps angles xs as′ : List ℕ) (g : List Gate) (ys : List ℕ) (low : Q < 2 ^ 20) (few : length ps ≤ length xs)
+    (begin : (k : ℕ) → k < length xs → getD xs k 0 ≡ getD ps k 0) (same : (k : ℕ) → k < length xs → getD as′ k 0 ≡ getD angles k 0)
+    (term : (k : ℕ) → k < length ps → Sub (getD ps k 0) Q × (getD ps k 0 ≢ 0))
+    (lays : Laying near Q as′ xs g ys) (struck : (k : ℕ) → getD ys k 0 ≡ 0) where
+  nothing-due : (p : ℕ) (W : List ℕ) → left p W as′ ys ≡ 0
+  unfolding left
+  nothing-due p W = sum-none (length ys) (λ k. due p W (getD ys k 0) (getD as′ k 0)) (λ k l. due-struck p W (getD ys k 0) (getD as′ k 0) (struck k))
+
+  past : (k : ℕ) → length ps ≤ k → k < length xs → getD xs k 0 ≡ 0
+  past k h l = begin k l ∙ List·getD-eq-default ps 0 h
+
+  due-all : (W : List ℕ) → length W ≡ 20 → Bears Q W → (p : ℕ) → left p W as′ xs ≡ totalOf p ps angles
+  unfolding left totalOf
+  due-all W l b p =
+      sum-front (length xs) (length ps) (λ k. due p W (getD xs k 0) (getD as′ k 0)) few (λ k h m. due-struck p W (getD xs k 0) (getD as′ k 0) (past k h m))
+      ∙ sum-ext (length ps) (λ k. due p W (getD xs k 0) (getD as′ k 0)) (λ k. pick (eqb (getD ps k 0) p) (getD angles k 0) 0) one
+    where
+      one : (k : ℕ) → k < length ps → due p W (getD xs k 0) (getD as′ k 0) ≡ pick (eqb (getD ps k 0) p) (getD angles k 0) 0
+      one k h =
+          let m : k < length xs = omega arith in
+          ap₂ (λ (x a : ℕ). due p W x a) (begin k m) (same k m) ∙ due-is p W (getD ps k 0) (getD angles k 0) (term k h .1)
+          ∙ ap (λ (x : ℕ). pick (eqb x p) (getD angles k 0) 0) (comb-bears Q W (getD ps k 0) low l b (term k h .0))
+
+  live-all : live xs ≡ length ps
+  unfolding live
+  live-all =
+      sum-front (length xs) (length ps) (λ k. liveOne (getD xs k 0)) few (λ k h m. live-none (getD xs k 0) (past k h m))
+      ∙ sum-same (length ps) (λ k. liveOne (getD xs k 0)) (λ k h. let m : k < length xs = omega arith in ap liveOne (begin k m) ∙ live-one (getD ps k 0) (term k h .1))
+
+  live-end : live ys ≡ 0
+  unfolding live
+  live-end = sum-none (length ys) (λ k. liveOne (getD ys k 0)) (λ k l. live-none (getD ys k 0) (struck k))
+
+  pub lays-terms : cnotsOf g ≤ 2 * (ones Q - 1) * length ps → LaysTerms near Q ps angles g
+  lays-terms bound =
+      record {
+        sums = λ W l b p. omega (arith, lays .sums W l p, nothing-due p (run g W), due-all W l b p);
+        inside = lays .inside;
+        small = λ h. lays .small (λ k l. subst (λ (a : ℕ). a < 65536) (sym (same k l)) (h k));
+        rotations = omega (arith, lays .rotations, live-all, live-end);
+        cnots = bound;
+      }

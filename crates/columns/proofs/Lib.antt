@@ -1,0 +1,15 @@
+pub mod Emitting
+pub mod Tabling
+pub mod Piecing
+pub mod Turns
+pub mod Strikes
+pub mod Gates
+pub mod Layings
+pub mod Laid
+pub mod Struck
+pub mod Inside
+pub mod OrderParts
+pub mod OrderGrows
+pub mod OrderCode
+pub mod GatherWorks
+pub mod GatherCode

@@ -1,0 +1,21 @@
+-- Laid gates as records in a lent list: "the first records of the output are the circuit and all later ones stay" (document 01, "Records and refusals").
+use mathlib.Core.List.{List, map}
+use Prim.Native.Nat.{ℕ, _+_, max, min}
+use lib.Dec.{ltb}
+use lib.ListN.{length}
+use lib.Seq.{sets}
+use Rattle.sets.specs.Pick.{pick}
+use Rattle.meaning.specs.Layout.{recordOf}
+use Rattle.meaning.specs.declared.gate.Gate.{Gate}
+
+-- the place behind one record more, where there is room for it
+unfoldable pub nextAt : List ℕ → ℕ → ℕ
+nextAt out at = pick (ltb at (length out)) (at + 1) at
+
+-- the list after the gates gs are written from `at` on, as many as there is room for
+unfoldable pub emit : List ℕ → ℕ → List Gate → List ℕ
+emit out at gs = sets out at (map recordOf gs)
+
+-- the next place then
+unfoldable pub emitAt : List ℕ → ℕ → List Gate → ℕ
+emitAt out at gs = max at (min (at + length gs) (length out))

@@ -1,0 +1,8 @@
+pub mod Emit
+pub mod Tables
+pub mod Pieces
+pub mod Turning
+pub mod Striking
+pub mod Terms
+pub mod Order
+pub mod Gather

@@ -1,0 +1,54 @@
+// Columns of one qubit are laid as rotations and struck off.
+use crate::emit;
+use crate::turning;
+use meaning::job::Job;
+ghost use mathlib.Core.Path.{_≡_};
+ghost use mathlib.Core.Bool.{false};
+ghost use lib.ListN.{length};
+ghost use Rattle.columns.specs.Pieces.{held, wrote};
+ghost use Rattle.columns.specs.Striking.{strikeOne, strikeRow, strikeOff};
+
+// The column k, where it is the qubit q alone.
+fn strike_one(
+    cols: &mut [u32],
+    angles: &[u32],
+    out: &mut [u32],
+    at: usize,
+    k: usize,
+    q: usize,
+) -> usize
+    ensures { λ r. ⌜ held (now (cols .exit)) (now (out .exit)) r false ≡ wrote (now (out .entry)) at (strikeOne q (now (angles .entry)) k (now (cols .entry))) ⌝ }
+{
+    if k < cols.len() {
+        let x = cols[k];
+        if sets::single(x) {
+            if sets::lowest(x) == q {
+                cols[k] = 0;
+                return emit::put_rotation(out, at, q, turning::entry(angles, k));
+            }
+        }
+    }
+    at
+}
+
+// Every column that is the qubit q alone.
+fn strike_row(cols: &mut [u32], angles: &[u32], out: &mut [u32], at: usize, q: usize) -> usize
+    ensures { λ r. ⌜ held (now (cols .exit)) (now (out .exit)) r false ≡ wrote (now (out .entry)) at (strikeRow (length (now (cols .entry))) 0 q (now (angles .entry)) (now (cols .entry))) ⌝ }
+{
+    let mut a = at;
+    for k in 0..cols.len() {
+        a = strike_one(cols, angles, out, a, k, q);
+    }
+    a
+}
+
+// Every column of one qubit, lowest qubit first.
+pub fn strike(cols: &mut [u32], angles: &[u32], out: &mut [u32], at: usize) -> usize
+    ensures { λ r. ⌜ held (now (cols .exit)) (now (out .exit)) r false ≡ wrote (now (out .entry)) at (strikeOff (now (angles .entry)) (now (cols .entry))) ⌝ }
+{
+    let mut a = at;
+    for q in 0..Job::QUBITS {
+        a = strike_row(cols, angles, out, a, q);
+    }
+    a
+}

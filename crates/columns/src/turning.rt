@@ -1,0 +1,46 @@
+// The columns of an island's terms, one number each; 0 once struck off.
+use crate::emit;
+ghost use mathlib.Core.Path.{_≡_};
+ghost use mathlib.Core.Bool.{false};
+ghost use lib.ListN.{getD};
+ghost use Rattle.columns.specs.Pieces.{held, wrote};
+ghost use Rattle.columns.specs.Turning.{turnedBy, turnAll, layCnot};
+
+// What stands at k; 0 past the end.
+pub fn entry(xs: &[u32], k: usize) -> u32
+    ensures { λ r. ⌜ r ≡ getD (now (xs .entry)) k 0 ⌝ }
+{
+    if k < xs.len() { xs[k] } else { 0 }
+}
+
+pub fn turned(x: u32, control: usize, target: usize) -> u32
+    ensures { λ r. ⌜ r ≡ turnedBy control target x ⌝ }
+{
+    if sets::holds(x, target) {
+        x ^ sets::only(control)
+    } else {
+        x
+    }
+}
+
+pub fn turn_all(cols: &mut [u32], control: usize, target: usize)
+    ensures { λ _. ⌜ now (cols .exit) ≡ turnAll control target (now (cols .entry)) ⌝ }
+{
+    for k in 0..cols.len() {
+        cols[k] = turned(cols[k], control, target);
+    }
+}
+
+// A CNOT is laid: one record more, and every column turned.
+pub fn lay_cnot(
+    cols: &mut [u32],
+    out: &mut [u32],
+    at: usize,
+    control: usize,
+    target: usize,
+) -> usize
+    ensures { λ r. ⌜ held (now (cols .exit)) (now (out .exit)) r false ≡ wrote (now (out .entry)) at (layCnot control target (now (cols .entry))) ⌝ }
+{
+    turn_all(cols, control, target);
+    emit::put_cnot(out, at, control, target)
+}

@@ -1,0 +1,14 @@
+pub mod Selecting
+pub mod Choosing
+pub mod Unfolding
+pub mod Entry
+pub mod Best
+pub mod Apart
+pub mod Splits
+pub mod Bound
+pub mod Meets
+pub mod Crossing
+pub mod Chosen
+pub mod Halves
+pub mod Stepping
+pub mod Terms

@@ -1,0 +1,21 @@
+-- `steps::choice::near_to` meets its contract. Assumes nothing.
+use mathlib.Core.Path.{sym}
+use lib.ListN.{List·getD-eq-default}
+use borrow.Author.Needs.{needs}
+use Rattle.steps.proofs.choice.near_to.Statement.{statement}
+use Rattle.steps.proofs.choice.near_to.Tie as tie
+
+mul-result : tie.Need-mul-result
+mul-result c = search needs
+
+array-read-result : tie.Need-array-read-result
+array-read-result c = search needs
+
+returns : tie.Need-returns
+returns c = search needs
+
+returns-2 : tie.Need-returns-2
+returns-2 c = sym (List·getD-eq-default (c .before .args .t1) 0 (search needs))
+
+pub near-to-spec : {M : Type 1} → statement M
+near-to-spec = tie.close (tie.spec mul-result array-read-result returns returns-2)

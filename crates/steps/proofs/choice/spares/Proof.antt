@@ -1,0 +1,56 @@
+-- `steps::choice::spares` meets its contract: the places passed are filled. Assumes nothing.
+use mathlib.Core.Path.{_≡_, _∙_}
+use Prim.Native.Nat.{_-_, _≤_, _<_}
+use mathlib.Core.Bool.{false}
+use native.Mathlib.Omega.{arith}
+use lib.ListN.{length, length-set}
+use Rattle.columns.proofs.Tabling.{Filled, filled-next, filled-all}
+use Rattle.chip.specs.Spare.{spareOf}
+use Rattle.columns.specs.Tables.{tab}
+use borrow.Author.Needs.{needs}
+use Rattle.steps.proofs.choice.spares.Statement.{statement}
+use Rattle.steps.proofs.choice.spares.Tie as tie
+
+abbrev Inv-loop : tie.InvT-loop
+Inv-loop near set z₀ q₀ z q = (q ≤ 20) × (length z ≡ 20) × Filled false (λ j. spareOf near set j) q z
+
+abbrev μ-loop : tie.MeasureT-loop
+μ-loop near set z₀ q₀ z q = 20 - q
+
+loop-holds : tie.Need-loop-holds Inv-loop μ-loop
+loop-holds c = (search needs, search needs, λ j (l : j < 0). absurd (omega arith))
+
+spare-requires : tie.Need-spare-requires Inv-loop μ-loop
+spare-requires c κs = search needs
+
+array-write-z : tie.Need-array-write-z Inv-loop μ-loop
+array-write-z c = search needs
+
+add-q : tie.Need-add-q Inv-loop μ-loop
+add-q c = search needs
+
+loop-less : tie.Need-loop-less Inv-loop μ-loop
+loop-less c = search needs
+
+loop-again : tie.Need-loop-again Inv-loop μ-loop
+loop-again c =
+    let at = c .before .before .loop in
+    (search needs, length-set (at .z) _ _ ∙ at .inv .1, filled-next false _ (at .q) (at .z) _ (search needs) (c .spare .ensures) (at .inv .2))
+
+returns : tie.Need-returns Inv-loop μ-loop
+unfolding tab
+returns c = filled-all false _ 20 (c .before .loop .q) _ (c .before .loop .inv .1) (search needs) (c .before .loop .inv .2)
+
+pub spares-spec : {M : Type 1} → statement M
+spares-spec =
+    tie.close
+    (tie.spec
+    Inv-loop
+    μ-loop
+    loop-holds
+    spare-requires
+    array-write-z
+    add-q
+    loop-less
+    loop-again
+    returns)

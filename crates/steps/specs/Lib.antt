@@ -1,0 +1,3 @@
+pub mod Selection
+pub mod Choice
+pub mod Steps

@@ -1,0 +1,70 @@
+-- The base step and the ones step (document 01, "Steps from document 000", after document 000, Figure 1).
+use mathlib.Core.Bool.{Bool, true, false}
+use mathlib.Core.List.{List}
+use Prim.Native.Nat.{ℕ, zero, suc}
+use lib.Dec.{eqb, ltb}
+use lib.ListN.{getD}
+use Rattle.sets.specs.Pick.{pick}
+use Rattle.sets.specs.Size.{sizeOf}
+use Rattle.meaning.specs.Limits.{mostQubits, mostParities}
+use Rattle.columns.specs.Tables.{tab}
+use Rattle.columns.specs.Emit.{emitAt}
+use Rattle.columns.specs.Pieces.{Piece, idle, halted, andThen, Memory, held}
+use Rattle.columns.specs.Turning.{layCnot}
+use Rattle.columns.specs.Striking.{strikeOff}
+use Rattle.steps.specs.Selection.{countOf, zerosOf, onesOf, liveOf, rowOf}
+use Rattle.steps.specs.Choice.{sparing, without, partner}
+use Rattle.steps.specs.declared.Laid.{Laid}
+use Rattle.steps.specs.declared.Laid.the-variants.{On, Stuck}
+
+-- "If it has any, lay a CNOT from the chosen qubit to it. If not, lay one from the neighbour to the chosen qubit and then one back." r is the chosen qubit, m the neighbour, n its ones
+unfoldable pub crossed : ℕ → ℕ → ℕ → List ℕ → Piece
+crossed r m n xs = pick (eqb n 0) (andThen (layCnot m r xs) (layCnot r m)) (layCnot r m xs)
+
+-- and what becomes a column of one qubit "is laid at once"
+unfoldable pub moved : List ℕ → ℕ → ℕ → ℕ → List ℕ → Piece
+moved angles r m n xs = andThen (crossed r m n xs) (strikeOff angles)
+
+-- a step for a set of qubits and the selected columns
+abbrev pub Step : Type 0
+Step = ℕ → List Bool → List ℕ → Piece
+
+-- the ones step for n columns at most; `below` is the base step for one qubit less. "Split again on the chosen row, zeros first."
+unfoldable pub onesStep : ℕ → Step → List ℕ → List ℕ → ℕ → ℕ → List Bool → List ℕ → Piece
+onesStep zero below near angles Q r sel xs = idle xs
+onesStep (suc n) below near angles Q r sel xs =
+    let m = partner near Q r sel xs in
+    let more = andThen (moved angles r m (rowOf sel xs m) xs)
+    (λ ys. andThen (below (without Q r) (zerosOf r sel ys) ys) (λ zs. onesStep n below near angles Q r (onesOf r sel ys) zs)) in
+    pick (eqb (countOf sel) 0) (idle xs) (pick (ltb m mostQubits) more (halted xs))
+
+-- the base step for q qubits. "Columns with 0 there first take the base step without that qubit; then columns with 1 take the ones step"
+unfoldable pub baseStep : ℕ → List ℕ → List ℕ → Step
+baseStep zero near angles Q sel xs = pick (eqb (countOf sel) 0) (idle xs) (halted xs)
+baseStep (suc q) near angles Q sel xs =
+    let r = sparing near Q sel xs in
+    let p = onesOf r sel xs in
+    let more = andThen (baseStep q near angles (without Q r) (zerosOf r sel xs) xs) (λ ys. onesStep (countOf p) (baseStep q near angles) near angles Q r p ys) in
+    pick (eqb (countOf sel) 0) (idle xs) (pick (ltb r mostQubits) more (halted xs))
+
+-- x where it stands among the first `count`, 0 behind them
+abbrev pub keptAt : ℕ → ℕ → ℕ → ℕ
+keptAt count k x = pick (ltb k count) x 0
+
+-- a list on 256 places, 0 behind it
+unfoldable pub placed : List ℕ → List ℕ
+placed xs = tab mostParities (λ k. getD xs k 0)
+
+-- "Terms are columns over the island's qubits": columns of one qubit first, then the base step
+unfoldable pub stepsFor : List ℕ → ℕ → List ℕ → List ℕ → Piece
+stepsFor near Q ps angles =
+    andThen (strikeOff (placed angles) (placed ps)) (λ xs. baseStep (sizeOf Q) near (placed angles) Q (liveOf xs) xs)
+
+-- the code's answer and memory, as the memory behind a piece
+abbrev pub ended : List ℕ → List ℕ → Laid → Memory
+ended xs o (On a) = held xs o a false
+ended xs o (Stuck a) = held xs o a true
+
+-- the answer where the gates go to `out` from its first place on
+unfoldable pub answerOf : List ℕ → Piece → Laid
+answerOf out p = pick (p .stuck) (Stuck (emitAt out 0 (p .laid))) (On (emitAt out 0 (p .laid)))

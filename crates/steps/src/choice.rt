@@ -1,0 +1,130 @@
+// The qubits that the steps choose.
+use crate::selection;
+use chip::spare;
+use meaning::job::Job;
+ghost use mathlib.Core.Path.{_≡_};
+ghost use lib.ListN.{getD};
+ghost use Rattle.sets.specs.Bit.{has};
+ghost use Rattle.meaning.specs.Limits.{mostQubits};
+ghost use Rattle.chip.specs.Spare.{spareOf};
+ghost use Rattle.columns.specs.Tables.{tab};
+ghost use Rattle.steps.specs.Selection.{rowOf};
+ghost use Rattle.steps.specs.Choice.{bestOf, equalOf, sparing, without, beside, partner};
+
+// Of the qubits that may be taken the one of most worth, the lowest in a tie; 20 where there is
+// none.
+pub fn best(may: [bool; Job::QUBITS], worth: [usize; Job::QUBITS]) -> usize
+    ensures { λ r. ⌜ r ≡ bestOf may worth 257 ⌝ }
+{
+    let mut found = Job::QUBITS;
+    let mut w = 257;
+    'search: while 0 < w {
+        w -= 1;
+        for q in 0..Job::QUBITS {
+            if may[q] {
+                if worth[q] == w {
+                    found = q;
+                    break 'search;
+                }
+            }
+        }
+    }
+    found
+}
+
+// The ones of each row.
+pub fn rows(sel: [bool; Job::PARITIES], cols: &[u32]) -> [usize; Job::QUBITS]
+    ensures { λ z. ⌜ z ≡ tab mostQubits (rowOf sel (now (cols .entry))) ⌝ }
+{
+    let mut z = [0; Job::QUBITS];
+    for q in 0..Job::QUBITS {
+        z[q] = selection::row(q, sel, cols);
+    }
+    z
+}
+
+// The equal entries of one row.
+pub fn equal(q: usize, sel: [bool; Job::PARITIES], cols: &[u32]) -> usize
+    ensures { λ r. ⌜ r ≡ equalOf sel (now (cols .entry)) q ⌝ }
+{
+    let n = selection::count(sel);
+    let ones = selection::row(q, sel, cols);
+    if ones < n {
+        if n - ones > ones {
+            return n - ones;
+        }
+    }
+    ones
+}
+
+// The equal entries of each row.
+pub fn equals(sel: [bool; Job::PARITIES], cols: &[u32]) -> [usize; Job::QUBITS]
+    ensures { λ z. ⌜ z ≡ tab mostQubits (equalOf sel (now (cols .entry))) ⌝ }
+{
+    let mut z = [0; Job::QUBITS];
+    for q in 0..Job::QUBITS {
+        z[q] = equal(q, sel, cols);
+    }
+    z
+}
+
+// The spare qubits of `set`.
+pub fn spares(near: [u32; Job::QUBITS], set: u32) -> [bool; Job::QUBITS]
+    ensures { λ z. ⌜ z ≡ tab mostQubits (spareOf near set) ⌝ }
+{
+    let mut z = [false; Job::QUBITS];
+    for q in 0..Job::QUBITS {
+        z[q] = spare::spare(near, set, q);
+    }
+    z
+}
+
+// The spare qubit whose row has most equal entries.
+pub fn spared(near: [u32; Job::QUBITS], set: u32, sel: [bool; Job::PARITIES], cols: &[u32]) -> usize
+    ensures { λ r. ⌜ r ≡ sparing near set sel (now (cols .entry)) ⌝ }
+{
+    best(spares(near, set), equals(sel, cols))
+}
+
+pub fn rest(set: u32, r: usize) -> u32
+    ensures { λ s. ⌜ s ≡ without set r ⌝ }
+{
+    set ^ sets::only(r)
+}
+
+fn near_to(near: [u32; Job::QUBITS], r: usize) -> u32
+    ensures { λ s. ⌜ s ≡ getD near r 0 ⌝ }
+{
+    if r < Job::QUBITS { near[r] } else { 0 }
+}
+
+// The neighbours of r in `set`.
+pub fn neighbours(near: [u32; Job::QUBITS], set: u32, r: usize) -> u32
+    ensures { λ s. ⌜ s ≡ beside near set r ⌝ }
+{
+    near_to(near, r) & rest(set, r)
+}
+
+// The members of a set.
+pub fn members(set: u32) -> [bool; Job::QUBITS]
+    ensures { λ z. ⌜ z ≡ tab mostQubits (has set) ⌝ }
+{
+    let mut z = [false; Job::QUBITS];
+    for q in 0..Job::QUBITS {
+        z[q] = sets::holds(set, q);
+    }
+    z
+}
+
+// The neighbour of r in `set` with most ones.
+pub fn partnered(
+    near: [u32; Job::QUBITS],
+    set: u32,
+    r: usize,
+    sel: [bool; Job::PARITIES],
+    cols: &[u32],
+) -> usize
+    ensures { λ m. ⌜ m ≡ partner near set r sel (now (cols .entry)) ⌝ }
+{
+    best(members(neighbours(near, set, r)), rows(sel, cols))
+}
