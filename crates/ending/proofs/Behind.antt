@@ -1,0 +1,40 @@
+-- The closing behind a way of laying terms: its gates fit what such a way promises, and change no sum. Assumes nothing.
+use mathlib.Core.Path.{_≡_, refl, sym, ap, _∙_}
+use mathlib.Core.List.{List, [], _∷_, _++_}
+use Prim.Native.Nat.{ℕ, _+_}
+use native.Mathlib.Omega.{arith}
+use Rattle.meaning.specs.declared.gate.Gate.{Gate}
+use Rattle.meaning.specs.declared.gate.Gate.the-variants.{Cnot, Rotation, Bad}
+use Rattle.meaning.specs.Circuit.{step, run, given}
+use Rattle.meaning.specs.Same.{All}
+use Rattle.meaning.proofs.Steps.{gives-cnot}
+use Rattle.meaning.proofs.Circuits.{given-none, given-cons, given-append}
+use Rattle.columns.specs.Terms.{Inside}
+use Rattle.columns.specs.Gather.{Coupled, Within}
+
+module _ (near : List ℕ) (Q : ℕ) where
+  -- gates inside Q as a way of laying promises them
+  pub inside-within : (gs : List Gate) → All (Inside near Q) gs → Within near Q gs
+  unfolding All Inside
+  inside-within [] h = tt
+  inside-within (Cnot c t ∷ gs) h = ((h .0 .1, h .0 .2, h .0 .3, h .0 .0), inside-within gs (h .1))
+  inside-within (Rotation q a ∷ gs) h = inside-within gs (h .1)
+  inside-within (Bad ∷ gs) h = absurd (h .0)
+
+  pub coupled-all : (gs : List Gate) → Coupled near Q gs → All (Inside near Q) gs
+  unfolding All Inside
+  coupled-all [] h = tt
+  coupled-all (Cnot c t ∷ gs) h = ((h .0 .3, h .0 .0, h .0 .1, h .0 .2), coupled-all gs (h .1))
+  coupled-all (Rotation q a ∷ gs) h = absurd h
+  coupled-all (Bad ∷ gs) h = absurd h
+
+  pub coupled-given : (p : ℕ) (gs : List Gate) (W : List ℕ) → Coupled near Q gs → given p gs W ≡ 0
+  coupled-given p [] W h = given-none p W
+  coupled-given p (Cnot c t ∷ gs) W h =
+      given-cons p (Cnot c t) gs W ∙ omega (arith, gives-cnot p c t W, coupled-given p gs (step (Cnot c t) W) (h .1))
+  coupled-given p (Rotation q a ∷ gs) W h = absurd h
+  coupled-given p (Bad ∷ gs) W h = absurd h
+
+  -- the sums are those of what stands before
+  pub given-before : (p : ℕ) (gs M : List Gate) (W : List ℕ) → Coupled near Q M → given p (gs ++ M) W ≡ given p gs W
+  given-before p gs M W h = given-append p gs M W ∙ omega (arith, coupled-given p M (run gs W) h)

@@ -1,0 +1,233 @@
+-- The closing of an island: every wire bears what was asked, for either closing and any ending in it. Assumes nothing.
+use mathlib.Core.Path.{_≡_, refl, sym, ap, ap₂, _∙_, subst}
+use mathlib.Core.Logic.{_≢_, _⊎_, inl, inr}
+use mathlib.Core.Bool.{Bool, true, false}
+use mathlib.Core.List.{List, [], _∷_, _++_, map, append-assoc}
+use Prim.Native.Nat.{ℕ, zero, suc, _+_, _*_, _-_, _^_, _≤_, _<_}
+use native.Mathlib.Omega.{arith}
+use native.Mathlib.Decide.{ℕ-discrete}
+use lib.Bits.{bitXor, xor-self, xor-zero-l}
+use lib.Count.{ones}
+use lib.Dec.{ltb}
+use lib.ListN.{length, getD, length-append}
+use borrow.Author.Tests.{ltb-true, ltb-false}
+use Rattle.sets.specs.Pick.{pick}
+use Rattle.sets.specs.Bit.{bit, In, Sub}
+use Rattle.sets.specs.Size.{sizeOf}
+use Rattle.sets.specs.Columns.{turn, comb, dot}
+use Rattle.sets.proofs.Bits.{bit-cases, bit-pow-same, xor-cancel}
+use Rattle.sets.proofs.Comb.{comb-pow, comb-xor}
+use Rattle.sets.proofs.Dot.{dot-comm, dot-pow}
+use Rattle.sets.proofs.Turn.{turn-on, turn-off, turn-other}
+use Rattle.sets.proofs.Members.{in-lt, sub-eq, xor-sub, in-pow}
+use Rattle.chip.specs.Graph.{Symm, Joined}
+use Rattle.chip.proofs.Growth.{pow-sub}
+use Rattle.meaning.specs.declared.gate.Gate.{Gate}
+use Rattle.meaning.specs.declared.gate.Gate.the-variants.{Cnot, Rotation, Bad}
+use Rattle.meaning.specs.Layout.{Good}
+use Rattle.meaning.specs.Circuit.{run}
+use Rattle.meaning.specs.Same.{All}
+use Rattle.meaning.specs.Tally.{tally, oneCnot, oneRotation, cnotsOf, rotationsOf}
+use Rattle.columns.specs.Gather.{turns, flip, Coupled, Within}
+use Rattle.columns.proofs.GatherWorks.{turns-append, coupled-append, coupled-within}
+use Rattle.columns.proofs.OrderParts.{sub-lt}
+use Rattle.ending.specs.Rows.{played}
+use Rattle.ending.specs.Closing.{endingOf, onwardOf, backOf, backFirst, closingOf}
+use Rattle.ending.specs.Ends.{Ready, Ends, Ended, spent, Brings, Closes}
+use Rattle.ending.proofs.Turning.{within-append, flip-within, turns-sub, comb-turns, wires-out, all-played, turns-zero, row-turned, comb-own}
+use Rattle.ending.proofs.Endings.{ready-turns, ends-right, ends-none, spent-is}
+use Rattle.ending.proofs.Choice.{ending-ends}
+
+-- ---- CNOTs in reverse undo themselves
+
+turn-twice : (x c t : ℕ) → c ≢ t → turn (turn x c t) c t ≡ x
+turn-twice x c t ne = go (bit-cases x t)
+  where
+    go : (bit x t ≡ 0) ⊎ (bit x t ≡ 1) → turn (turn x c t) c t ≡ x
+    go (inl z) = ap (λ (m : ℕ). turn m c t) (turn-off x c t z) ∙ turn-off x c t z
+    go (inr h) = turn-on (turn x c t) c t (turn-other x c t t ne ∙ h) ∙ ap (λ (m : ℕ). bitXor m (2 ^ c)) (turn-on x c t h) ∙ xor-cancel x (2 ^ c)
+
+module _ (near : List ℕ) (Q : ℕ) where
+  pub back-undoes : (gs : List Gate) (x : ℕ) → Within near Q gs → turns (backOf gs) (turns gs x) ≡ x
+  back-undoes [] x h = refl
+  back-undoes (Cnot c t ∷ gs) x h =
+      turns-append (backOf gs) (Cnot c t ∷ []) (turns gs (turn x c t)) ∙ ap (λ (m : ℕ). turn m c t) (back-undoes gs (turn x c t) (h .1)) ∙ turn-twice x c t (h .0 .2)
+  back-undoes (Rotation q a ∷ gs) x h = back-undoes gs x h
+  back-undoes (Bad ∷ gs) x h = back-undoes gs x h
+
+  undoes-back : (gs : List Gate) (x : ℕ) → Within near Q gs → turns gs (turns (backOf gs) x) ≡ x
+  undoes-back [] x h = refl
+  undoes-back (Cnot c t ∷ gs) x h =
+      ap (λ (m : ℕ). turns gs (turn m c t)) (turns-append (backOf gs) (Cnot c t ∷ []) x) ∙ ap (turns gs) (turn-twice (turns (backOf gs) x) c t (h .0 .2)) ∙ undoes-back gs x (h .1)
+  undoes-back (Rotation q a ∷ gs) x h = undoes-back gs x h
+  undoes-back (Bad ∷ gs) x h = undoes-back gs x h
+
+  pub back-coupled : (gs : List Gate) → Within near Q gs → Coupled near Q (backOf gs)
+  back-coupled [] h = tt
+  back-coupled (Cnot c t ∷ gs) h = coupled-append near Q (backOf gs) (Cnot c t ∷ []) (back-coupled gs (h .1)) (h .0, tt)
+  back-coupled (Rotation q a ∷ gs) h = back-coupled gs h
+  back-coupled (Bad ∷ gs) h = back-coupled gs h
+
+  -- ---- either closing, with any ending
+
+  -- the ending from where the wires stand
+  pub onward-brings : (N C : List ℕ) (gs E : List Gate) → Within near Q gs → Ready Q N C → Ends near Q (map (turns gs) N) (map (turns (flip gs)) C) E → Brings near Q N gs E
+  onward-brings N C gs E h r d =
+      let e : Ended near Q (map (turns gs) N) E = ends-right (ready-turns near Q N C gs h r) d in
+      record {
+        coupled = e .coupled;
+        right = λ i k. turns-append gs E (getD N i 0) ∙ ap (turns E) (sym (row-turned gs N i)) ∙ e .right i k;
+      }
+
+  -- the laid CNOTs in reverse, then the ending from the start
+  pub back-brings : (N C : List ℕ) (gs E : List Gate) → Within near Q gs → Ready Q N C → Ends near Q N C E → Brings near Q N gs (backOf gs ++ E)
+  back-brings N C gs E h r d =
+      let e : Ended near Q N E = ends-right r d in
+      record {
+        coupled = coupled-append near Q (backOf gs) E (back-coupled gs h) (e .coupled);
+        right = λ i k. turns-append gs (backOf gs ++ E) (getD N i 0) ∙ turns-append (backOf gs) E (turns gs (getD N i 0))
+            ∙ ap (turns E) (back-undoes gs (getD N i 0) h) ∙ e .right i k;
+      }
+
+  -- ---- gates on couplers inside Q are CNOTs on 20 qubits
+
+  coupled-good : Q < 2 ^ 20 → (L : List Gate) → Coupled near Q L → All (Good 20) L
+  unfolding All Good
+  coupled-good low [] h = tt
+  coupled-good low (Cnot c t ∷ gs) h = ((in-lt 20 Q c low (h .0 .0), in-lt 20 Q t low (h .0 .1), h .0 .2), coupled-good low gs (h .1))
+  coupled-good low (Rotation q a ∷ gs) h = absurd h
+  coupled-good low (Bad ∷ gs) h = absurd h
+
+  coupled-rotations : (L : List Gate) → Coupled near Q L → tally oneRotation L ≡ 0
+  unfolding tally
+  coupled-rotations [] h = refl
+  coupled-rotations (Cnot c t ∷ gs) h = omega (arith, coupled-rotations gs (h .1))
+  coupled-rotations (Rotation q a ∷ gs) h = absurd h
+  coupled-rotations (Bad ∷ gs) h = absurd h
+
+  coupled-cnots : (L : List Gate) → Coupled near Q L → tally oneCnot L ≡ length L
+  unfolding tally
+  coupled-cnots [] h = refl
+  coupled-cnots (Cnot c t ∷ gs) h = omega (arith, coupled-cnots gs (h .1))
+  coupled-cnots (Rotation q a ∷ gs) h = absurd h
+  coupled-cnots (Bad ∷ gs) h = absurd h
+
+-- ---- rows and wires
+
+module _ (near : List ℕ) (Q : ℕ) (low : Q < 2 ^ 20) (W : List ℕ) (size : length W ≡ 20) (own : (i : ℕ) → In i Q → getD W i 0 ≡ 2 ^ i) where
+  reach : (i : ℕ) → In i Q → i < length W
+  reach i h = omega (arith, in-lt 20 Q i low h)
+
+  stood : (x : ℕ) → Sub x Q → comb x W ≡ x
+  stood x f = comb-own 20 x W size (sub-lt x Q 20 f low) (λ i h. own i (f i h))
+
+  -- rows that came to their own wires: every wire bears the parity asked for
+  pub wires-right : (N : List ℕ) (gs M : List Gate) → Within near Q gs → Brings near Q N gs M → (i : ℕ) → In i Q → Sub (getD N i 0) Q
+      → getD (run (gs ++ M) W) i 0 ≡ getD N i 0
+  wires-right N gs M h b i k f =
+      let g : List Gate = gs ++ M in
+      sym (comb-pow (run g W) i) ∙ ap (λ (m : ℕ). comb m (run g W)) (sym (b .right i k))
+      ∙ comb-turns near Q g (getD N i 0) W (within-append near Q gs M h (coupled-within near Q M (b .coupled))) reach ∙ stood (getD N i 0) f
+
+  -- and the other way: a wire that bears the parity asked for has its row at home
+  row-home : (x : ℕ) (gs : List Gate) (i : ℕ) → Within near Q gs → In i Q → Sub x Q → getD (run gs W) i 0 ≡ x → turns gs x ≡ 2 ^ i
+  row-home x gs i h k f e =
+      sym (xor-cancel (turns gs x) (2 ^ i)) ∙ ap (λ (m : ℕ). bitXor m (2 ^ i)) zero-y ∙ xor-zero-l (2 ^ i)
+    where
+      y : ℕ
+      y = bitXor (turns gs x) (2 ^ i)
+
+      sub-y : Sub y Q
+      sub-y = xor-sub (turns gs x) (2 ^ i) Q (turns-sub near Q gs x h f) (pow-sub Q i k)
+
+      none : comb y (run gs W) ≡ 0
+      none =
+          comb-xor (run gs W) (turns gs x) (2 ^ i)
+          ∙ ap₂ bitXor (comb-turns near Q gs x W h reach ∙ stood x f) (comb-pow (run gs W) i ∙ e) ∙ xor-self x
+
+      z : ℕ
+      z = turns (backOf gs) y
+
+      zero-z : z ≡ 0
+      zero-z =
+          sym (stood z (turns-sub near Q (backOf gs) y (coupled-within near Q (backOf gs) (back-coupled near Q gs h)) sub-y))
+          ∙ sym (comb-turns near Q gs z W h reach) ∙ ap (λ (m : ℕ). comb m (run gs W)) (undoes-back near Q gs y h) ∙ none
+
+      zero-y : y ≡ 0
+      zero-y = sym (undoes-back near Q gs y h) ∙ ap (turns gs) zero-z ∙ turns-zero gs
+
+-- rows at home have their mirror rows at home
+mirror-home : (Q : ℕ) (N C : List ℕ) → Ready Q N C → ((i : ℕ) → In i Q → getD N i 0 ≡ 2 ^ i) → (i : ℕ) → In i Q → getD C i 0 ≡ 2 ^ i
+mirror-home Q N C r own j h =
+    sub-eq (getD C j 0) (2 ^ j) (λ k m. at k (r .mirror j h k m) m (ℕ-discrete k j)) (pow-sub (getD C j 0) j (meets j h ∙ r .one j h))
+  where
+    meets : (i : ℕ) → In i Q → bit (getD C j 0) i ≡ dot (getD N i 0) (getD C j 0)
+    meets i k = sym (dot-pow i (getD C j 0)) ∙ ap (λ (m : ℕ). dot m (getD C j 0)) (sym (own i k))
+
+    at : (k : ℕ) → In k Q → In k (getD C j 0) → Dec (k ≡ j) → In k (2 ^ j)
+    at k q m (yes d) = ap (bit (2 ^ j)) d ∙ bit-pow-same j
+    at k q m (no n) = absurd (omega (arith, m, meets k q, r .nul k j q h n))
+
+-- ---- the definition
+
+module _ (near : List ℕ) (Q : ℕ) (N C : List ℕ) (gs : List Gate) (sy : Symm near) (low : Q < 2 ^ 20) (j : Joined near Q) (r : Ready Q N C) (h : Within near Q gs) where
+  rows-played : onwardOf near Q N C gs ≡ endingOf near Q (map (turns gs) N) (map (turns (flip gs)) C)
+  unfolding onwardOf
+  rows-played = ap₂ (endingOf near Q) (all-played near Q low gs N h) (all-played near Q low (flip gs) C (flip-within near Q sy gs h))
+
+  onward-ends : Ends near Q (map (turns gs) N) (map (turns (flip gs)) C) (onwardOf near Q N C gs)
+  onward-ends =
+      subst (Ends near Q (map (turns gs) N) (map (turns (flip gs)) C)) (sym rows-played)
+      (ending-ends near Q (map (turns gs) N) (map (turns (flip gs)) C) sy low j (ready-turns near Q N C gs h r))
+
+  closing-brings : Brings near Q N gs (closingOf near Q N C gs)
+  unfolding closingOf backFirst
+  closing-brings = go (ltb (length (backFirst near Q N C gs)) (length (onwardOf near Q N C gs)))
+    where
+      go : (b : Bool) → Brings near Q N gs (pick b (backFirst near Q N C gs) (onwardOf near Q N C gs))
+      go true = back-brings near Q N C gs (endingOf near Q N C) h r (ending-ends near Q N C sy low j r)
+      go false = onward-brings near Q N C gs (onwardOf near Q N C gs) h r onward-ends
+
+  -- "onward in a tie, so the bound holds"
+  closing-least : length (closingOf near Q N C gs) ≤ length (onwardOf near Q N C gs)
+  unfolding closingOf
+  closing-least = go (ltb (length (backFirst near Q N C gs)) (length (onwardOf near Q N C gs))) refl
+    where
+      go : (b : Bool) → ltb (length (backFirst near Q N C gs)) (length (onwardOf near Q N C gs)) ≡ b
+          → length (pick b (backFirst near Q N C gs) (onwardOf near Q N C gs)) ≤ length (onwardOf near Q N C gs)
+      go true e = omega (arith, ltb-true (length (backFirst near Q N C gs)) (length (onwardOf near Q N C gs)) e)
+      go false e = omega arith
+
+  closing-still : ((i : ℕ) → In i Q → turns gs (getD N i 0) ≡ 2 ^ i) → closingOf near Q N C gs ≡ []
+  closing-still own =
+      let at : (i : ℕ) → In i Q → getD (map (turns gs) N) i 0 ≡ 2 ^ i = λ i k. row-turned gs N i ∙ own i k in
+      let e : onwardOf near Q N C gs ≡ [] = ends-none onward-ends at (mirror-home Q (map (turns gs) N) (map (turns (flip gs)) C) (ready-turns near Q N C gs h r) at) in
+      empty (closingOf near Q N C gs) (omega (arith, closing-least, ap length e))
+    where
+      empty : (l : List Gate) → length l ≤ 0 → l ≡ []
+      empty [] z = refl
+      empty (g ∷ l) z = absurd (omega arith)
+
+  -- MAIN THEOREM of the ending
+  pub closing-closes : Closes near Q N gs (closingOf near Q N C gs)
+  unfolding rotationsOf cnotsOf sizeOf
+  closing-closes =
+      record {
+        coupled = b .coupled;
+        right = λ W size own i k. wires-right near Q low W size own N gs M h b i k (r .rows i k);
+        others = λ W i z. wires-out near Q (gs ++ M) W i (within-append near Q gs M h (coupled-within near Q M (b .coupled))) z;
+        good = coupled-good near Q low M (b .coupled);
+        rotations = coupled-rotations near Q M (b .coupled);
+        cnots = coupled-cnots near Q M (b .coupled);
+        short = omega (arith, closing-least, e .short, spent-is (ones Q));
+        still = λ W size own right. closing-still (λ i k. row-home near Q low W size own (getD N i 0) gs i h k (r .rows i k) (right i k));
+      }
+    where
+      M : List Gate
+      M = closingOf near Q N C gs
+
+      b : Brings near Q N gs M
+      b = closing-brings
+
+      e : Ended near Q (map (turns gs) N) (onwardOf near Q N C gs)
+      e = ends-right (ready-turns near Q N C gs h r) onward-ends

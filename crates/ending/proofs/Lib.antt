@@ -1,0 +1,11 @@
+pub mod Turning
+pub mod Taking
+pub mod Endings
+pub mod Choice
+pub mod Closings
+pub mod Mirrors
+pub mod Playing
+pub mod Writing
+pub mod Choosing
+pub mod Recursion
+pub mod Behind

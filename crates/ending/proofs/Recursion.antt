@@ -1,0 +1,154 @@
+-- The ending's recursion, for any input: the island's size falls by one at each call. Assumes nothing.
+use mathlib.Core.Path.{_≡_, refl, sym, ap, ap₂, _∙_, subst}
+use mathlib.Core.Logic.{_≢_, _⊎_, inl, inr}
+use mathlib.Core.Bool.{Bool, true, false}
+use mathlib.Core.List.{List, [], _∷_, _++_, map}
+use Prim.Native.Nat.{ℕ, zero, suc, _+_, _*_, _-_, _/_, _^_, _≤_, _<_}
+use native.Mathlib.Omega.{arith}
+use lib.Bits.{bitXor}
+use lib.Count.{ones, ones-le}
+use lib.Dec.{ltb}
+use lib.ListN.{length, length-append}
+use borrow.Author.Tests.{lt-ltb, le-ltb, ltb-true, ltb-false}
+use Rattle.sets.specs.Pick.{pick, both}
+use Rattle.sets.specs.Bit.{has, In}
+use Rattle.sets.specs.Size.{sizeOf, onlyOf}
+use Rattle.sets.proofs.Ones.{ones-drop}
+use Rattle.sets.proofs.Words.{only-is, has-true}
+use Rattle.chip.specs.Spare.{connectedOf, spareOf}
+use Rattle.meaning.specs.declared.gate.Gate.{Gate}
+use Rattle.columns.specs.Emit.{emitAt}
+use Rattle.columns.proofs.Emitting.{emit-at-room}
+use Rattle.columns.specs.Gather.{flip}
+use Rattle.ending.specs.declared.clearing.Standing.{Standing}
+use Rattle.ending.specs.Rows.{played, seen}
+use Rattle.ending.specs.Clear.{outOf, cheapestOf}
+use Rattle.ending.specs.Held.{takenOf}
+use Rattle.ending.specs.Closing.{endingFrom, endingOf, onwardOf, backOf, backFirst, closingOf}
+use Rattle.ending.proofs.Choice.{least-has, out-few, ending-zero, ending-suc}
+
+member : (near : List ℕ) (Q q : ℕ) → spareOf near Q q ≡ true → In q Q
+unfolding spareOf
+member near Q q e = has-true Q q (go (has Q q) e)
+  where
+    go : (b : Bool) → both b (connectedOf near (bitXor Q (2 ^ q))) ≡ true → b ≡ true
+    go true h = refl
+    go false h = h
+
+module _ (near : List ℕ) (Q : ℕ) (N C : List ℕ) where
+  chosen : (cheapestOf near Q N C ≡ 40) ⊎ (spareOf near Q (cheapestOf near Q N C / 2) ≡ true)
+  unfolding cheapestOf
+  chosen =
+      least-has (λ k. spareOf near Q (k / 2)) (λ k. length (outOf near Q N C k)) (λ k. (k ≡ 40) ⊎ (spareOf near Q (k / 2) ≡ true)) 40 0 40 77
+      (λ k l e. inr e) (inl (inl refl))
+
+  falls : (k : ℕ) → k ≡ cheapestOf near Q N C → k < 40 → ones Q ≡ suc (ones (bitXor Q (2 ^ (k / 2))))
+  falls k e l = go chosen
+    where
+      go : (cheapestOf near Q N C ≡ 40) ⊎ (spareOf near Q (cheapestOf near Q N C / 2) ≡ true) → ones Q ≡ suc (ones (bitXor Q (2 ^ (k / 2))))
+      go (inl z) = absurd (omega arith)
+      go (inr s) = ones-drop (k / 2) Q (member near Q (k / 2) (ap (λ (m : ℕ). spareOf near Q (m / 2)) e ∙ s))
+
+  pub size-falls : (k d : ℕ) → k ≡ cheapestOf near Q N C → k < 40 → d ≡ onlyOf (k / 2) → sizeOf Q ≡ suc (sizeOf (bitXor Q d))
+  unfolding sizeOf
+  size-falls k d e l ed = falls k e l ∙ ap (λ (m : ℕ). suc (ones (bitXor Q m))) (sym (ed ∙ only-is (k / 2) (omega arith)))
+
+  pub ending-done : (s : ℕ) → s ≡ sizeOf Q → s < 2 → endingOf near Q N C ≡ []
+  unfolding endingOf
+  ending-done s e l = ap (λ (f : ℕ). endingFrom near f Q N C) (omega arith) ∙ ending-zero near Q N C
+
+  pub ending-stops : (s k : ℕ) → s ≡ sizeOf Q → 2 ≤ s → k ≡ cheapestOf near Q N C → 40 ≤ k → endingOf near Q N C ≡ []
+  unfolding endingOf
+  ending-stops s k es l e m =
+      ap (λ (f : ℕ). endingFrom near f Q N C) more ∙ ending-suc near (sizeOf Q - 2) Q N C
+      ∙ ap (λ (b : Bool). pick b (L ++ rest) []) (le-ltb (cheapestOf near Q N C) 40 (omega arith))
+    where
+      more : sizeOf Q - 1 ≡ suc (sizeOf Q - 2)
+      more = omega arith
+
+      L : List Gate
+      L = outOf near Q N C (cheapestOf near Q N C)
+
+      rest : List Gate
+      rest = endingFrom near (sizeOf Q - 2) (bitXor Q (onlyOf (cheapestOf near Q N C / 2))) (map (played L) N) (map (played (flip L)) C)
+
+  pub ending-goes : (s k d : ℕ) (r : Standing) → s ≡ sizeOf Q → 2 ≤ s → k ≡ cheapestOf near Q N C → k < 40 → d ≡ onlyOf (k / 2) → r ≡ takenOf N C (outOf near Q N C k)
+      → endingOf near Q N C ≡ outOf near Q N C k ++ endingOf near (bitXor Q d) (r .asked) (r .mirror)
+  unfolding endingOf takenOf
+  ending-goes s k d r es l e m ed er =
+      ap (λ (f : ℕ). endingFrom near f Q N C) more ∙ ending-suc near (sizeOf (bitXor Q d) - 1) Q N C
+      ∙ ap (λ (j : ℕ). whole j) (sym e)
+      ∙ ap (λ (b : Bool). pick b (L ++ rest) []) (lt-ltb k 40 m)
+      ∙ ap₂ (λ (w : ℕ) (t : Standing). L ++ endingFrom near (sizeOf (bitXor Q d) - 1) (bitXor Q w) (t .asked) (t .mirror)) (sym ed) (sym er)
+    where
+      more : sizeOf Q - 1 ≡ suc (sizeOf (bitXor Q d) - 1)
+      more = omega (arith, size-falls k d e m ed)
+
+      whole : ℕ → List Gate
+      whole j = pick (ltb j 40) (outOf near Q N C j ++ endingFrom near (sizeOf (bitXor Q d) - 1) (bitXor Q (onlyOf (j / 2))) (map (played (outOf near Q N C j)) N) (map (played (flip (outOf near Q N C j))) C)) []
+
+      L : List Gate
+      L = outOf near Q N C k
+
+      rest : List Gate
+      rest = endingFrom near (sizeOf (bitXor Q d) - 1) (bitXor Q (onlyOf (k / 2))) (map (played L) N) (map (played (flip L)) C)
+
+-- ---- how long an ending is, whatever the input
+
+from-few : (near : List ℕ) (f Q : ℕ) (N C : List ℕ) → length (endingFrom near f Q N C) ≤ 76 * f
+from-few near zero Q N C = omega (arith, ap length (ending-zero near Q N C))
+from-few near (suc f) Q N C =
+    go (ltb k 40) (ap length (ending-suc near f Q N C)) (from-few near f (bitXor Q (onlyOf (k / 2))) (map (played L) N) (map (played (flip L)) C))
+  where
+    k : ℕ
+    k = cheapestOf near Q N C
+
+    L : List Gate
+    L = outOf near Q N C k
+
+    rest : List Gate
+    rest = endingFrom near f (bitXor Q (onlyOf (k / 2))) (map (played L) N) (map (played (flip L)) C)
+
+    go : (b : Bool) → length (endingFrom near (suc f) Q N C) ≡ length (pick b (L ++ rest) []) → length rest ≤ 76 * f → length (endingFrom near (suc f) Q N C) ≤ 76 * suc f
+    go true e h = omega (arith, e, length-append L rest, out-few near Q N C k)
+    go false e h = omega (arith, e)
+
+pub ending-few : (near : List ℕ) (Q : ℕ) (N C : List ℕ) → Q < 4294967296 → length (endingOf near Q N C) ≤ 2356
+unfolding endingOf sizeOf
+ending-few near Q N C l = omega (arith, from-few near (ones Q - 1) Q N C, ones-le 32 Q l)
+
+-- memory of its own has room for it, so the next place tells how many there are
+pub length-told : (near : List ℕ) (Q : ℕ) (N C own : List ℕ) (r : ℕ) → Q < 4294967296 → length own ≡ 2356 → r ≡ emitAt own 0 (endingOf near Q N C) → r ≡ length (endingOf near Q N C)
+length-told near Q N C own r l e h = h ∙ emit-at-room own 0 (endingOf near Q N C) (omega (arith, ending-few near Q N C l)) ∙ omega arith
+
+-- ---- the closing
+
+pub shorter-yes : (a b n : ℕ) → a < n → ltb b (n - a) ≡ ltb (a + b) n
+shorter-yes a b n l = go (ltb b (n - a)) refl
+  where
+    go : (t : Bool) → ltb b (n - a) ≡ t → t ≡ ltb (a + b) n
+    go true e = sym (lt-ltb (a + b) n (omega (arith, ltb-true b (n - a) e)))
+    go false e = sym (le-ltb (a + b) n (omega (arith, ltb-false b (n - a) e)))
+
+pub shorter-no : (a b n : ℕ) → n ≤ a → false ≡ ltb (a + b) n
+shorter-no a b n l = sym (le-ltb (a + b) n (omega arith))
+
+module _ (near : List ℕ) (Q : ℕ) (N C : List ℕ) (gs : List Gate) (N′ C′ : List ℕ) (en : N′ ≡ map (played (seen false gs)) N) (ec : C′ ≡ map (played (seen true gs)) C)
+    (b r n : ℕ) (eb : b ≡ length (backOf gs)) (er : r ≡ length (endingOf near Q N C)) (eo : n ≡ length (endingOf near Q N′ C′)) where
+  onward-is : onwardOf near Q N C gs ≡ endingOf near Q N′ C′
+  unfolding onwardOf
+  onward-is = ap₂ (endingOf near Q) (sym en) (sym ec)
+
+  test-is : ltb (length (backFirst near Q N C gs)) (length (onwardOf near Q N C gs)) ≡ ltb (b + r) n
+  unfolding backFirst
+  test-is =
+      let e : length (backOf gs ++ endingOf near Q N C) ≡ b + r = omega (arith, length-append (backOf gs) (endingOf near Q N C)) in
+      ap₂ ltb e (ap length onward-is ∙ sym eo)
+
+  pub closing-back : ltb (b + r) n ≡ true → closingOf near Q N C gs ≡ backOf gs ++ endingOf near Q N C
+  unfolding closingOf backFirst
+  closing-back t = ap (λ (s : Bool). pick s (backOf gs ++ endingOf near Q N C) (onwardOf near Q N C gs)) (test-is ∙ t)
+
+  pub closing-onward : ltb (b + r) n ≡ false → closingOf near Q N C gs ≡ endingOf near Q N′ C′
+  unfolding closingOf
+  closing-onward t = ap (λ (s : Bool). pick s (backFirst near Q N C gs) (onwardOf near Q N C gs)) (test-is ∙ t) ∙ onward-is

@@ -1,0 +1,6 @@
+pub mod Rows
+pub mod Mirror
+pub mod Clear
+pub mod Held
+pub mod Closing
+pub mod Ends

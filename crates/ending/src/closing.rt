@@ -1,0 +1,187 @@
+// The ending of an island, and its closing behind what was laid on it.
+use crate::clearing;
+use crate::rows;
+use columns::emit;
+use columns::gather;
+use meaning::gate;
+use meaning::gate::Gate;
+use meaning::job::Job;
+ghost use mathlib.Core.Path.{_≡_};
+ghost use mathlib.Core.List.{[], _∷_};
+ghost use Prim.Native.Nat.{_+_, _≤_, _<_};
+ghost use lib.Dec.{ltb};
+ghost use lib.ListN.{length};
+ghost use Rattle.meaning.specs.Layout.{gatesOf};
+ghost use Rattle.columns.specs.Emit.{emit, emitAt};
+ghost use Rattle.columns.specs.Gather.{cnotsIn};
+ghost use Rattle.ending.specs.Clear.{outOf};
+ghost use Rattle.ending.specs.Closing.{endingOf, backOf, closingOf};
+
+// What 31 qubits taken out, each by 76 CNOTs, would lay.
+const ROOM: usize = 2356;
+
+fn put_moves(
+    out: &mut [u32],
+    at: usize,
+    to: [usize; gather::MOST],
+    by: [usize; gather::MOST],
+    n: usize,
+) -> usize
+    requires { ⌜ n ≤ 38 ⌝ }
+    ensures { λ r. ⌜ (now (out .exit) ≡ emit (now (out .entry)) at (cnotsIn to by 0 n)) × (r ≡ emitAt (now (out .entry)) at (cnotsIn to by 0 n)) ⌝ }
+{
+    let mut next = at;
+    for i in 0..n {
+        next = emit::put_cnot(out, next, to[i], by[i]);
+    }
+    next
+}
+
+// Choice k is laid.
+fn put_out(
+    near: [u32; Job::QUBITS],
+    set: u32,
+    asked: [u32; Job::QUBITS],
+    mirror: [u32; Job::QUBITS],
+    k: usize,
+    out: &mut [u32],
+    at: usize,
+) -> usize
+    requires { ⌜ k < 40 ⌝ }
+    ensures { λ r. ⌜ (now (out .exit) ≡ emit (now (out .entry)) at (outOf near set asked mirror k)) × (r ≡ emitAt (now (out .entry)) at (outOf near set asked mirror k)) ⌝ }
+{
+    let first = clearing::lead(near, set, asked, mirror, k);
+    let to = first.to;
+    let by = first.by;
+    let mid = put_moves(out, at, to, by, first.len);
+    let second = clearing::trail(near, set, asked, mirror, k);
+    let to_then = second.to;
+    let by_then = second.by;
+    put_moves(out, mid, to_then, by_then, second.len)
+}
+
+// The CNOTs that bring each row of the island to its own wire, one qubit taken out after another.
+fn ending(
+    near: [u32; Job::QUBITS],
+    set: u32,
+    asked: [u32; Job::QUBITS],
+    mirror: [u32; Job::QUBITS],
+    out: &mut [u32],
+    at: usize,
+) -> usize
+    ensures { λ r. ⌜ (now (out .exit) ≡ emit (now (out .entry)) at (endingOf near set asked mirror)) × (r ≡ emitAt (now (out .entry)) at (endingOf near set asked mirror)) ⌝ }
+{
+    if sets::size(set) < 2 {
+        return at;
+    }
+    let k = clearing::cheapest(near, set, asked, mirror);
+    if clearing::CHOICES <= k {
+        return at;
+    }
+    let next = put_out(near, set, asked, mirror, k, out, at);
+    let rest = clearing::taken(near, set, asked, mirror, k);
+    let asked_rest = rest.asked;
+    let mirror_rest = rest.mirror;
+    ending(
+        near,
+        set ^ sets::only(k / 2),
+        asked_rest,
+        mirror_rest,
+        out,
+        next,
+    )
+}
+
+// How many CNOTs the ending has: it is laid into memory of its own.
+fn length_of(
+    near: [u32; Job::QUBITS],
+    set: u32,
+    asked: [u32; Job::QUBITS],
+    mirror: [u32; Job::QUBITS],
+) -> usize
+    ensures { λ r. ⌜ r ≡ length (endingOf near set asked mirror) ⌝ }
+{
+    let mut own = [0; ROOM];
+    ending(near, set, asked, mirror, &mut own, 0)
+}
+
+// A gate is laid if it is a CNOT.
+fn put_cnot_of(out: &mut [u32], at: usize, g: Gate) -> usize
+    ensures { λ r. ⌜ (now (out .exit) ≡ emit (now (out .entry)) at (backOf (g ∷ []))) × (r ≡ emitAt (now (out .entry)) at (backOf (g ∷ []))) ⌝ }
+{
+    match g {
+        Gate::Cnot { control, target } => emit::put_cnot(out, at, control, target),
+        Gate::Rotation { qubit: _, angle: _ } => at,
+        Gate::Bad => at,
+    }
+}
+
+// The CNOTs of the records in reverse.
+fn put_back(out: &mut [u32], at: usize, laid: &[u32]) -> usize
+    ensures { λ r. ⌜ (now (out .exit) ≡ emit (now (out .entry)) at (backOf (gatesOf 20 (now (laid .entry))))) × (r ≡ emitAt (now (out .entry)) at (backOf (gatesOf 20 (now (laid .entry))))) ⌝ }
+{
+    let mut next = at;
+    let mut k = laid.len();
+    while 0 < k {
+        k -= 1;
+        next = put_cnot_of(out, next, gate::decode(laid[k], Job::QUBITS));
+    }
+    next
+}
+
+// 1 for a CNOT.
+fn one(g: Gate) -> usize
+    ensures { λ r. ⌜ r ≡ length (backOf (g ∷ [])) ⌝ }
+{
+    match g {
+        Gate::Cnot {
+            control: _,
+            target: _,
+        } => 1,
+        Gate::Rotation { qubit: _, angle: _ } => 0,
+        Gate::Bad => 0,
+    }
+}
+
+fn cnots(laid: &[u32]) -> usize
+    ensures { λ r. ⌜ r ≡ length (backOf (gatesOf 20 (now (laid .entry)))) ⌝ }
+{
+    let mut n = 0;
+    for i in 0..laid.len() {
+        n += one(gate::decode(laid[i], Job::QUBITS));
+    }
+    n
+}
+
+// Whether back and then rest is shorter than onward.
+fn shorter(back: usize, rest: usize, onward: usize) -> bool
+    ensures { λ r. ⌜ r ≡ ltb (back + rest) onward ⌝ }
+{
+    if back < onward {
+        return rest < onward - back;
+    }
+    false
+}
+
+// The closing of the island behind the gates laid on it: the shorter of onward, from where the wires
+// stand, and back to the start first; onward in a tie.
+pub fn close(
+    near: [u32; Job::QUBITS],
+    set: u32,
+    asked: [u32; Job::QUBITS],
+    mirror: [u32; Job::QUBITS],
+    laid: &[u32],
+    out: &mut [u32],
+    at: usize,
+) -> usize
+    ensures { λ r. ⌜ (now (out .exit) ≡ emit (now (out .entry)) at (closingOf near set asked mirror (gatesOf 20 (now (laid .entry))))) × (r ≡ emitAt (now (out .entry)) at (closingOf near set asked mirror (gatesOf 20 (now (laid .entry))))) ⌝ }
+{
+    let asked_now = rows::replayed_all(asked, laid, false);
+    let mirror_now = rows::replayed_all(mirror, laid, true);
+    let onward = length_of(near, set, asked_now, mirror_now);
+    if shorter(cnots(laid), length_of(near, set, asked, mirror), onward) {
+        let next = put_back(out, at, laid);
+        return ending(near, set, asked, mirror, out, next);
+    }
+    ending(near, set, asked_now, mirror_now, out, at)
+}

@@ -1,0 +1,35 @@
+// The mirror of a list of gates, which the ending needs beside the final parities.
+use meaning::gate;
+use meaning::gate::Gate;
+use meaning::job::Job;
+use meaning::wires;
+use meaning::wires::Wires;
+ghost use mathlib.Core.Path.{_≡_};
+ghost use mathlib.Core.List.{[], _∷_};
+ghost use Rattle.meaning.specs.Circuit.{run};
+ghost use Rattle.meaning.specs.Layout.{gatesOf};
+ghost use Rattle.columns.specs.Gather.{flip};
+ghost use Rattle.ending.specs.Mirror.{mirrorsOf};
+
+fn after(rows: [u32; Job::QUBITS], g: Gate) -> [u32; Job::QUBITS]
+    ensures { λ r. ⌜ r ≡ run (flip (g ∷ [])) rows ⌝ }
+{
+    match g {
+        Gate::Cnot { control, target } => wires::joined(rows, target, control),
+        Gate::Rotation { qubit: _, angle: _ } => rows,
+        Gate::Bad => rows,
+    }
+}
+
+// The mirror rows of gates on n qubits.
+pub fn mirrored(gates: &[u32], n: usize) -> [u32; Job::QUBITS]
+    ensures { λ r. ⌜ r ≡ mirrorsOf (gatesOf n (now (gates .entry))) ⌝ }
+{
+    let start = Wires::new();
+    let mut all = start.parity;
+    for i in 0..gates.len() {
+        let next = after(all, gate::decode(gates[i], n));
+        all = next;
+    }
+    all
+}

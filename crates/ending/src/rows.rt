@@ -1,0 +1,82 @@
+// Asked rows and mirror rows under gates.
+use columns::gather;
+use columns::turning;
+use meaning::gate;
+use meaning::gate::Gate;
+use meaning::job::Job;
+ghost use mathlib.Core.Path.{_≡_};
+ghost use mathlib.Core.List.{[], _∷_, map};
+ghost use Prim.Native.Nat.{_≤_};
+ghost use Rattle.meaning.specs.Layout.{gatesOf};
+ghost use Rattle.columns.specs.Gather.{cnotsIn};
+ghost use Rattle.ending.specs.Rows.{played, seen};
+
+// A row after n moves.
+pub(crate) fn moved(x: u32, to: [usize; gather::MOST], by: [usize; gather::MOST], n: usize) -> u32
+    requires { ⌜ n ≤ 38 ⌝ }
+    ensures { λ r. ⌜ r ≡ played (cnotsIn to by 0 n) x ⌝ }
+{
+    let mut y = x;
+    for i in 0..n {
+        y = turning::turned(y, to[i], by[i]);
+    }
+    y
+}
+
+pub(crate) fn moved_all(
+    rows: [u32; Job::QUBITS],
+    to: [usize; gather::MOST],
+    by: [usize; gather::MOST],
+    n: usize,
+) -> [u32; Job::QUBITS]
+    requires { ⌜ n ≤ 38 ⌝ }
+    ensures { λ r. ⌜ r ≡ map (played (cnotsIn to by 0 n)) rows ⌝ }
+{
+    let mut all = [0; Job::QUBITS];
+    for i in 0..Job::QUBITS {
+        all[i] = moved(rows[i], to, by, n);
+    }
+    all
+}
+
+// A row, or a mirror row, after a gate.
+fn fed(x: u32, g: Gate, mirror: bool) -> u32
+    ensures { λ r. ⌜ r ≡ played (seen mirror (g ∷ [])) x ⌝ }
+{
+    match g {
+        Gate::Cnot { control, target } => {
+            if mirror {
+                turning::turned(x, target, control)
+            } else {
+                turning::turned(x, control, target)
+            }
+        }
+        Gate::Rotation { qubit: _, angle: _ } => x,
+        Gate::Bad => x,
+    }
+}
+
+// A row, or a mirror row, after the gates of the records.
+fn replayed(x: u32, laid: &[u32], mirror: bool) -> u32
+    ensures { λ r. ⌜ r ≡ played (seen mirror (gatesOf 20 (now (laid .entry)))) x ⌝ }
+{
+    let mut y = x;
+    for i in 0..laid.len() {
+        y = fed(y, gate::decode(laid[i], Job::QUBITS), mirror);
+    }
+    y
+}
+
+pub(crate) fn replayed_all(
+    rows: [u32; Job::QUBITS],
+    laid: &[u32],
+    mirror: bool,
+) -> [u32; Job::QUBITS]
+    ensures { λ r. ⌜ r ≡ map (played (seen mirror (gatesOf 20 (now (laid .entry))))) rows ⌝ }
+{
+    let mut all = [0; Job::QUBITS];
+    for i in 0..Job::QUBITS {
+        all[i] = replayed(rows[i], laid, mirror);
+    }
+    all
+}
