@@ -1,0 +1,177 @@
+-- What a move, and the moves of a gathering, do to the columns: what is due is kept, no column of one qubit is left, and the column that is gathered is struck off. Assumes nothing.
+use mathlib.Core.Path.{_≡_, refl, sym, ap, _∙_, subst}
+use mathlib.Core.Logic.{_⊎_, inl, inr}
+use mathlib.Core.Bool.{Bool, true, false}
+use mathlib.Core.List.{List, [], _∷_}
+use Prim.Native.Nat.{ℕ, suc, _+_, _-_, _^_, _<_}
+use native.Mathlib.Omega.{arith}
+use lib.ListN.{length, getD}
+use Rattle.sets.specs.Pick.{pick}
+use Rattle.sets.specs.Bit.{bit, Sub}
+use Rattle.sets.specs.Size.{singleOf}
+use Rattle.sets.specs.Columns.{turn}
+use Rattle.sets.proofs.Bits.{bit-of-zero}
+use Rattle.sets.proofs.Members.{in-lt}
+use Rattle.sets.proofs.Turn.{turn-sub, turn-off}
+use Rattle.sets.proofs.Words.{single-pow}
+use Rattle.meaning.specs.declared.gate.Gate.{Gate}
+use Rattle.meaning.specs.declared.gate.Gate.the-variants.{Cnot, Rotation, Bad}
+use Rattle.meaning.specs.Tally.{cnotsOf}
+use Rattle.columns.specs.Pieces.{Piece, piece, idle, after, andThen}
+use Rattle.columns.specs.Turning.{turnAll}
+use Rattle.columns.specs.Striking.{strikeOff}
+use Rattle.columns.specs.Terms.{Laying}
+use Rattle.columns.specs.Gather.{On, Coupled, turns}
+use Rattle.columns.proofs.Piecing.{then-on}
+use Rattle.columns.proofs.Turns.{cnot-is, turn-all-at, turned-is}
+use Rattle.columns.proofs.Gates.{cnots-none, cnots-append, cnots-cnot}
+use Rattle.columns.proofs.Strikes.{single-zero}
+use Rattle.columns.proofs.Layings.{laying-none, laying-then, laying-cnot}
+use Rattle.columns.proofs.Struck.{Fit, fit-of, Strikes, strikes-off, off-single, off-other}
+use Rattle.nearest.specs.Moves.{layMove, layMoves}
+use Rattle.nearest.proofs.Moving.{moves-none, moves-cons}
+
+never : {x : Bool} → x ≡ true → x ≡ false → ⊥
+never a b = let z : _≡_ {A = ℕ} 0 1 = ap (λ (t : Bool). pick t 0 1) (sym a ∙ b) in omega arith
+
+none-sub : (Q : ℕ) → Sub 0 Q
+none-sub Q i h = absurd (omega (arith, h, bit-of-zero i))
+
+-- every column lies in Q
+abbrev pub Within : ℕ → List ℕ → Type 0
+Within Q xs = (k : ℕ) → Sub (getD xs k 0) Q
+
+-- and none is of one qubit
+pub record Ready (Q : ℕ) (xs : List ℕ) : Type 0 where
+  pub part : Within Q xs
+  pub many : (k : ℕ) → singleOf (getD xs k 0) ≡ false
+
+module _ (near : List ℕ) (Q : ℕ) (angles : List ℕ) (low : Q < 2 ^ 20) where
+  -- ---- striking off
+
+  pub fits : (xs : List ℕ) → Within Q xs → Fit Q xs
+  fits xs w = fit-of Q xs low (λ k e. w k)
+
+  pub strike-ready : (xs : List ℕ) → Within Q xs → Ready Q (strikeOff angles xs .cols)
+  strike-ready xs w = record { part = λ k. part k (strikes-off near Q angles xs (fits xs w) .each k); many = λ k. many k (singleOf (getD xs k 0)) refl }
+    where
+      ys : List ℕ
+      ys = strikeOff angles xs .cols
+
+      part : (k : ℕ) → (getD ys k 0 ≡ getD xs k 0) ⊎ ((singleOf (getD xs k 0) ≡ true) × (getD ys k 0 ≡ 0)) → Sub (getD ys k 0) Q
+      part k (inl e) = subst (λ (x : ℕ). Sub x Q) (sym e) (w k)
+      part k (inr e) = subst (λ (x : ℕ). Sub x Q) (sym (e .1)) (none-sub Q)
+
+      many : (k : ℕ) (b : Bool) → singleOf (getD xs k 0) ≡ b → singleOf (getD ys k 0) ≡ false
+      many k true e = ap singleOf (off-single near Q angles xs (fits xs w) k e) ∙ single-zero
+      many k false e = ap singleOf (off-other near Q angles xs (fits xs w) k e) ∙ e
+
+  -- ---- one move
+
+  -- a piece of n CNOTs
+  pub record Moved (xs : List ℕ) (n : ℕ) (p : Piece) : Type 0 where
+    pub on : p .stuck ≡ false
+    pub lays : Laying near Q angles xs (p .laid) (p .cols)
+    pub cnots : cnotsOf (p .laid) ≡ n
+    pub ready : Ready Q (p .cols)
+    pub stays : (k : ℕ) → getD xs k 0 ≡ 0 → getD (p .cols) k 0 ≡ 0
+
+  module _ (c t : ℕ) (o : On near Q c t) (xs : List ℕ) (w : Within Q xs) where
+    turned-at : (k : ℕ) → getD (turnAll c t xs) k 0 ≡ turn (getD xs k 0) c t
+    turned-at k = turn-all-at c t xs k ∙ turned-is c t (getD xs k 0) (omega (arith, in-lt 20 Q c low (o .0)))
+
+    turned-within : Within Q (turnAll c t xs)
+    turned-within k = subst (λ (x : ℕ). Sub x Q) (sym (turned-at k)) (turn-sub Q (getD xs k 0) c t (o .0) (w k))
+
+    move-is : layMove angles c t xs ≡ after (piece (turnAll c t xs) (Cnot c t ∷ []) false) (strikeOff angles (turnAll c t xs))
+    unfolding layMove
+    move-is = ap (λ (p : Piece). andThen p (strikeOff angles)) (cnot-is c t xs) ∙ then-on (piece (turnAll c t xs) (Cnot c t ∷ []) false) (strikeOff angles) refl
+
+    struck : Strikes near Q angles (turnAll c t xs) (strikeOff angles (turnAll c t xs))
+    struck = strikes-off near Q angles (turnAll c t xs) (fits (turnAll c t xs) turned-within)
+
+    -- a column is struck off, or turned
+    pub move-each : (k : ℕ) → (getD (layMove angles c t xs .cols) k 0 ≡ 0) ⊎ (getD (layMove angles c t xs .cols) k 0 ≡ turn (getD xs k 0) c t)
+    move-each k = subst (λ (p : Piece). (getD (p .cols) k 0 ≡ 0) ⊎ (getD (p .cols) k 0 ≡ turn (getD xs k 0) c t)) (sym move-is) (go (struck .each k))
+      where
+        ys : List ℕ
+        ys = strikeOff angles (turnAll c t xs) .cols
+
+        go : (getD ys k 0 ≡ getD (turnAll c t xs) k 0) ⊎ ((singleOf (getD (turnAll c t xs) k 0) ≡ true) × (getD ys k 0 ≡ 0)) → (getD ys k 0 ≡ 0) ⊎ (getD ys k 0 ≡ turn (getD xs k 0) c t)
+        go (inl e) = inr (e ∙ turned-at k)
+        go (inr e) = inl (e .1)
+
+    turn-none : (x : ℕ) → x ≡ 0 → turn x c t ≡ 0
+    turn-none x z = turn-off x c t (ap (λ (y : ℕ). bit y t) z ∙ bit-of-zero t) ∙ z
+
+    pub move-moved : Moved xs 1 (layMove angles c t xs)
+    move-moved =
+        subst (Moved xs 1) (sym move-is)
+        (record {
+          on = struck .on;
+          lays = laying-then near Q angles (laying-cnot near Q angles xs c t low (o .3) (o .0) (o .1) (o .2)) (struck .lays);
+          cnots = omega (arith, cnots-append (Cnot c t ∷ []) (strikeOff angles (turnAll c t xs) .laid), cnots-cnot c t, struck .cnots);
+          ready = strike-ready (turnAll c t xs) turned-within;
+          stays = λ k z. go k z (struck .each k);
+        })
+      where
+        ys : List ℕ
+        ys = strikeOff angles (turnAll c t xs) .cols
+
+        go : (k : ℕ) → getD xs k 0 ≡ 0 → (getD ys k 0 ≡ getD (turnAll c t xs) k 0) ⊎ ((singleOf (getD (turnAll c t xs) k 0) ≡ true) × (getD ys k 0 ≡ 0)) → getD ys k 0 ≡ 0
+        go k z (inl e) = e ∙ turned-at k ∙ turn-none (getD xs k 0) z
+        go k z (inr e) = e .1
+
+  -- ---- moves
+
+  pub moved-none : (xs : List ℕ) → Ready Q xs → Moved xs 0 (idle xs)
+  moved-none xs r = record { on = refl; lays = laying-none near Q angles xs; cnots = cnots-none; ready = r; stays = λ k z. z }
+
+  pub moved-then : (xs : List ℕ) (m n : ℕ) (p : Piece) (k : List ℕ → Piece) → Moved xs m p → Moved (p .cols) n (k (p .cols)) → Moved xs (m + n) (andThen p k)
+  moved-then xs m n p k a b =
+      subst (Moved xs (m + n)) (sym (then-on p k (a .on)))
+      (record {
+        on = b .on;
+        lays = laying-then near Q angles (a .lays) (b .lays);
+        cnots = omega (arith, cnots-append (p .laid) (k (p .cols) .laid), a .cnots, b .cnots);
+        ready = b .ready;
+        stays = λ j z. b .stays j (a .stays j z);
+      })
+
+  pub moves-moved : (L : List Gate) → Coupled near Q L → (xs : List ℕ) → Ready Q xs → Moved xs (length L) (layMoves angles L xs)
+  moves-moved [] h xs r = subst (Moved xs 0) (sym (moves-none angles xs)) (moved-none xs r)
+  moves-moved (Cnot c t ∷ gs) h xs r =
+      let a = move-moved c t (h .0) xs (r .part) in
+      subst (Moved xs (suc (length gs))) (sym (moves-cons angles c t gs xs))
+      (subst (λ (n : ℕ). Moved xs n (andThen (layMove angles c t xs) (λ ys. layMoves angles gs ys))) (one-more (length gs))
+      (moved-then xs 1 (length gs) (layMove angles c t xs) (λ ys. layMoves angles gs ys) a (moves-moved gs (h .1) (layMove angles c t xs .cols) (a .ready))))
+    where
+      one-more : (n : ℕ) → 1 + n ≡ suc n
+      one-more n = omega arith
+  moves-moved (Rotation q a ∷ gs) h xs r = absurd h
+  moves-moved (Bad ∷ gs) h xs r = absurd h
+
+  -- column k is x unless it is struck off; moves that bring x to one qubit strike it off
+  pub moves-gone : (L : List Gate) → Coupled near Q L → (xs : List ℕ) → Ready Q xs → (k v x : ℕ) → (getD xs k 0 ≡ 0) ⊎ (getD xs k 0 ≡ x) → turns L x ≡ 2 ^ v
+      → getD (layMoves angles L xs .cols) k 0 ≡ 0
+  moves-gone [] h xs r k v x s e = ap (λ (p : Piece). getD (p .cols) k 0) (moves-none angles xs) ∙ go s
+    where
+      go : (getD xs k 0 ≡ 0) ⊎ (getD xs k 0 ≡ x) → getD xs k 0 ≡ 0
+      go (inl z) = z
+      go (inr i) = absurd (never (ap singleOf (i ∙ e) ∙ single-pow v) (r .many k))
+  moves-gone (Cnot c t ∷ gs) h xs r k v x s e =
+      ap (λ (p : Piece). getD (p .cols) k 0) (moves-cons angles c t gs xs ∙ then-on (layMove angles c t xs) (λ ys. layMoves angles gs ys) (a .on))
+      ∙ moves-gone gs (h .1) (layMove angles c t xs .cols) (a .ready) k v (turn x c t) (go s (move-each c t (h .0) xs (r .part) k)) e
+    where
+      a : Moved xs 1 (layMove angles c t xs)
+      a = move-moved c t (h .0) xs (r .part)
+
+      ys : List ℕ
+      ys = layMove angles c t xs .cols
+
+      go : (getD xs k 0 ≡ 0) ⊎ (getD xs k 0 ≡ x) → (getD ys k 0 ≡ 0) ⊎ (getD ys k 0 ≡ turn (getD xs k 0) c t) → (getD ys k 0 ≡ 0) ⊎ (getD ys k 0 ≡ turn x c t)
+      go (inl z) m = inl (a .stays k z)
+      go (inr i) (inl z) = inl z
+      go (inr i) (inr j) = inr (j ∙ ap (λ (y : ℕ). turn y c t) i)
+  moves-gone (Rotation q a ∷ gs) h xs r k v x s e = absurd h
+  moves-gone (Bad ∷ gs) h xs r k v x s e = absurd h

@@ -1,0 +1,37 @@
+-- Nearest first: the second way of laying an island's terms (our own; docs/LAYING.md; document 01 allows it: "another is allowed if it meets demands 2 and 3").
+use mathlib.Core.List.{List}
+use Prim.Native.Nat.{ℕ, zero, suc}
+use lib.Dec.{ltb}
+use lib.ListN.{getD}
+use Rattle.sets.specs.Pick.{pick}
+use Rattle.meaning.specs.Limits.{mostParities}
+use Rattle.columns.specs.Tables.{tab}
+use Rattle.columns.specs.Pieces.{Piece, idle, andThen}
+use Rattle.columns.specs.Striking.{strikeOff}
+use Rattle.columns.specs.Gather.{gatherOf}
+use Rattle.nearest.specs.Choice.{chosen, far}
+use Rattle.nearest.specs.Moves.{layMoves}
+
+-- the column that was chosen is gathered at the qubit that was chosen
+unfoldable pub gatherNext : List ℕ → List ℕ → ℕ → ℕ → ℕ → List ℕ → Piece
+gatherNext near angles Q k v xs = layMoves angles (gatherOf near Q v (getD xs k 0)) xs
+
+-- "while a column is left", for n rounds at most: each round strikes off the column that it gathers
+unfoldable pub rounds : ℕ → List ℕ → List ℕ → ℕ → List ℕ → Piece
+rounds zero near angles Q xs = idle xs
+rounds (suc n) near angles Q xs =
+    let b = chosen near Q xs in
+    let more = andThen (gatherNext near angles Q (b .column) (b .qubit) xs) (λ ys. rounds n near angles Q ys) in
+    pick (ltb (b .moves) far) more (idle xs)
+
+-- x where it stands among the first `count`, 0 behind them
+abbrev pub keptAt : ℕ → ℕ → ℕ → ℕ
+keptAt count k x = pick (ltb k count) x 0
+
+-- a list on 256 places, 0 behind it
+unfoldable pub placed : List ℕ → List ℕ
+placed xs = tab mostParities (λ k. getD xs k 0)
+
+-- "Terms are columns over the island's qubits": columns of one qubit first, then the rounds; never stuck
+unfoldable pub nearestFor : List ℕ → ℕ → List ℕ → List ℕ → Piece
+nearestFor near Q ps angles = andThen (strikeOff (placed angles) (placed ps)) (λ xs. rounds mostParities near (placed angles) Q xs)

@@ -1,0 +1,14 @@
+-- The orders from all qubits, worked out once.
+use mathlib.Core.Path.{_≡_}
+use mathlib.Core.List.{List}
+use Prim.Native.Nat.{ℕ, _+_, _*_, _<_}
+use lib.ListN.{length, getD}
+use Rattle.columns.specs.Order.{orderOf}
+
+-- for the first n qubits v: the order from v stands from 20 v on, and its length at v
+pub record Orderly (near : List ℕ) (Q n : ℕ) (qubit len : List ℕ) : Type 0 where
+  pub size : (v : ℕ) → v < n → getD len v 0 ≡ length (orderOf near Q v)
+  pub row : (v : ℕ) → v < n → (k : ℕ) → k < length (orderOf near Q v) → getD qubit (20 * v + k) 0 ≡ getD (orderOf near Q v) k 0
+
+abbrev pub Ordered : List ℕ → ℕ → List ℕ → List ℕ → Type 0
+Ordered near Q qubit len = Orderly near Q 20 qubit len

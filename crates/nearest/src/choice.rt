@@ -1,0 +1,205 @@
+// Which column is gathered next, and at which of its qubits: the nearest.
+use columns::gather;
+use columns::turning;
+use meaning::job::Job;
+ghost use mathlib.Core.Path.{_≡_};
+ghost use Prim.Native.Nat.{_+_, _-_, _*_, _≤_, _<_, min};
+ghost use lib.ListN.{length, getD, drop};
+ghost use Rattle.columns.specs.Gather.{gatherFrom};
+ghost use Rattle.nearest.specs.Choice.{triedAt, overQubits, chosen, outAt, leastOf};
+ghost use Rattle.nearest.specs.Sure.{Sure, Works, Whole, Told};
+ghost use Rattle.nearest.specs.Table.{Ordered};
+
+// More moves than any gathering has.
+pub const FAR: usize = gather::MOST + 1;
+
+// A column, one of its qubits, and how many moves gather it there.
+pub struct Choice {
+    pub column: usize,
+    pub qubit: usize,
+    pub moves: usize,
+}
+
+// How many moves take a qubit out of a set, and what they leave of it.
+struct Out {
+    moves: usize,
+    left: u32,
+}
+
+// u is taken out of x; `beside` has the neighbours of u that come earlier.
+fn out_of(beside: u32, u: usize, x: u32) -> Out
+    ensures { λ r. ⌜ r ≡ outAt beside u x ⌝ }
+{
+    if sets::holds(x, u) {
+        if beside & x == 0 {
+            if beside == 0 {
+                return Out { moves: 0, left: x };
+            }
+            let p = sets::lowest(beside);
+            return Out {
+                moves: 2,
+                left: x ^ sets::only(p) ^ sets::only(u),
+            };
+        }
+        return Out {
+            moves: 1,
+            left: x ^ sets::only(u),
+        };
+    }
+    Out { moves: 0, left: x }
+}
+
+fn slot(xs: &[usize], k: usize) -> usize
+    ensures { λ r. ⌜ r ≡ getD (now (xs .entry)) k 0 ⌝ }
+{
+    if k < xs.len() { xs[k] } else { 0 }
+}
+
+// How many moves more there are, and one, at least: a move takes out one qubit at most.
+fn least(whole: bool, x: u32) -> usize
+    ensures { λ r. ⌜ r ≡ leastOf whole x ⌝ }
+{
+    if whole { sets::size(x) } else { 0 }
+}
+
+// How many moves gather x by the `len` qubits that stand from `from` on; no more are counted than
+// `most`. It stops where there are sure to be as many.
+fn count(
+    near: &[u32],
+    order: &[usize],
+    from: usize,
+    len: usize,
+    set: u32,
+    whole: bool,
+    x: u32,
+    most: usize,
+) -> usize
+    requires { ⌜ (from ≤ 400) × (1 ≤ len) × (len ≤ 20) × Told whole (Whole (now near) (now order) from (len - 1) set x) ⌝ }
+    ensures { λ r. ⌜ r ≡ min most (length (gatherFrom (now (near .entry)) (drop from (now (order .entry))) (len - 1) set x)) ⌝ }
+{
+    let mut k = len - 1;
+    let mut earlier = set;
+    let mut left = x;
+    let mut n = 0;
+    while 0 < k {
+        if most <= n {
+            return most;
+        }
+        if most - n < least(whole, left) {
+            return most;
+        }
+        let u = slot(order, from + k);
+        earlier = earlier ^ sets::only(u);
+        let out = out_of(turning::entry(near, u) & earlier, u, left);
+        n += out.moves;
+        left = out.left;
+        k -= 1;
+    }
+    if most < n { most } else { n }
+}
+
+// The nearer of b and column k, which is x, gathered at v, where v is in x.
+fn tried(
+    near: &[u32],
+    order: &[usize],
+    len: &[usize],
+    set: u32,
+    whole: bool,
+    k: usize,
+    x: u32,
+    v: usize,
+    b: Choice,
+) -> Choice
+    requires { ⌜ Ordered (now near) set (now order) (now len) × (v < 20) × Told whole (Works (now near) set x) ⌝ }
+    ensures { λ r. ⌜ r ≡ triedAt (now (near .entry)) set k x v b ⌝ }
+{
+    if sets::holds(x, v) {
+        let n = count(
+            near,
+            order,
+            Job::QUBITS * v,
+            slot(len, v),
+            set,
+            whole,
+            x,
+            b.moves,
+        );
+        if n < b.moves {
+            return Choice {
+                column: k,
+                qubit: v,
+                moves: n,
+            };
+        }
+    }
+    b
+}
+
+// The nearest of b and the members of x, which is column k.
+fn over_qubits(
+    near: &[u32],
+    order: &[usize],
+    len: &[usize],
+    set: u32,
+    whole: bool,
+    k: usize,
+    x: u32,
+    b: Choice,
+) -> Choice
+    requires { ⌜ Ordered (now near) set (now order) (now len) × Told whole (Works (now near) set x) ⌝ }
+    ensures { λ r. ⌜ r ≡ overQubits (now (near .entry)) set k x 20 0 b ⌝ }
+{
+    let mut best = b;
+    for v in 0..Job::QUBITS {
+        best = tried(near, order, len, set, whole, k, x, v, best);
+    }
+    best
+}
+
+// The same; a column with more qubits than b has moves is no nearer.
+fn over_column(
+    near: &[u32],
+    order: &[usize],
+    len: &[usize],
+    set: u32,
+    sure: bool,
+    k: usize,
+    x: u32,
+    b: Choice,
+) -> Choice
+    requires { ⌜ Ordered (now near) set (now order) (now len) × Told sure (Sure (now near) set) ⌝ }
+    ensures { λ r. ⌜ r ≡ overQubits (now (near .entry)) set k x 20 0 b ⌝ }
+{
+    if sure {
+        if x & set == x {
+            if b.moves < sets::size(x) {
+                return b;
+            }
+            return over_qubits(near, order, len, set, true, k, x, b);
+        }
+    }
+    over_qubits(near, order, len, set, false, k, x, b)
+}
+
+// The nearest of all columns.
+pub(crate) fn choose(
+    near: &[u32],
+    order: &[usize],
+    len: &[usize],
+    set: u32,
+    sure: bool,
+    cols: &[u32],
+) -> Choice
+    requires { ⌜ Ordered (now near) set (now order) (now len) × Told sure (Sure (now near) set) ⌝ }
+    ensures { λ r. ⌜ r ≡ chosen (now (near .entry)) set (now (cols .entry)) ⌝ }
+{
+    let mut best = Choice {
+        column: 0,
+        qubit: 0,
+        moves: FAR,
+    };
+    for k in 0..cols.len() {
+        best = over_column(near, order, len, set, sure, k, cols[k], best);
+    }
+    best
+}

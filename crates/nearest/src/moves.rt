@@ -1,0 +1,86 @@
+// Moves are laid, and columns that become single are struck off after each of them.
+use columns::gather;
+use columns::striking;
+use columns::turning;
+use meaning::job::Job;
+ghost use mathlib.Core.Path.{_≡_};
+ghost use mathlib.Core.Bool.{false};
+ghost use Prim.Native.Nat.{_≤_};
+ghost use Rattle.columns.specs.Pieces.{held, wrote};
+ghost use Rattle.columns.specs.Striking.{strikeOff};
+ghost use Rattle.columns.specs.Gather.{cnotsIn};
+ghost use Rattle.nearest.specs.Moves.{someSingle, layMove, layMoves};
+ghost use Rattle.nearest.specs.Nearest.{gatherNext};
+
+fn some_single(cols: &[u32]) -> bool
+    ensures { λ r. ⌜ r ≡ someSingle (now (cols .entry)) ⌝ }
+{
+    for k in 0..cols.len() {
+        if sets::single(cols[k]) {
+            return true;
+        }
+    }
+    false
+}
+
+// Most moves leave nothing to strike off, and one pass over the columns shows it.
+fn strike(cols: &mut [u32], angles: &[u32], out: &mut [u32], at: usize) -> usize
+    ensures { λ r. ⌜ held (now (cols .exit)) (now (out .exit)) r false ≡ wrote (now (out .entry)) at (strikeOff (now (angles .entry)) (now (cols .entry))) ⌝ }
+{
+    if some_single(cols) {
+        return striking::strike(cols, angles, out, at);
+    }
+    at
+}
+
+fn lay_move(
+    cols: &mut [u32],
+    angles: &[u32],
+    out: &mut [u32],
+    at: usize,
+    control: usize,
+    target: usize,
+) -> usize
+    ensures { λ r. ⌜ held (now (cols .exit)) (now (out .exit)) r false ≡ wrote (now (out .entry)) at (layMove (now (angles .entry)) control target (now (cols .entry))) ⌝ }
+{
+    let a = turning::lay_cnot(cols, out, at, control, target);
+    strike(cols, angles, out, a)
+}
+
+fn lay_moves(
+    cols: &mut [u32],
+    angles: &[u32],
+    out: &mut [u32],
+    at: usize,
+    to: [usize; gather::MOST],
+    by: [usize; gather::MOST],
+    n: usize,
+) -> usize
+    requires { ⌜ n ≤ 38 ⌝ }
+    ensures { λ r. ⌜ held (now (cols .exit)) (now (out .exit)) r false ≡ wrote (now (out .entry)) at (layMoves (now (angles .entry)) (cnotsIn to by 0 n) (now (cols .entry))) ⌝ }
+{
+    let mut a = at;
+    for i in 0..n {
+        a = lay_move(cols, angles, out, a, to[i], by[i]);
+    }
+    a
+}
+
+// Column k is gathered at v.
+pub(crate) fn gather_next(
+    near: [u32; Job::QUBITS],
+    set: u32,
+    cols: &mut [u32],
+    angles: &[u32],
+    out: &mut [u32],
+    at: usize,
+    k: usize,
+    v: usize,
+) -> usize
+    ensures { λ r. ⌜ held (now (cols .exit)) (now (out .exit)) r false ≡ wrote (now (out .entry)) at (gatherNext near (now (angles .entry)) set k v (now (cols .entry))) ⌝ }
+{
+    let m = gather::gather(near, set, v, turning::entry(cols, k));
+    let to = m.to;
+    let by = m.by;
+    lay_moves(cols, angles, out, at, to, by, m.len)
+}
