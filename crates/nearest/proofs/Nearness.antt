@@ -32,7 +32,7 @@ module _ (near : List ℕ) (Q : ℕ) where
       go true false e = inl refl
       go false t e = inl refl
 
-  tried-le : (k x v : ℕ) (b : Choice) → triedAt near Q k x v b .moves ≤ b .moves
+  pub tried-le : (k x v : ℕ) (b : Choice) → triedAt near Q k x v b .moves ≤ b .moves
   unfolding triedAt nearer gathered
   tried-le k x v b = go (has x v) (ltb (length (gatherOf near Q v x)) (b .moves)) refl
     where
@@ -41,7 +41,7 @@ module _ (near : List ℕ) (Q : ℕ) where
       go true false e = omega arith
       go false t e = omega arith
 
-  tried-hit : (k x v : ℕ) (b : Choice) → has x v ≡ true → triedAt near Q k x v b .moves ≤ length (gatherOf near Q v x)
+  pub tried-hit : (k x v : ℕ) (b : Choice) → has x v ≡ true → triedAt near Q k x v b .moves ≤ length (gatherOf near Q v x)
   unfolding triedAt nearer gathered
   tried-hit k x v b h =
       subst (λ (t : Bool). pick t (pick (ltb (length (gatherOf near Q v x)) (b .moves)) (choice k v (length (gatherOf near Q v x))) b) b .moves ≤ length (gatherOf near Q v x)) (sym h)
@@ -53,13 +53,13 @@ module _ (near : List ℕ) (Q : ℕ) where
 
   -- ---- the qubits of a column
 
-  qubits-le : (k x d v : ℕ) (b : Choice) → overQubits near Q k x d v b .moves ≤ b .moves
+  pub qubits-le : (k x d v : ℕ) (b : Choice) → overQubits near Q k x d v b .moves ≤ b .moves
   qubits-le k x zero v b = subst (λ (c : Choice). c .moves ≤ b .moves) (sym (qubits-none near Q k x v b)) (omega arith)
   qubits-le k x (suc d) v b =
       subst (λ (c : Choice). c .moves ≤ b .moves) (sym (qubits-step near Q k x d v b))
       (omega (arith, qubits-le k x d (v + 1) (triedAt near Q k x v b), tried-le k x v b))
 
-  qubits-hit : (k x d v : ℕ) (b : Choice) (w : ℕ) → v ≤ w → w < v + d → has x w ≡ true → overQubits near Q k x d v b .moves ≤ length (gatherOf near Q w x)
+  pub qubits-hit : (k x d v : ℕ) (b : Choice) (w : ℕ) → v ≤ w → w < v + d → has x w ≡ true → overQubits near Q k x d v b .moves ≤ length (gatherOf near Q w x)
   qubits-hit k x zero v b w l h e = absurd (omega arith)
   qubits-hit k x (suc d) v b w l h e =
       subst (λ (c : Choice). c .moves ≤ length (gatherOf near Q w x)) (sym (qubits-step near Q k x d v b)) (go (ℕ-discrete v w) (qubits-hit k x d (v + 1) (triedAt near Q k x v b) w))

@@ -1,4 +1,4 @@
--- The orders from all qubits, worked out once.
+-- The orders from all qubits, worked out once (our own; docs/LAYING.md, gathering).
 use mathlib.Core.Path.{_≡_}
 use mathlib.Core.List.{List}
 use Prim.Native.Nat.{ℕ, _+_, _*_, _<_}

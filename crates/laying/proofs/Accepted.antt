@@ -1,0 +1,120 @@
+-- The circuit of a job that can be laid: its meaning, its couplers, its size; and test 9 is always passed. Assumes nothing.
+use mathlib.Core.Path.{_≡_, refl, sym, ap, _∙_, subst}
+use mathlib.Core.Bool.{Bool, true, false}
+use mathlib.Core.List.{List, [], _∷_}
+use Prim.Native.Nat.{ℕ, _+_, _-_, _*_, _≤_, _<_}
+use native.Mathlib.Omega.{arith}
+use lib.ListN.{length}
+use Rattle.sets.specs.Pick.{pick, both}
+use Rattle.sets.specs.Search.{someOf}
+use Rattle.sets.proofs.Finding.{first-is, some-no}
+use Rattle.meaning.specs.declared.gate.Gate.{Gate}
+use Rattle.meaning.specs.declared.gate.Gate.the-variants.{Cnot, Rotation, Bad}
+use Rattle.meaning.specs.declared.verdict.Verdict.the-variants.{Accepted, Stuck}
+use Rattle.meaning.specs.Layout.{gatesOf, Good}
+use Rattle.meaning.specs.Borne.{terms}
+use Rattle.meaning.specs.Same.{All, OnCoupler, SameMeaning, Reachable}
+use Rattle.meaning.specs.Tally.{tally, cnotsOf, rotationsOf, boundOf}
+use Rattle.meaning.specs.Verdicts.{numberOf}
+use Rattle.meaning.proofs.Judged.{then-on}
+use Rattle.meaning.proofs.Alls.{all-map}
+use Rattle.meaning.proofs.Bearing.{terms-few}
+use Rattle.meaning.proofs.Tallies.{product-le}
+use Rattle.meaning.proofs.Wiring.{good-up}
+use Rattle.chip.specs.Couplers.{nearOf}
+use Rattle.chip.specs.Islands.{islandOf}
+use Rattle.laying.specs.Islands.{leads}
+use Rattle.laying.specs.Laid.{onIsland, laidOf, stuckOn}
+use Rattle.laying.specs.Layable.{Layable}
+use Rattle.laying.specs.Memory.{Fine}
+use Rattle.laying.specs.Verdict.{judgedJob, judgedStuck, verdictOf, circuitOf}
+use Rattle.laying.proofs.Job.{laid-same, laid-good, laid-coupled, laid-reaches, laid-rotations, laid-cnots}
+use Rattle.laying.proofs.Both.{island-lays, island-placed, never-stuck}
+use Rattle.laying.proofs.Accepting.{job-layable}
+
+-- a good gate is a CNOT or a rotation
+good-length : (n : ℕ) (gs : List Gate) → All (Good n) gs → length gs ≡ cnotsOf gs + rotationsOf gs
+unfolding All Good cnotsOf rotationsOf tally
+good-length n [] a = omega arith
+good-length n (Cnot c t ∷ gs) a = omega (arith, good-length n gs (a .1))
+good-length n (Rotation q x ∷ gs) a = omega (arith, good-length n gs (a .1))
+good-length n (Bad ∷ gs) a = absurd (a .0)
+
+module _ (n : ℕ) (xs ys : List ℕ) (job : Layable n xs ys) where
+  abbrev gs : List Gate
+  gs = gatesOf n ys
+
+  abbrev C : List Gate
+  C = circuitOf n xs ys
+
+  abbrev on : ℕ → List Gate
+  on q = onIsland (nearOf n xs) gs q .laid
+
+  pub circuit-same : SameMeaning n gs C
+  unfolding circuitOf laidOf
+  circuit-same = laid-same n xs gs (job .few) (job .good) (job .fit) (job .within) on (island-lays n xs ys job) (island-placed n xs ys job)
+
+  pub circuit-good : All (Good n) C
+  unfolding circuitOf laidOf
+  circuit-good = laid-good n xs gs (job .few) (job .good) (job .fit) (job .within) on (island-lays n xs ys job) (island-placed n xs ys job)
+
+  pub circuit-coupled : All (OnCoupler xs) C
+  unfolding circuitOf laidOf
+  circuit-coupled = laid-coupled n xs gs (job .few) (job .good) (job .fit) (job .within) on (island-lays n xs ys job) (island-placed n xs ys job)
+
+  pub circuit-rotations : rotationsOf C ≡ length (terms gs)
+  unfolding circuitOf laidOf
+  circuit-rotations = laid-rotations n xs gs (job .few) (job .good) (job .fit) (job .within) on (island-lays n xs ys job) (island-placed n xs ys job)
+
+  pub circuit-cnots : cnotsOf C ≤ 2 * (n - 1) * length (terms gs) + 2 * n * (n - 1)
+  unfolding circuitOf laidOf
+  circuit-cnots = laid-cnots n xs gs (job .few) (job .good) (job .fit) (job .within) on (island-lays n xs ys job) (island-placed n xs ys job)
+
+  pub circuit-reaches : Reachable n xs gs
+  circuit-reaches = record { circuit = C; good = circuit-good; coupled = circuit-coupled; same = circuit-same }
+
+  pub circuit-bounded : length C ≤ boundOf n (length (terms gs))
+  unfolding boundOf
+  circuit-bounded = omega (arith, good-length n C circuit-good, circuit-rotations, circuit-cnots)
+
+  pub circuit-fine : Fine C
+  circuit-fine = record { few = most; good = all-map (Good n) (Good 20) (λ g h. good-up n 20 g (job .few) h) C circuit-good }
+    where
+      t : ℕ
+      t = length (terms gs)
+
+      most : length C ≤ 10744
+      most =
+          let f = job .few in
+          let a : t ≤ 256 = omega (arith, terms-few gs, job .fit) in
+          omega (
+            arith,
+            good-length n C circuit-good,
+            circuit-rotations,
+            circuit-cnots,
+            product-le (2 * (n - 1)) t 38 256 (omega arith) a,
+            product-le (2 * n) (n - 1) 40 19 (omega arith) (omega arith),
+          )
+
+  -- "steps ran out" on no island
+  pub none-stuck : stuckOn n (nearOf n xs) gs ≡ false
+  unfolding stuckOn
+  none-stuck =
+      some-no stuck n n (omega arith)
+      (first-is stuck n n (omega arith) (λ (h : n < n). absurd (omega arith)) (λ q l. other (leads (islandOf (nearOf n xs)) q) (onIsland (nearOf n xs) gs q .stuck) (never-stuck n xs ys job q l)))
+    where
+      stuck : ℕ → Bool
+      stuck q = both (leads (islandOf (nearOf n xs)) q) (onIsland (nearOf n xs) gs q .stuck)
+
+      other : (a b : Bool) → b ≡ false → both a b ≡ false
+      other true b e = e
+      other false b e = refl
+
+  pub stuck-passed : judgedStuck n (nearOf n xs) gs ≡ Accepted
+  unfolding judgedStuck
+  stuck-passed = ap (λ (b : Bool). pick b Stuck Accepted) none-stuck
+
+-- past tests 1 to 8 a job is accepted
+pub job-accepted : (n : ℕ) (xs ys : List ℕ) (room : ℕ) → numberOf (judgedJob n xs ys room) ≡ 0 → verdictOf n xs ys room ≡ Accepted
+unfolding verdictOf
+job-accepted n xs ys room e = sym (then-on (judgedJob n xs ys room) (judgedStuck n (nearOf n xs) (gatesOf n ys)) e) ∙ stuck-passed n xs ys (job-layable n xs ys room e)

@@ -1,0 +1,107 @@
+-- Equal islands get equal gates, whatever else their jobs hold. Assumes nothing.
+use mathlib.Core.Path.{_≡_, refl, sym, ap, ap₂, _∙_, subst}
+use mathlib.Core.Logic.{_≢_, _⊎_, inl, inr}
+use mathlib.Core.Bool.{Bool, true, false}
+use mathlib.Core.List.{List, [], _∷_, _++_, append-nil, map}
+use Prim.Native.Nat.{ℕ, zero, suc, _+_, _^_, _≤_, _<_}
+use native.Mathlib.Omega.{arith}
+use native.Mathlib.Decide.{ℕ-discrete, decLt}
+use lib.ListN.{length, getD}
+use lib.Bits.{bitAnd}
+use Rattle.sets.specs.Pick.{pick}
+use Rattle.sets.specs.Bit.{bit, has, In, Sub}
+use Rattle.sets.specs.Size.{lowestOf}
+use Rattle.sets.proofs.Bits.{bit-cases}
+use Rattle.sets.proofs.Members.{in-and, and-in, sub-eq}
+use Rattle.sets.proofs.Words.{in-has, out-has}
+use Rattle.meaning.specs.declared.gate.Gate.{Gate}
+use Rattle.meaning.specs.declared.gate.Gate.the-variants.{Cnot, Rotation, Bad}
+use Rattle.meaning.specs.Same.{All, Listed}
+use Rattle.meaning.specs.Circuit.{sumOf}
+use Rattle.meaning.specs.Borne.{Among, sumsOf}
+use Rattle.meaning.proofs.Lists.{Up, ascending-same}
+use Rattle.chip.specs.Graph.{Near, Symm, Chain, here, next}
+use Rattle.columns.specs.Terms.{Inside}
+use Rattle.laying.specs.Own.{ownSets, ownTerms}
+use Rattle.laying.specs.Islands.{leads, laidTo}
+use Rattle.laying.specs.Demands.{isOn, gatesOn}
+use Rattle.laying.proofs.Parting.{Parts, on-led, leads-is}
+use Rattle.laying.proofs.Composing.{laid-led, laid-not}
+use Rattle.laying.proofs.Restricting.{own-same}
+use Rattle.laying.proofs.Owning.{own-up, own-has, own-back}
+
+-- ---- the gates on one island among those of all
+
+on-append : (S : ℕ) (g h : List Gate) → gatesOn S (g ++ h) ≡ gatesOn S g ++ gatesOn S h
+unfolding gatesOn
+on-append S [] h = refl
+on-append S (x ∷ g) h = go (isOn S x) (on-append S g h)
+  where
+    go : (b : Bool) → gatesOn S (g ++ h) ≡ gatesOn S g ++ gatesOn S h
+        → pick b (x ∷ gatesOn S (g ++ h)) (gatesOn S (g ++ h)) ≡ pick b (x ∷ gatesOn S g) (gatesOn S g) ++ gatesOn S h
+    go true e = ap (λ (l : List Gate). x ∷ l) e
+    go false e = e
+
+on-all : (near : List ℕ) (S : ℕ) (gs : List Gate) → All (Inside near S) gs → gatesOn S gs ≡ gs
+unfolding gatesOn isOn All Inside
+on-all near S [] a = refl
+on-all near S (Cnot c t ∷ gs) a = ap (λ (b : Bool). pick b (Cnot c t ∷ gatesOn S gs) (gatesOn S gs)) (in-has S c (a .0 .1)) ∙ ap (λ (l : List Gate). Cnot c t ∷ l) (on-all near S gs (a .1))
+on-all near S (Rotation q x ∷ gs) a = ap (λ (b : Bool). pick b (Rotation q x ∷ gatesOn S gs) (gatesOn S gs)) (in-has S q (a .0)) ∙ ap (λ (l : List Gate). Rotation q x ∷ l) (on-all near S gs (a .1))
+on-all near S (Bad ∷ gs) a = absurd (a .0)
+
+on-none : (near : List ℕ) (S R : ℕ) → ((i : ℕ) → In i R → bit S i ≡ 0) → (gs : List Gate) → All (Inside near R) gs → gatesOn S gs ≡ []
+unfolding gatesOn isOn All Inside
+on-none near S R off [] a = refl
+on-none near S R off (Cnot c t ∷ gs) a = ap (λ (b : Bool). pick b (Cnot c t ∷ gatesOn S gs) (gatesOn S gs)) (out-has S c (off c (a .0 .1))) ∙ on-none near S R off gs (a .1)
+on-none near S R off (Rotation q x ∷ gs) a = ap (λ (b : Bool). pick b (Rotation q x ∷ gatesOn S gs) (gatesOn S gs)) (out-has S q (off q (a .0))) ∙ on-none near S R off gs (a .1)
+on-none near S R off (Bad ∷ gs) a = absurd (a .0)
+
+module _ (n : ℕ) (isl : ℕ → ℕ) (few : n ≤ 20) (parts : Parts n isl) (on : ℕ → List Gate) (nears : ℕ → List ℕ)
+    (inside : (q : ℕ) → q < n → All (Inside (nears q) (isl q)) (on q)) (j : ℕ) (lj : j < n) (ej : leads isl j ≡ true) where
+  apart : (q : ℕ) → q < n → leads isl q ≡ true → q ≢ j → (i : ℕ) → In i (isl q) → bit (isl j) i ≡ 0
+  apart q l e ne i m = go (bit-cases (isl j) i)
+    where
+      go : (bit (isl j) i ≡ 0) ⊎ (bit (isl j) i ≡ 1) → bit (isl j) i ≡ 0
+      go (inl z) = z
+      go (inr k) = absurd (ne (sym (on-led n isl few parts q i l e m) ∙ on-led n isl few parts j i lj ej k))
+
+  before : (k : ℕ) → k ≤ n → k ≤ j → gatesOn (isl j) (laidTo isl on k) ≡ []
+  before zero l b = unfold laidTo gatesOn in refl
+  before (suc k) l b = go (leads isl k) refl (before k (omega arith) (omega arith))
+    where
+      go : (t : Bool) → leads isl k ≡ t → gatesOn (isl j) (laidTo isl on k) ≡ [] → gatesOn (isl j) (laidTo isl on (suc k)) ≡ []
+      go true e ih =
+          ap (gatesOn (isl j)) (laid-led n isl few parts on k e) ∙ on-append (isl j) (laidTo isl on k) (on k)
+          ∙ ap₂ (λ (a b : List Gate). a ++ b) ih (on-none (nears k) (isl j) (isl k) (apart k l e (λ (d : k ≡ j). omega arith)) (on k) (inside k l))
+      go false e ih = ap (gatesOn (isl j)) (laid-not n isl few parts on k e) ∙ ih
+
+  pub gates-on : (k : ℕ) → k ≤ n → j < k → gatesOn (isl j) (laidTo isl on k) ≡ on j
+  gates-on zero l b = absurd (omega arith)
+  gates-on (suc k) l b = go (leads isl k) refl (ℕ-discrete k j) (gates-on k (omega arith))
+    where
+      go : (t : Bool) → leads isl k ≡ t → Dec (k ≡ j) → (j < k → gatesOn (isl j) (laidTo isl on k) ≡ on j) → gatesOn (isl j) (laidTo isl on (suc k)) ≡ on j
+      go true e (yes d) ih =
+          ap (gatesOn (isl j)) (laid-led n isl few parts on k e) ∙ on-append (isl j) (laidTo isl on k) (on k)
+          ∙ ap₂ (λ (a b : List Gate). a ++ b) (before k (omega arith) (omega arith))
+          (subst (λ (m : ℕ). gatesOn (isl j) (on m) ≡ on j) (sym d) (on-all (nears j) (isl j) (on j) (inside j lj)))
+      go true e (no d) ih =
+          ap (gatesOn (isl j)) (laid-led n isl few parts on k e) ∙ on-append (isl j) (laidTo isl on k) (on k)
+          ∙ ap₂ (λ (a b : List Gate). a ++ b) (ih (omega arith)) (on-none (nears k) (isl j) (isl k) (apart k l e d) (on k) (inside k l)) ∙ append-nil (on j)
+      go false e (yes d) ih = absurd (let z : _≡_ {A = ℕ} 1 0 = ap (λ (b : Bool). pick b 1 0) (sym (subst (λ (m : ℕ). leads isl m ≡ true) (sym d) ej) ∙ e) in omega arith)
+      go false e (no d) ih = ap (gatesOn (isl j)) (laid-not n isl few parts on k e) ∙ ih (omega arith)
+
+-- ---- what an island gets in two jobs
+
+pub near-alike : (S : ℕ) (xs ys : List ℕ) → ((u v : ℕ) → In u S → In v S → Near xs u v → Near ys u v) → ((u v : ℕ) → In u S → In v S → Near ys u v → Near xs u v)
+    → ownSets S xs ≡ ownSets S ys
+near-alike S xs ys f g =
+    own-same S xs ys (λ i l m. sub-eq (bitAnd (getD xs i 0) S) (bitAnd (getD ys i 0) S)
+    (λ v k. let r = in-and (getD xs i 0) S v k in and-in (getD ys i 0) S v (f i v m (r .1) (r .0)) (r .1))
+    (λ v k. let r = in-and (getD ys i 0) S v k in and-in (getD xs i 0) S v (g i v m (r .1) (r .0)) (r .1)))
+
+pub terms-alike : (S : ℕ) (ps rs : List ℕ) → Up 0 ps → Up 0 rs → ((p : ℕ) → Sub p S → Among p ps → Among p rs) → ((p : ℕ) → Sub p S → Among p rs → Among p ps)
+    → ownTerms S ps ≡ ownTerms S rs
+terms-alike S ps rs u v f g =
+    ascending-same 0 (ownTerms S ps) (ownTerms S rs) (own-up S 0 ps u) (own-up S 0 rs v)
+    (λ p h. let r = own-back S p ps h in own-has S p rs (f p (r .1) (r .0)) (r .1))
+    (λ p h. let r = own-back S p rs h in own-has S p ps (g p (r .1) (r .0)) (r .1))

@@ -1,0 +1,91 @@
+-- What the entry point answers and leaves is what the definitions say. Assumes nothing.
+use mathlib.Core.Path.{_≡_, refl, sym, ap, ap₂, _∙_, subst}
+use mathlib.Core.Bool.{Bool, true, false}
+use mathlib.Core.List.{List, _++_, map}
+use Prim.Native.Nat.{ℕ, _+_, _≤_, _<_}
+use native.Mathlib.Omega.{arith}
+use lib.Dec.{eqb}
+use lib.ListN.{length, take, drop, replicate}
+use borrow.Author.Tests.{eq-eqb, ne-eqb}
+use Rattle.sets.specs.Pick.{pick}
+use Rattle.meaning.specs.declared.gate.Gate.{Gate}
+use Rattle.meaning.specs.declared.verdict.Verdict.{Verdict}
+use Rattle.meaning.specs.declared.verdict.Verdict.the-variants.{Accepted}
+use Rattle.meaning.specs.Layout.{gatesOf, recordOf}
+use Rattle.meaning.specs.Verdicts.{numberOf}
+use Rattle.meaning.proofs.Judged.{then-stop}
+use Rattle.chip.specs.Couplers.{nearOf}
+use Rattle.columns.specs.Emit.{emit, emitAt}
+use Rattle.columns.proofs.Emitting.{emit-room}
+use Rattle.steps.specs.declared.Laid.{Laid}
+use Rattle.steps.specs.declared.Laid.the-variants.{On, Stuck}
+use Rattle.laying.specs.declared.lay.Answer.{Answer}
+use Rattle.laying.specs.declared.lay.Answer.the-variants.{Refused}
+use Rattle.laying.specs.Layable.{Layable}
+use Rattle.laying.specs.Verdict.{judgedJob, judgedStuck, verdictOf, circuitOf, countsOf, answered, outputOf}
+use Rattle.laying.proofs.Replaying.{gates-read, gates-back}
+use Rattle.laying.proofs.Accepting.{job-layable, job-room}
+use Rattle.laying.proofs.Accepted.{circuit-good, circuit-fine, circuit-bounded, job-accepted}
+
+-- ---- an answer of `lay_islands`
+
+pub on-same : (r : Laid) (k m : ℕ) → r ≡ On k → r ≡ On m → k ≡ m
+on-same r k m a b = ap place (sym a ∙ b)
+  where
+    place : Laid → ℕ
+    place (On i) = i
+    place (Stuck i) = 0
+
+pub on-not-stuck : (r : Laid) (k m : ℕ) → r ≡ On k → r ≡ Stuck m → ⊥
+on-not-stuck r k m a b = let z : _≡_ {A = ℕ} 1 0 = ap mark (sym a ∙ b) in omega arith
+  where
+    mark : Laid → ℕ
+    mark (On i) = 1
+    mark (Stuck i) = 0
+
+module _ (n : ℕ) (xs ys : List ℕ) (out : List ℕ) where
+  abbrev room : ℕ
+  room = length out
+
+  abbrev C : List Gate
+  C = circuitOf n xs ys
+
+  -- ---- refused
+
+  pub refused : (v : Verdict) → v ≡ judgedJob n xs ys room → (numberOf v ≡ 0 → ⊥) → (Refused v ≡ answered n xs ys room) × (out ≡ outputOf n xs ys out)
+  unfolding answered outputOf verdictOf
+  refused v e ne =
+      let w : judgedJob n xs ys room ≡ verdictOf n xs ys room = then-stop (judgedJob n xs ys room) _ (λ z. ne (ap numberOf e ∙ z)) in
+      let b : eqb (numberOf (verdictOf n xs ys room)) 0 ≡ false = ne-eqb (numberOf (verdictOf n xs ys room)) 0 (λ z. ne (ap numberOf (e ∙ w) ∙ z)) in (
+        ap Refused (e ∙ w) ∙ sym (ap (λ (t : Bool). pick t (countsOf C) (Refused (verdictOf n xs ys room))) b),
+        sym (ap (λ (t : Bool). pick t (map recordOf C ++ drop (length C) out) out) b),
+      )
+
+  -- ---- accepted
+
+  module _ (e : numberOf (judgedJob n xs ys room) ≡ 0) where
+    abbrev job : Layable n xs ys
+    job = job-layable n xs ys room e
+
+    accepted : eqb (numberOf (verdictOf n xs ys room)) 0 ≡ true
+    accepted = eq-eqb (numberOf (verdictOf n xs ys room)) 0 (ap numberOf (job-accepted n xs ys room e))
+
+    module _ (laid : List ℕ) (k : ℕ) (a : laid ≡ emit (replicate 10744 0) 0 C) (b : k ≡ emitAt (replicate 10744 0) 0 C) where
+      counts-are : (r : Answer) → r ≡ countsOf (gatesOf n (take k laid)) → r ≡ answered n xs ys room
+      unfolding answered
+      counts-are r h =
+          let f = job .few in
+          h ∙ ap countsOf (ap₂ (λ (i : ℕ) (l : List ℕ). gatesOf n (take i l)) b a ∙ gates-read C (circuit-fine n xs ys job) n (omega arith) (circuit-good n xs ys job))
+          ∙ sym (ap (λ (t : Bool). pick t (countsOf C) (Refused (verdictOf n xs ys room))) accepted)
+
+      output-is : (out′ : List ℕ) → out′ ≡ emit out 0 (gatesOf 20 (take k laid)) → out′ ≡ outputOf n xs ys out
+      unfolding outputOf
+      output-is out′ h =
+          h ∙ ap (emit out 0) (ap₂ (λ (i : ℕ) (l : List ℕ). gatesOf 20 (take i l)) b a ∙ gates-back C (circuit-fine n xs ys job))
+          ∙ emit-room out 0 C (omega (arith, circuit-bounded n xs ys job, job-room n xs ys room e))
+          ∙ ap (λ (j : ℕ). map recordOf C ++ drop j out) (let z : 0 + length C ≡ length C = omega arith in z)
+          ∙ sym (ap (λ (t : Bool). pick t (map recordOf C ++ drop (length C) out) out) accepted)
+
+      pub copied : (r : Answer) (out′ : List ℕ) → r ≡ countsOf (gatesOf n (take k laid)) → out′ ≡ emit out 0 (gatesOf 20 (take k laid))
+          → (r ≡ answered n xs ys room) × (out′ ≡ outputOf n xs ys out)
+      copied r out′ g h = (counts-are r g, output-is out′ h)

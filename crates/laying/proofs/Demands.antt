@@ -1,0 +1,213 @@
+-- The three demands, of `answered` and `outputOf`, which the contract of `laying::lay::lay` ties to the program. Assumes nothing.
+use mathlib.Core.Path.{_≡_, refl, sym, ap, ap₂, _∙_, subst}
+use mathlib.Core.Logic.{_≢_}
+use mathlib.Core.Bool.{Bool, true, false}
+use mathlib.Core.List.{List, _++_, map}
+use Prim.Native.Nat.{ℕ, _≤_, _<_}
+use native.Mathlib.Omega.{arith}
+use native.Mathlib.Decide.{ℕ-discrete}
+use lib.Dec.{eqb}
+use lib.ListN.{length, drop}
+use borrow.Author.Tests.{eqb-true, eqb-false}
+use Rattle.sets.specs.Pick.{pick}
+use Rattle.meaning.specs.declared.gate.Gate.{Gate}
+use Rattle.meaning.specs.declared.verdict.Verdict.{Verdict}
+use Rattle.meaning.specs.declared.verdict.Verdict.the-variants.{Accepted}
+use Rattle.meaning.specs.Layout.{gatesOf, recordOf, Good}
+use Rattle.meaning.specs.Borne.{overAt}
+use Rattle.meaning.specs.Same.{All, Reachable}
+use Rattle.meaning.specs.Tally.{cnotsOf, rotationsOf, depthOf}
+use Rattle.meaning.specs.Verdicts.{numberOf, placeOf, judgedQubits, judgedCouplers, judgedGates}
+use Rattle.meaning.specs.InOrder.{andThen}
+use Rattle.meaning.proofs.Judged.{zero-accepted, then-on, then-stop, then-zero}
+use Rattle.meaning.proofs.Alls.{accepted-good}
+use Rattle.chip.specs.Couplers.{nearOf}
+use Rattle.chip.specs.Islands.{islandOf, islandsOf}
+use Rattle.laying.specs.declared.lay.Answer.{Answer}
+use Rattle.laying.specs.declared.lay.Answer.the-variants.{Laid, Refused}
+use Rattle.laying.specs.Layable.{Layable}
+use Rattle.laying.specs.Verdict.{judgedCount, judgedParities, judgedReach, judgedRoom, judgedMeaning, judgedJob, judgedStuck, verdictOf, circuitOf, countsOf, answered, outputOf, verdictIn, numberIn, placeIn, recordsIn, cnotsIn, rotationsIn, depthIn}
+use Rattle.laying.specs.Demands.{Island, gatesOn, Faithful, judgedSix, Stays, Strays, Agree}
+use Rattle.laying.proofs.Job.{only-inside}
+use Rattle.laying.proofs.Judging.{qubits-few, over-few}
+use Rattle.laying.proofs.Accepting.{reach-within, within-reach, reach-number, reach-place, parities-whole, job-layable, job-room, job-listed, job-not-stuck, room-number}
+use Rattle.laying.proofs.Accepted.{circuit-same, circuit-good, circuit-coupled, circuit-rotations, circuit-cnots, circuit-bounded, circuit-reaches, stuck-passed, job-accepted}
+use Rattle.laying.proofs.Linking.{linked-in, in-linked}
+use Rattle.laying.proofs.Twice.{same-gates}
+
+-- ---- demand 1
+
+module _ (n : ℕ) (couplers gates out : List ℕ) where
+  abbrev answer : Answer
+  answer = answered n couplers gates (length out)
+
+  abbrev verdict : Verdict
+  verdict = verdictOf n couplers gates (length out)
+
+  abbrev circuit : List Gate
+  circuit = circuitOf n couplers gates
+
+  -- every job gets the answer of the first test that it fails, of 1 to 9 in that order, or is accepted
+  pub demand-1-verdict : verdictIn answer ≡ verdict
+  unfolding answered
+  demand-1-verdict = go (eqb (numberOf verdict) 0) refl
+    where
+      go : (b : Bool) → eqb (numberOf verdict) 0 ≡ b → verdictIn (pick b (countsOf circuit) (Refused verdict)) ≡ verdict
+      go true e = unfold countsOf in sym (zero-accepted verdict (eqb-true (numberOf verdict) 0 e))
+      go false e = refl
+
+  -- "On refusal all counts are 0 and no lent record has changed"
+  pub demand-1-refused : numberOf verdict ≢ 0 → (recordsIn answer ≡ 0) × (cnotsIn answer ≡ 0) × (rotationsIn answer ≡ 0) × (depthIn answer ≡ 0) × (outputOf n couplers gates out ≡ out)
+  unfolding answered outputOf
+  demand-1-refused ne = go (eqb (numberOf verdict) 0) refl
+    where
+      go : (b : Bool) → eqb (numberOf verdict) 0 ≡ b
+          → let a = pick b (countsOf circuit) (Refused verdict) in
+          (recordsIn a ≡ 0) × (cnotsIn a ≡ 0) × (rotationsIn a ≡ 0) × (depthIn a ≡ 0) × (pick b (map recordOf circuit ++ drop (length circuit) out) out ≡ out)
+      go true e = absurd (ne (eqb-true (numberOf verdict) 0 e))
+      go false e = (refl, refl, refl, refl, refl)
+
+  -- "An acceptance returns the number of records, CNOTs, rotations and the depth; the first records of the output are the circuit and all later ones stay"
+  pub demand-1-accepted : numberOf verdict ≡ 0
+      → (recordsIn answer ≡ length circuit) × (cnotsIn answer ≡ cnotsOf circuit) × (rotationsIn answer ≡ rotationsOf circuit) × (depthIn answer ≡ depthOf circuit)
+      × (outputOf n couplers gates out ≡ map recordOf circuit ++ drop (length circuit) out)
+  unfolding answered outputOf countsOf
+  demand-1-accepted z = go (eqb (numberOf verdict) 0) refl
+    where
+      go : (b : Bool) → eqb (numberOf verdict) 0 ≡ b
+          → let a = pick b (Laid (length circuit) (cnotsOf circuit) (rotationsOf circuit) (depthOf circuit)) (Refused verdict) in
+          (recordsIn a ≡ length circuit) × (cnotsIn a ≡ cnotsOf circuit) × (rotationsIn a ≡ rotationsOf circuit) × (depthIn a ≡ depthOf circuit)
+          × (pick b (map recordOf circuit ++ drop (length circuit) out) out ≡ map recordOf circuit ++ drop (length circuit) out)
+      go true e = (refl, refl, refl, refl, refl)
+      go false e = absurd (eqb-false (numberOf verdict) 0 e z)
+
+-- ---- demand 2
+
+-- an accepted job passed tests 1 to 8
+accepted-job : (n : ℕ) (couplers gates : List ℕ) (room : ℕ) → numberOf (verdictOf n couplers gates room) ≡ 0 → numberOf (judgedJob n couplers gates room) ≡ 0
+unfolding verdictOf
+accepted-job n couplers gates room z = then-zero (judgedJob n couplers gates room) _ z .0
+
+-- the circuit has the meaning of the job, is on its couplers and within the bound
+pub demand-2 : (n : ℕ) (couplers gates : List ℕ) (room : ℕ) → numberOf (verdictOf n couplers gates room) ≡ 0 → Faithful n couplers (gatesOf n gates) (circuitOf n couplers gates)
+demand-2 n couplers gates room z =
+    let job = job-layable n couplers gates room (accepted-job n couplers gates room z) in
+    record {
+      same = circuit-same n couplers gates job;
+      good = circuit-good n couplers gates job;
+      coupled = circuit-coupled n couplers gates job;
+      rotations = circuit-rotations n couplers gates job;
+      cnots = circuit-cnots n couplers gates job;
+      bound = circuit-bounded n couplers gates job;
+    }
+
+-- B is never exceeded: the records fit the room lent
+pub demand-2-fits : (n : ℕ) (couplers gates : List ℕ) (room : ℕ) → numberOf (verdictOf n couplers gates room) ≡ 0 → length (circuitOf n couplers gates) ≤ room
+demand-2-fits n couplers gates room z =
+    let e = accepted-job n couplers gates room z in
+    omega (arith, circuit-bounded n couplers gates (job-layable n couplers gates room e), job-room n couplers gates room e)
+
+-- "steps ran out" is never answered
+pub demand-2-never-9 : (n : ℕ) (couplers gates : List ℕ) (room : ℕ) → numberOf (verdictOf n couplers gates room) ≢ 9
+demand-2-never-9 n couplers gates room h = go (ℕ-discrete (numberOf (judgedJob n couplers gates room)) 0)
+  where
+    stopped : (numberOf (judgedJob n couplers gates room) ≡ 0 → ⊥) → judgedJob n couplers gates room ≡ verdictOf n couplers gates room
+    stopped ne = unfold verdictOf in then-stop (judgedJob n couplers gates room) (judgedStuck n (nearOf n couplers) (gatesOf n gates)) ne
+
+    go : Dec (numberOf (judgedJob n couplers gates room) ≡ 0) → ⊥
+    go (yes z) = let y : _≡_ {A = ℕ} 0 9 = sym (ap numberOf (job-accepted n couplers gates room z)) ∙ h in omega arith
+    go (no ne) = job-not-stuck n couplers gates room (ap numberOf (stopped ne) ∙ h)
+
+module _ (n : ℕ) (couplers gates : List ℕ) (room : ℕ) (six : numberOf (judgedSix n couplers gates) ≡ 0) where
+  abbrev drawn : List Gate
+  drawn = gatesOf n gates
+
+  abbrev reach : Verdict
+  reach = judgedReach n (islandsOf (nearOf n couplers)) drawn
+
+  record Past : Type 0 where
+    qubits : numberOf (judgedQubits n) ≡ 0
+    listed : numberOf (judgedCouplers n couplers) ≡ 0
+    count : numberOf (judgedCount gates) ≡ 0
+    good : numberOf (judgedGates n gates) ≡ 0
+    parities : numberOf (judgedParities drawn) ≡ 0
+
+  past : Past
+  unfolding judgedSix
+  past =
+      let a = then-zero (judgedQubits n) _ six in
+      let b = then-zero (judgedCouplers n couplers) _ (a .1) in
+      let c = then-zero (judgedCount gates) _ (b .1) in
+      let d = then-zero (judgedGates n gates) _ (c .1) in
+      record { qubits = a .0; listed = b .0; count = c .0; good = d .0; parities = d .1 }
+
+  few : n ≤ 20
+  few = qubits-few n (past .qubits) .1
+
+  allGood : All (Good n) drawn
+  allGood = accepted-good n gates (zero-accepted (judgedGates n gates) (past .good))
+
+  ok : judgedCouplers n couplers ≡ Accepted
+  ok = zero-accepted (judgedCouplers n couplers) (past .listed)
+
+  -- past tests 1 to 6 the verdict is that of 7, 8 and 9
+  rest : andThen (andThen reach (judgedRoom n drawn room)) (judgedStuck n (nearOf n couplers) drawn) ≡ verdictOf n couplers gates room
+  unfolding verdictOf judgedJob judgedMeaning
+  rest =
+      ap (λ (v : Verdict). andThen v (judgedStuck n (nearOf n couplers) drawn))
+      (then-on (judgedParities drawn) _ (past .parities) ∙ then-on (judgedGates n gates) _ (past .good) ∙ then-on (judgedCount gates) _ (past .count)
+      ∙ then-on (judgedCouplers n couplers) _ (past .listed) ∙ then-on (judgedQubits n) _ (past .qubits))
+
+  layable : numberOf reach ≡ 0 → Layable n couplers gates
+  layable z =
+      let w : overAt drawn ≡ length drawn = parities-whole drawn (past .parities) in
+      record { few = few; good = allGood; whole = w; fit = over-few drawn w; within = reach-within n couplers drawn few allGood z }
+
+  refused-7 : (numberOf reach ≡ 0 → ⊥) → reach ≡ verdictOf n couplers gates room
+  refused-7 ne =
+      let a : reach ≡ andThen reach (judgedRoom n drawn room) = then-stop reach (judgedRoom n drawn room) ne in
+      a ∙ then-stop (andThen reach (judgedRoom n drawn room)) (judgedStuck n (nearOf n couplers) drawn) (λ z. ne (ap numberOf a ∙ z)) ∙ rest
+
+  -- refused as unreachable only where no circuit of coupler CNOTs and rotations has the meaning
+  pub demand-2-unreachable : numberOf (verdictOf n couplers gates room) ≡ 7 → Reachable n couplers drawn → ⊥
+  demand-2-unreachable h r =
+      let p : reach ≡ Accepted = within-reach n couplers drawn few allGood (only-inside n couplers few ok drawn r) in
+      let q : judgedStuck n (nearOf n couplers) drawn ≡ Accepted = stuck-passed n couplers gates (layable (ap numberOf p)) in
+      room-number n drawn room
+      (ap numberOf (ap₂ (λ (v w : Verdict). andThen (andThen v (judgedRoom n drawn room)) w) (sym p) (sym q) ∙ rest) ∙ h)
+
+  -- and wherever none has
+  pub demand-2-refused : (Reachable n couplers drawn → ⊥) → numberOf (verdictOf n couplers gates room) ≡ 7
+  demand-2-refused no-circuit =
+      let ne : numberOf reach ≡ 0 → ⊥ = λ z. no-circuit (circuit-reaches n couplers gates (layable z)) in
+      sym (ap numberOf (refused-7 ne)) ∙ reach-number n couplers drawn few allGood ne
+
+  -- at the lowest wire whose final parity leaves its island, else n
+  pub demand-2-place : numberOf (verdictOf n couplers gates room) ≡ 7 → Strays n couplers drawn (placeOf (verdictOf n couplers gates room))
+  unfolding Stays
+  demand-2-place h =
+      let ne : numberOf reach ≡ 0 → ⊥ = λ z. demand-2-unreachable h (circuit-reaches n couplers gates (layable z)) in
+      subst (λ (v : Verdict). Strays n couplers drawn (placeOf v)) (refused-7 ne) strays
+    where
+      strays : Strays n couplers drawn (placeOf reach)
+      strays =
+          let ne : numberOf reach ≡ 0 → ⊥ = λ z. demand-2-unreachable h (circuit-reaches n couplers gates (layable z)) in
+          let s = reach-place n couplers drawn few allGood ne in
+          record {
+            most = s .0;
+            before = λ i l j m. in-linked n couplers few ok i j (let b = s .0 in omega arith) (s .1 i l j m);
+            here = λ l stay. s .2 l (λ j m. linked-in n couplers few ok (placeOf reach) j (stay j m));
+          }
+
+-- ---- demand 3
+
+-- the gates laid on an island depend on nothing but its couplers, its final parities and its sums
+pub demand-3 : (n m : ℕ) (couplers couplers′ gates gates′ : List ℕ) (room room′ : ℕ)
+    → numberOf (verdictOf n couplers gates room) ≡ 0 → numberOf (verdictOf m couplers′ gates′ room′) ≡ 0
+    → (S q r : ℕ) → Island n couplers S q → Island m couplers′ S r → Agree S couplers couplers′ (gatesOf n gates) (gatesOf m gates′)
+    → gatesOn S (circuitOf n couplers gates) ≡ gatesOn S (circuitOf m couplers′ gates′)
+demand-3 n m couplers couplers′ gates gates′ room room′ a b S q r i j agree =
+    let e = accepted-job n couplers gates room a in
+    let d = accepted-job m couplers′ gates′ room′ b in
+    same-gates n m couplers couplers′ gates gates′ (job-layable n couplers gates room e) (job-layable m couplers′ gates′ room′ d)
+    (job-listed n couplers gates room e) (job-listed m couplers′ gates′ room′ d) S q r i j agree

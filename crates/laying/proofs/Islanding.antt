@@ -1,0 +1,100 @@
+-- One island laid: the terms' gates and the closing behind them do what composing islands asks for. Assumes nothing.
+use mathlib.Core.Path.{_≡_, refl, sym, ap, ap₂, _∙_, subst}
+use mathlib.Core.Logic.{_≢_, _⊎_, inl, inr}
+use mathlib.Core.List.{List, [], _∷_, _++_}
+use Prim.Native.Nat.{ℕ, zero, suc, _+_, _-_, _*_, _^_, _≤_, _<_}
+use native.Mathlib.Omega.{arith}
+use lib.ListN.{length, getD}
+use lib.Count.{ones}
+use Rattle.sets.specs.Bit.{bit, In, Sub}
+use Rattle.sets.specs.Size.{sizeOf}
+use Rattle.meaning.specs.declared.gate.Gate.{Gate}
+use Rattle.meaning.specs.declared.gate.Gate.the-variants.{Cnot, Rotation, Bad}
+use Rattle.meaning.specs.Layout.{Good}
+use Rattle.meaning.specs.Circuit.{step, run, given}
+use Rattle.meaning.specs.Same.{All}
+use Rattle.meaning.specs.Tally.{cnotsOf, rotationsOf}
+use Rattle.meaning.proofs.Circuits.{given-none, given-cons, given-append, run-append}
+use Rattle.meaning.proofs.Steps.{gives-cnot}
+use Rattle.meaning.proofs.Alls.{all-none, all-cons, all-append, all-map}
+use Rattle.meaning.proofs.Tallies.{cnots-append, rotations-append}
+use Rattle.chip.specs.Graph.{Near, Symm, Joined}
+use Rattle.columns.specs.Terms.{Inside, Small, LaysTerms, totalOf}
+use Rattle.columns.specs.Gather.{On, Coupled, Within}
+use Rattle.ending.specs.Ends.{Ready, Closes}
+use Rattle.ending.specs.Closing.{closingOf}
+use Rattle.ending.proofs.Closings.{closing-closes}
+use Rattle.laying.proofs.Composing.{Lays}
+
+-- ---- the same of gates, in the words of each crate
+
+inside-within : (near : List ℕ) (Q : ℕ) (gs : List Gate) → All (Inside near Q) gs → Within near Q gs
+unfolding All Inside
+inside-within near Q [] a = tt
+inside-within near Q (Cnot c t ∷ gs) a = ((a .0 .1, a .0 .2, a .0 .3, a .0 .0), inside-within near Q gs (a .1))
+inside-within near Q (Rotation q b ∷ gs) a = inside-within near Q gs (a .1)
+inside-within near Q (Bad ∷ gs) a = absurd (a .0)
+
+coupled-inside : (near : List ℕ) (Q : ℕ) (gs : List Gate) → Coupled near Q gs → All (Inside near Q) gs
+unfolding All Inside
+coupled-inside near Q [] h = tt
+coupled-inside near Q (Cnot c t ∷ gs) h = ((h .0 .3, h .0 .0, h .0 .1, h .0 .2), coupled-inside near Q gs (h .1))
+coupled-inside near Q (Rotation q b ∷ gs) h = absurd h
+coupled-inside near Q (Bad ∷ gs) h = absurd h
+
+coupled-small : (near : List ℕ) (Q : ℕ) (gs : List Gate) → Coupled near Q gs → All Small gs
+unfolding All Small
+coupled-small near Q [] h = tt
+coupled-small near Q (Cnot c t ∷ gs) h = (tt, coupled-small near Q gs (h .1))
+coupled-small near Q (Rotation q b ∷ gs) h = absurd h
+coupled-small near Q (Bad ∷ gs) h = absurd h
+
+-- CNOTs give no angle
+coupled-given : (near : List ℕ) (Q p : ℕ) (gs : List Gate) (W : List ℕ) → Coupled near Q gs → given p gs W ≡ 0
+coupled-given near Q p [] W h = given-none p W
+coupled-given near Q p (Cnot c t ∷ gs) W h = given-cons p (Cnot c t) gs W ∙ omega (arith, gives-cnot p c t W, coupled-given near Q p gs (step (Cnot c t) W) (h .1))
+coupled-given near Q p (Rotation q b ∷ gs) W h = absurd h
+coupled-given near Q p (Bad ∷ gs) W h = absurd h
+
+-- gates on an island whose angles are small are good, its qubits being below n
+pub inside-good : (near : List ℕ) (Q n : ℕ) → ((i : ℕ) → In i Q → i < n) → (gs : List Gate) → All (Inside near Q) gs → All Small gs → All (Good n) gs
+unfolding All Inside Small Good
+inside-good near Q n low [] a s = tt
+inside-good near Q n low (Cnot c t ∷ gs) a s = ((low c (a .0 .1), low t (a .0 .2), a .0 .3), inside-good near Q n low gs (a .1) (s .1))
+inside-good near Q n low (Rotation q b ∷ gs) a s = ((low q (a .0), s .0), inside-good near Q n low gs (a .1) (s .1))
+inside-good near Q n low (Bad ∷ gs) a s = absurd (a .0)
+
+-- ---- the island
+
+-- what the gates of an island are, beside what they do
+pub record Placed (near : List ℕ) (Q : ℕ) (ps angles : List ℕ) (gs : List Gate) : Type 0 where
+  pub inside : All (Inside near Q) gs
+  pub small : ((k : ℕ) → getD angles k 0 < 65536) → All Small gs
+  pub rotations : rotationsOf gs ≡ length ps
+  pub cnots : cnotsOf gs ≤ 2 * (ones Q - 1) * length ps + 2 * (ones Q * (ones Q - 1))
+
+module _ (near : List ℕ) (Q : ℕ) (ps angles N C : List ℕ) (L : List Gate) (sy : Symm near) (low : Q < 2 ^ 20) (j : Joined near Q)
+    (t : LaysTerms near Q ps angles L) (r : Ready Q N C) where
+  M : List Gate
+  M = closingOf near Q N C L
+
+  c : Closes near Q N L M
+  unfolding M
+  c = closing-closes near Q N C L sy low j r (inside-within near Q L (t .inside))
+
+  pub closed-lays : Lays Q (λ i. getD N i 0) (λ p. totalOf p ps angles) (L ++ closingOf near Q N C L)
+  unfolding M
+  closed-lays = record {
+    right = c .right;
+    others = c .others;
+    gives = λ W size own p. given-append p L M W ∙ omega (arith, t .sums W size own p, coupled-given near Q p M (run L W) (c .coupled));
+  }
+
+  pub closed-placed : Placed near Q ps angles (L ++ closingOf near Q N C L)
+  unfolding M sizeOf
+  closed-placed = record {
+    inside = all-append (Inside near Q) L M (t .inside) (coupled-inside near Q M (c .coupled));
+    small = λ h. all-append Small L M (t .small h) (coupled-small near Q M (c .coupled));
+    rotations = rotations-append L M ∙ omega (arith, t .rotations, c .rotations);
+    cnots = omega (arith, cnots-append L M, t .cnots, c .cnots, c .short);
+  }

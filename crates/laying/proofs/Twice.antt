@@ -1,0 +1,134 @@
+-- An island of two jobs that agree on it gets the same gates in both. Assumes nothing.
+use mathlib.Core.Path.{_≡_, refl, sym, ap, ap₂, _∙_, subst}
+use mathlib.Core.Logic.{_≢_}
+use mathlib.Core.Bool.{Bool, true, false}
+use mathlib.Core.List.{List, [], _∷_, map}
+use Prim.Native.Nat.{ℕ, _^_, _≤_, _<_}
+use native.Mathlib.Omega.{arith}
+use lib.Bits.{bitAnd}
+use lib.ListN.{getD}
+use Rattle.sets.specs.Bit.{In, Sub}
+use Rattle.sets.specs.Size.{lowestOf}
+use Rattle.meaning.specs.declared.gate.Gate.{Gate}
+use Rattle.meaning.specs.declared.verdict.Verdict.the-variants.{Accepted}
+use Rattle.meaning.specs.Layout.{gatesOf, Good}
+use Rattle.meaning.specs.Circuit.{run, start, finalOf, sumOf, Term}
+use Rattle.meaning.specs.Borne.{Among, terms, sumsOf}
+use Rattle.meaning.specs.Same.{All, Listed}
+use Rattle.meaning.specs.Verdicts.{judgedCouplers}
+use Rattle.meaning.proofs.Circuits.{final-is}
+use Rattle.meaning.proofs.Bearing.{terms-up, term-among, among-term}
+use Rattle.meaning.proofs.Lists.{among-first, among-rest}
+use Rattle.chip.specs.Graph.{Near}
+use Rattle.chip.specs.Couplers.{nearOf}
+use Rattle.chip.specs.Islands.{islandOf}
+use Rattle.chip.proofs.Neighbours.{near-listed, accepted-near}
+use Rattle.chip.proofs.Isles.{island-lt}
+use Rattle.columns.specs.Pieces.{Piece}
+use Rattle.ending.specs.Mirror.{mirrorsOf, mirrorOf, Bordered}
+use Rattle.ending.proofs.Mirrors.{mirror-same-inside}
+use Rattle.laying.specs.Own.{ownSets, ownTerms}
+use Rattle.laying.specs.Laid.{islandLaid, onIsland, laidOf}
+use Rattle.laying.specs.Layable.{Layable}
+use Rattle.laying.specs.Verdict.{circuitOf}
+use Rattle.laying.specs.Demands.{Island, gatesOn, Agree}
+use Rattle.laying.proofs.Parting.{Parts, leader-below, leader-same, leader-leads}
+use Rattle.laying.proofs.Restricting.{own-same}
+use Rattle.laying.proofs.Owning.{own-back}
+use Rattle.laying.proofs.Job.{parts, bordered, good20}
+use Rattle.laying.proofs.Both.{island-placed}
+use Rattle.laying.proofs.Alike.{gates-on, near-alike, terms-alike}
+use Rattle.laying.proofs.Linking.{island-found}
+
+-- what the set S is laid with, in a job whose chip is `near` and whose gates are gs
+laidOn : ℕ → List ℕ → List Gate → Piece
+laidOn S near gs =
+    let ps = ownTerms S (terms gs) in
+    islandLaid (ownSets S near) S ps (sumsOf gs ps) (ownSets S (run gs start)) (ownSets S (mirrorsOf gs))
+
+-- ---- one job
+
+module _ (n : ℕ) (xs ys : List ℕ) (job : Layable n xs ys) (ok : judgedCouplers n xs ≡ Accepted) (S q : ℕ) (island : Island n xs S q) where
+  abbrev isl : ℕ → ℕ
+  isl = islandOf (nearOf n xs)
+
+  abbrev P : Parts n isl
+  P = parts n xs (job .few)
+
+  abbrev gs : List Gate
+  gs = gatesOf n ys
+
+  found : S ≡ isl q
+  found = island-found n xs (job .few) ok S q island
+
+  member : (i : ℕ) → In i S → i < n
+  member i m = P .small q i (island .below) (subst (In i) found m)
+
+  low : S < 2 ^ 20
+  low = subst (λ (Q : ℕ). Q < 2 ^ 20) (sym found) (let f = job .few in let b = island .below in island-lt (nearOf n xs) q (omega arith))
+
+  no-crossing : Bordered gs S
+  no-crossing = subst (Bordered gs) (sym found) (bordered n xs gs (job .few) (job .good) (job .fit) (job .within) q (island .below))
+
+  well : All (Good 20) gs
+  well = good20 n xs gs (job .few) (job .good) (job .fit) (job .within)
+
+  gates-are : gatesOn S (circuitOf n xs ys) ≡ laidOn S (nearOf n xs) gs .laid
+  unfolding circuitOf laidOf laidOn onIsland
+  gates-are =
+      let j : ℕ = lowestOf (isl q) in
+      let l : j < n = leader-below n isl (job .few) P q (island .below) in
+      let e : isl j ≡ S = leader-same n isl (job .few) P q (island .below) ∙ sym found in
+      subst (λ (Q : ℕ). gatesOn Q (circuitOf n xs ys) ≡ laidOn Q (nearOf n xs) gs .laid) e
+      (gates-on n isl (job .few) P (λ q. onIsland (nearOf n xs) gs q .laid) (λ q. ownSets (isl q) (nearOf n xs)) (λ q l. island-placed n xs ys job q l .inside)
+      j l (leader-leads n isl (job .few) P q (island .below)) n (omega arith) l)
+
+-- ---- two
+
+maps-alike : (f g : ℕ → ℕ) (ps : List ℕ) → ((p : ℕ) → Among p ps → f p ≡ g p) → map f ps ≡ map g ps
+maps-alike f g [] h = refl
+maps-alike f g (p ∷ ps) h = ap₂ (λ (a : ℕ) (l : List ℕ). a ∷ l) (h p (among-first p p ps refl)) (maps-alike f g ps (λ r k. h r (among-rest r p ps k)))
+
+module _ (n m : ℕ) (xs xs′ ys ys′ : List ℕ) (job : Layable n xs ys) (job′ : Layable m xs′ ys′) (ok : judgedCouplers n xs ≡ Accepted) (ok′ : judgedCouplers m xs′ ≡ Accepted)
+    (S q r : ℕ) (here : Island n xs S q) (there : Island m xs′ S r) (agree : Agree S xs xs′ (gatesOf n ys) (gatesOf m ys′)) where
+  abbrev one : List Gate
+  one = gatesOf n ys
+
+  abbrev two : List Gate
+  two = gatesOf m ys′
+
+  same-near : ownSets S (nearOf n xs) ≡ ownSets S (nearOf m xs′)
+  same-near =
+      near-alike S (nearOf n xs) (nearOf m xs′)
+      (λ u v hu hv k. accepted-near m xs′ (job′ .few) ok′ u v (member m xs′ ys′ job′ ok′ S r there u hu) (member m xs′ ys′ job′ ok′ S r there v hv) (agree .there u v hu hv (near-listed n xs u v k)))
+      (λ u v hu hv k. accepted-near n xs (job .few) ok u v (member n xs ys job ok S q here u hu) (member n xs ys job ok S q here v hv) (agree .back u v hu hv (near-listed m xs′ u v k)))
+
+  same-terms : ownTerms S (terms one) ≡ ownTerms S (terms two)
+  unfolding Term
+  same-terms =
+      terms-alike S (terms one) (terms two) (terms-up one) (terms-up two)
+      (λ p s k. term-among p two (λ z. among-term p one k (agree .sums p s ∙ z)))
+      (λ p s k. term-among p one (λ z. among-term p two k (sym (agree .sums p s) ∙ z)))
+
+  same-sums : sumsOf one (ownTerms S (terms one)) ≡ sumsOf two (ownTerms S (terms two))
+  same-sums =
+      maps-alike (λ p. sumOf p one) (λ p. sumOf p two) (ownTerms S (terms one)) (λ p k. agree .sums p (own-back S p (terms one) k .1)) ∙ ap (sumsOf two) same-terms
+
+  same-finals : ownSets S (run one start) ≡ ownSets S (run two start)
+  same-finals = own-same S (run one start) (run two start) (λ i l k. ap (λ (x : ℕ). bitAnd x S) (sym (final-is one i) ∙ agree .finals i k ∙ final-is two i))
+
+  same-mirrors : ownSets S (mirrorsOf one) ≡ ownSets S (mirrorsOf two)
+  unfolding mirrorOf
+  same-mirrors =
+      own-same S (mirrorsOf one) (mirrorsOf two)
+      (λ i l k. ap (λ (x : ℕ). bitAnd x S)
+      (mirror-same-inside one two S (low n xs ys job ok S q here) (well n xs ys job ok S q here) (well m xs′ ys′ job′ ok′ S r there)
+      (no-crossing n xs ys job ok S q here) (no-crossing m xs′ ys′ job′ ok′ S r there) (agree .finals) i k))
+
+  pub same-gates : gatesOn S (circuitOf n xs ys) ≡ gatesOn S (circuitOf m xs′ ys′)
+  unfolding laidOn
+  same-gates =
+      gates-are n xs ys job ok S q here ∙ ap (λ (p : Piece). p .laid) alike ∙ sym (gates-are m xs′ ys′ job′ ok′ S r there)
+    where
+      alike : laidOn S (nearOf n xs) one ≡ laidOn S (nearOf m xs′) two
+      alike = cc (same-near, same-terms, same-sums, same-finals, same-mirrors)

@@ -1,0 +1,173 @@
+-- The walk over the qubits that lays each island at its lowest qubit. Assumes nothing.
+use mathlib.Core.Path.{_≡_, refl, sym, ap, ap₂, _∙_, subst}
+use mathlib.Core.Bool.{Bool, true, false}
+use mathlib.Core.List.{List, [], _++_}
+use Prim.Native.Nat.{ℕ, zero, suc, _+_, _≤_, _<_}
+use native.Mathlib.Omega.{arith}
+use native.Mathlib.Numerals.{add-one}
+use lib.ListN.{length, getD}
+use lib.Seq.{take-all}
+use lib.Dec.{eqb}
+use borrow.Author.Tests.{eq-eqb, ne-eqb}
+use Rattle.sets.specs.Pick.{pick}
+use Rattle.sets.specs.Size.{lowestOf}
+use Rattle.meaning.specs.declared.gate.Gate.{Gate}
+use Rattle.meaning.specs.declared.sums.Sums.{Sums}
+use Rattle.meaning.specs.declared.told.Told.{Told}
+use Rattle.meaning.specs.declared.told.Meaning.{Meaning}
+use Rattle.meaning.specs.Layout.{gatesOf}
+use Rattle.meaning.specs.Circuit.{run, start}
+use Rattle.meaning.specs.Borne.{overAt}
+use Rattle.meaning.specs.Told.{toldOf, meaningOf, wiresOf, tableOf}
+use Rattle.chip.specs.Couplers.{nearOf}
+use Rattle.chip.specs.Islands.{islandOf, islandsOf}
+use Rattle.chip.proofs.Isles.{getD-islands}
+use Rattle.columns.specs.Emit.{emit, emitAt}
+use Rattle.columns.specs.Pieces.{Piece}
+use Rattle.columns.proofs.Emitting.{emit-none, emit-at-none, emit-length, emit-append, emit-at-append}
+use Rattle.steps.specs.declared.Laid.{Laid}
+use Rattle.steps.specs.declared.Laid.the-variants.{On, Stuck}
+use Rattle.ending.specs.Mirror.{mirrorsOf}
+use Rattle.laying.specs.declared.own.Own.{Own}
+use Rattle.laying.specs.OwnTable.{ownOf}
+use Rattle.laying.specs.Islands.{leads, laidTo}
+use Rattle.laying.specs.Laid.{onIsland, laidOf, withClosing}
+use Rattle.laying.specs.Layable.{Layable}
+use Rattle.laying.specs.Memory.{Fine, stepsOwn, nearestOwn, closedBy, pieceOwn, memoryAt, answerAt}
+use Rattle.laying.specs.Verdict.{circuitOf}
+use Rattle.laying.proofs.Job.{parts}
+use Rattle.laying.proofs.Composing.{laid-led, laid-not}
+use Rattle.laying.proofs.Tabled.{own-parities, own-angles, piece-is}
+use Rattle.laying.proofs.Both.{bySteps, byNearest, steps-work, nearest-work, way-fine, ended-fine, never-stuck}
+
+module _ (n : ℕ) (xs ys : List ℕ) where
+  abbrev gs : List Gate
+  gs = gatesOf n ys
+
+  abbrev isl : ℕ → ℕ
+  isl = islandOf (nearOf n xs)
+
+  abbrev on : ℕ → List Gate
+  on q = onIsland (nearOf n xs) gs q .laid
+
+  abbrev upTo : ℕ → List Gate
+  upTo = laidTo isl on
+
+  -- the memory when the islands led below q are laid
+  pub record Walked (out₀ : List ℕ) (q : ℕ) (out : List ℕ) (at : ℕ) : Type 0 where
+    pub within : q ≤ n
+    pub size : length out ≡ length out₀
+    pub memory : out ≡ emit out₀ 0 (upTo q)
+    pub place : at ≡ emitAt out₀ 0 (upTo q)
+
+  pub walked-none : (out : List ℕ) → Walked out 0 out 0
+  unfolding laidTo
+  walked-none out = record { within = omega arith; size = refl; memory = sym (emit-none out 0); place = sym (emit-at-none out 0) }
+
+  pub walked-moved : (out₀ : List ℕ) (q : ℕ) (out out′ : List ℕ) (at at′ : ℕ) → out ≡ out′ → at ≡ at′ → Walked out₀ (suc q) out′ at′ → Walked out₀ (q + 1) out at
+  walked-moved out₀ q out out′ at at′ a b w = rw (a, b, add-one q) w
+
+  pub walked-all : (out₀ : List ℕ) (q : ℕ) (out : List ℕ) (at : ℕ) → n ≤ q → Walked out₀ q out at
+      → (out ≡ emit out₀ 0 (circuitOf n xs ys)) × (On at ≡ On (emitAt out₀ 0 (circuitOf n xs ys)))
+  unfolding circuitOf laidOf
+  walked-all out₀ q out at l w =
+      let e : q ≡ n = let b = w .within in omega arith in
+      (w .memory ∙ ap (λ (k : ℕ). emit out₀ 0 (upTo k)) e, ap On (w .place ∙ ap (λ (k : ℕ). emitAt out₀ 0 (upTo k)) e))
+
+  module _ (job : Layable n xs ys) (near all : List ℕ) (t : Told) (mirror : List ℕ) (d : near ≡ nearOf n xs) (i : all ≡ islandsOf near) (e : t ≡ toldOf n ys) (m : mirror ≡ mirrorsOf gs) where
+    told-is : t .meaning ≡ meaningOf gs
+    unfolding toldOf
+    told-is = ap (λ (u : Told). u .meaning) e ∙ ap meaningOf (take-all (overAt gs) gs (let w = job .whole in omega arith))
+
+    wires-are : t .meaning .wires .parity ≡ run gs start
+    unfolding meaningOf wiresOf
+    wires-are = ap (λ (u : Meaning). u .wires .parity) told-is
+
+    sums-are : t .meaning .sums ≡ tableOf gs
+    unfolding meaningOf
+    sums-are = ap (λ (u : Meaning). u .sums) told-is
+
+    module _ (q : ℕ) (l : q < n) where
+      below : q < 20
+      below = let f = job .few in omega arith
+
+      set-is : getD all q 0 ≡ isl q
+      set-is = ap (λ (x : List ℕ). getD x q 0) (i ∙ ap islandsOf d) ∙ getD-islands (nearOf n xs) q below
+
+      leads-yes : lowestOf (getD all q 0) ≡ q → leads isl q ≡ true
+      unfolding leads
+      leads-yes h = eq-eqb (lowestOf (isl q)) q (ap lowestOf (sym set-is) ∙ h)
+
+      leads-no : (lowestOf (getD all q 0) ≡ q → ⊥) → leads isl q ≡ false
+      unfolding leads
+      leads-no h = ne-eqb (lowestOf (isl q)) q (λ k. h (ap lowestOf set-is ∙ k))
+
+      pub walked-not : (out₀ out : List ℕ) (at : ℕ) → (lowestOf (getD all q 0) ≡ q → ⊥) → Walked out₀ q out at → Walked out₀ (suc q) out at
+      walked-not out₀ out at h w =
+          let k : upTo (suc q) ≡ upTo q = laid-not n isl (job .few) (parts n xs (job .few)) on q (leads-no h) in
+          record { within = l; size = w .size; memory = w .memory ∙ ap (emit out₀ 0) (sym k); place = w .place ∙ ap (emitAt out₀ 0) (sym k) }
+
+      module _ (h : Own) (k : h ≡ ownOf (getD all q 0) near (t .meaning .sums) (t .meaning .wires .parity) mirror) where
+        abbrev o : Own
+        o = ownOf (isl q) (nearOf n xs) (tableOf gs) (run gs start) (mirrorsOf gs)
+
+        own-is : h ≡ o
+        own-is = cc (k, set-is, d, sums-are, wires-are, m)
+
+        abbrev AllFine : Own → Type 0
+        AllFine u = Fine (stepsOwn u .laid) × Fine (nearestOwn u .laid) × Fine (closedBy u (stepsOwn u .laid)) × Fine (closedBy u (nearestOwn u .laid))
+
+        fine : AllFine o
+        unfolding stepsOwn nearestOwn closedBy withClosing ownOf
+        fine =
+            rw (own-parities (nearOf n xs) gs q (job .fit), own-angles (nearOf n xs) gs q (job .fit)) (
+              way-fine n xs ys job q l bySteps steps-work,
+              way-fine n xs ys job q l byNearest nearest-work,
+              ended-fine n xs ys job q l bySteps steps-work,
+              ended-fine n xs ys job q l byNearest nearest-work,
+            )
+
+        pub handed-fine : AllFine h
+        handed-fine = subst AllFine (sym own-is) fine
+
+        piece : pieceOwn h ≡ onIsland (nearOf n xs) gs q
+        piece = ap pieceOwn own-is ∙ piece-is (nearOf n xs) gs q (job .fit)
+
+        on-it : pieceOwn h .stuck ≡ false
+        on-it = ap (λ (p : Piece). p .stuck) piece ∙ never-stuck n xs ys job q l
+
+        gates-are : pieceOwn h .laid ≡ on q
+        gates-are = ap (λ (p : Piece). p .laid) piece
+
+        module _ (out₀ out out′ : List ℕ) (at : ℕ) (r : Laid) (a : out′ ≡ memoryAt (pieceOwn h) (pieceOwn h .laid) out at) (b : r ≡ answerAt (pieceOwn h) (pieceOwn h .laid) out at) where
+          memory-is : out′ ≡ emit out at (on q)
+          unfolding memoryAt
+          memory-is = a ∙ ap₂ (λ (s : Bool) (L : List Gate). pick s out (emit out at L)) on-it gates-are
+
+          answer-is : r ≡ On (emitAt out at (on q))
+          unfolding answerAt
+          answer-is = b ∙ ap₂ (λ (s : Bool) (L : List Gate). pick s (Stuck at) (On (emitAt out at L))) on-it gates-are
+
+          pub walked-stuck : (x : ℕ) → r ≡ Stuck x → ⊥
+          walked-stuck x s = let z : _≡_ {A = ℕ} 0 1 = ap isOne (sym s ∙ answer-is) in omega arith
+            where
+              isOne : Laid → ℕ
+              isOne (On v) = 1
+              isOne (Stuck v) = 0
+
+          pub walked-led : lowestOf (getD all q 0) ≡ q → (next : ℕ) → r ≡ On next → Walked out₀ q out at → Walked out₀ (suc q) out′ next
+          walked-led y next s w =
+              let c : upTo (suc q) ≡ upTo q ++ on q = laid-led n isl (job .few) (parts n xs (job .few)) on q (leads-yes y) in
+              record {
+                within = l;
+                size = ap length memory-is ∙ emit-length out at (on q) ∙ w .size;
+                memory = memory-is ∙ ap₂ (λ (u : List ℕ) (v : ℕ). emit u v (on q)) (w .memory) (w .place) ∙ sym (emit-append out₀ 0 (upTo q) (on q)) ∙ ap (emit out₀ 0) (sym c);
+                place = same (sym s ∙ answer-is) ∙ ap₂ (λ (u : List ℕ) (v : ℕ). emitAt u v (on q)) (w .memory) (w .place) ∙ sym (emit-at-append out₀ 0 (upTo q) (on q)) ∙ ap (emitAt out₀ 0) (sym c);
+              }
+            where
+              value : Laid → ℕ
+              value (On v) = v
+              value (Stuck v) = 0
+
+              same : {u v : ℕ} → On u ≡ On v → u ≡ v
+              same p = ap value p

@@ -1,0 +1,78 @@
+-- `laying::lay::lay` meets its contract: tests 1 to 8, then the circuit laid aside is copied. Assumes nothing.
+use mathlib.Core.Path.{sym, ap, _∙_}
+use Rattle.meaning.specs.Verdicts.{numberOf}
+use Rattle.laying.proofs.Accepting.{job-layable}
+use Rattle.laying.proofs.Owned.{part-fits, part-long}
+use Rattle.laying.proofs.Answering.{refused, copied, on-same, on-not-stuck}
+use borrow.Author.Needs.{needs}
+use Rattle.laying.proofs.lay.lay.Statement.{statement}
+use Rattle.laying.proofs.lay.lay.Tie as tie
+
+judge-requires : tie.Need-judge-requires
+judge-requires c κs = search needs
+
+number-requires : tie.Need-number-requires
+number-requires c κs = search needs
+
+returns : tie.Need-returns
+returns c = refused (c .before .before .before .before .before .before .args .n) (c .before .before .before .before .before .before .args .couplers .now) (c .before .before .before .before .before .before .args .gates .now) (c .before .before .before .before .before .before .args .out .now) (c .before .before .judge .result) (c .before .before .judge .ensures) (λ z. c .if1 .taken (c .before .number .ensures ∙ z))
+
+slice-aggregate-lay-islands : tie.Need-slice-aggregate-lay-islands
+slice-aggregate-lay-islands c = search needs
+
+lay-islands-requires : tie.Need-lay-islands-requires
+lay-islands-requires c κs = job-layable (c .before .before .before .before .before .before .before .args .n) (c .before .before .before .before .before .before .before .args .couplers .now) (c .before .before .before .before .before .before .before .args .gates .now) _ (ap numberOf (sym (c .before .before .before .judge .ensures)) ∙ sym (c .before .before .number .ensures) ∙ c .before .if1 .left)
+
+enum-known-k : tie.Need-enum-known-k
+enum-known-k c = search needs
+
+array-share-prefix-laid : tie.Need-array-share-prefix-laid
+array-share-prefix-laid c = part-fits _ _ _ (c .before .before .before .before .lay-islands .ensures .0) (on-same _ _ _ (c .before .k .given .1) (c .before .before .before .before .lay-islands .ensures .1))
+
+slice-aggregate-replay : tie.Need-slice-aggregate-replay
+slice-aggregate-replay c = part-long _ _ _ (c .before .before .before .before .before .lay-islands .ensures .0) (on-same _ _ _ (c .before .before .k .given .1) (c .before .before .before .before .before .lay-islands .ensures .1))
+
+replay-requires : tie.Need-replay-requires
+replay-requires c κs = search needs
+
+array-share-prefix-laid-2 : tie.Need-array-share-prefix-laid-2
+array-share-prefix-laid-2 c = part-fits _ _ _ (c .before .before .before .before .before .before .before .before .before .lay-islands .ensures .0) (on-same _ _ _ (c .before .before .before .before .before .before .k .given .1) (c .before .before .before .before .before .before .before .before .before .lay-islands .ensures .1))
+
+slice-aggregate-counted : tie.Need-slice-aggregate-counted
+slice-aggregate-counted c = part-long _ _ _ (c .before .before .before .before .before .before .before .before .before .before .lay-islands .ensures .0) (on-same _ _ _ (c .before .before .before .before .before .before .before .k .given .1) (c .before .before .before .before .before .before .before .before .before .before .lay-islands .ensures .1))
+
+counted-requires : tie.Need-counted-requires
+counted-requires c κs = search needs
+
+enum-told : tie.Need-enum-told
+enum-told c = search needs
+
+same-length : tie.Need-same-length
+same-length c = search needs
+
+returns-2 : tie.Need-returns-2
+returns-2 c = copied (c .before .before .before .before .before .before .before .before .before .before .before .before .before .before .before .before .before .before .before .args .n) (c .before .before .before .before .before .before .before .before .before .before .before .before .before .before .before .before .before .before .before .args .couplers .now) (c .before .before .before .before .before .before .before .before .before .before .before .before .before .before .before .before .before .before .before .args .gates .now) (c .before .before .before .before .before .before .before .before .before .before .before .before .before .before .before .before .before .before .before .args .out .now) (ap numberOf (sym (c .before .before .before .before .before .before .before .before .before .before .before .before .before .before .before .judge .ensures)) ∙ sym (c .before .before .before .before .before .before .before .before .before .before .before .before .before .before .number .ensures) ∙ c .before .before .before .before .before .before .before .before .before .before .before .before .before .if1 .left) _ _ (c .before .before .before .before .before .before .before .before .before .before .before .lay-islands .ensures .0) (on-same _ _ _ (c .before .before .before .before .before .before .before .before .k .given .1) (c .before .before .before .before .before .before .before .before .before .before .before .lay-islands .ensures .1)) _ _ (c .counted .ensures) (c .before .before .before .before .replay .ensures .0)
+
+returns-3 : tie.Need-returns-3
+returns-3 c = absurd (on-not-stuck _ _ _ (c .before .before .before .lay-islands .ensures .1) (c .enum-told .given .1))
+
+pub lay-spec : {M : Type 1} → statement M
+lay-spec =
+    tie.close
+    (tie.spec
+    judge-requires
+    number-requires
+    returns
+    slice-aggregate-lay-islands
+    lay-islands-requires
+    enum-known-k
+    array-share-prefix-laid
+    slice-aggregate-replay
+    replay-requires
+    array-share-prefix-laid-2
+    slice-aggregate-counted
+    counted-requires
+    enum-told
+    same-length
+    returns-2
+    returns-3)

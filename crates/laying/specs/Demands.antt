@@ -1,0 +1,77 @@
+-- The words of the demands: islands as chains of listed couplers, the gates on a set of qubits, and what each demand says of a job.
+use mathlib.Core.Path.{_≡_}
+use mathlib.Core.Bool.{Bool, true, false}
+use mathlib.Core.List.{List, [], _∷_}
+use Prim.Native.Nat.{ℕ, _-_, _+_, _*_, _≤_, _<_}
+use lib.ListN.{length}
+use Rattle.sets.specs.Pick.{pick}
+use Rattle.sets.specs.Bit.{In, Sub, has}
+use Rattle.meaning.specs.declared.gate.Gate.{Gate}
+use Rattle.meaning.specs.declared.gate.Gate.the-variants.{Cnot, Rotation, Bad}
+use Rattle.meaning.specs.declared.verdict.Verdict.{Verdict}
+use Rattle.meaning.specs.Layout.{gatesOf, Good}
+use Rattle.meaning.specs.Circuit.{finalOf, sumOf}
+use Rattle.meaning.specs.Borne.{terms}
+use Rattle.meaning.specs.Same.{All, Listed, OnCoupler, SameMeaning}
+use Rattle.meaning.specs.Tally.{cnotsOf, rotationsOf, boundOf}
+use Rattle.meaning.specs.Verdicts.{judgedQubits, judgedCouplers, judgedGates}
+use Rattle.meaning.specs.InOrder.{andThen}
+use Rattle.laying.specs.Verdict.{judgedCount, judgedParities}
+
+-- "a chain of couplers joins them" (document 01, "Islands")
+pub data Linked (couplers : List ℕ) (n u : ℕ) : ℕ → Type 0 where
+  same : u < n → Linked couplers n u u
+  more : {v w : ℕ} → Linked couplers n u v → w < n → Listed couplers v w → Linked couplers n u w
+
+-- "Two qubits are on one island when a chain of couplers joins them; a qubit without couplers is an island": S is the island of q
+pub record Island (n : ℕ) (couplers : List ℕ) (S q : ℕ) : Type 0 where
+  pub member : In q S
+  pub below : q < n
+  pub all : (j : ℕ) → Linked couplers n q j → In j S
+  pub only : (j : ℕ) → In j S → Linked couplers n q j
+
+-- a gate is on the set S: its qubits are (those of a laid gate are all in one island)
+unfoldable pub isOn : ℕ → Gate → Bool
+isOn S (Cnot c t) = has S c
+isOn S (Rotation q a) = has S q
+isOn S Bad = false
+
+-- "the gates laid on that island", in order
+unfoldable pub gatesOn : ℕ → List Gate → List Gate
+gatesOn S [] = []
+gatesOn S (g ∷ gs) = pick (isOn S g) (g ∷ gatesOn S gs) (gatesOn S gs)
+
+-- ---- demand 2
+
+-- "The circuit that comes out": its meaning, its couplers, "exactly t rotations and at most 2(n-1)t + 2n(n-1) CNOTs", at most B gates
+pub record Faithful (n : ℕ) (couplers : List ℕ) (drawn laid : List Gate) : Type 0 where
+  pub same : SameMeaning n drawn laid
+  pub good : All (Good n) laid
+  pub coupled : All (OnCoupler couplers) laid
+  pub rotations : rotationsOf laid ≡ length (terms drawn)
+  pub cnots : cnotsOf laid ≤ 2 * (n - 1) * length (terms drawn) + 2 * n * (n - 1)
+  pub bound : length laid ≤ boundOf n (length (terms drawn))
+
+-- tests 1 to 6, in that order
+unfoldable pub judgedSix : ℕ → List ℕ → List ℕ → Verdict
+judgedSix n couplers gates =
+    andThen (judgedQubits n) (andThen (judgedCouplers n couplers) (andThen (judgedCount gates) (andThen (judgedGates n gates) (judgedParities (gatesOf n gates)))))
+
+-- the final parity of wire i is inside its island
+unfoldable pub Stays : ℕ → List ℕ → List Gate → ℕ → Type 0
+Stays n couplers drawn i = (j : ℕ) → In j (finalOf drawn i) → Linked couplers n i j
+
+-- "lowest wire whose final parity leaves its island, else n"
+pub record Strays (n : ℕ) (couplers : List ℕ) (drawn : List Gate) (k : ℕ) : Type 0 where
+  pub most : k ≤ n
+  pub before : (i : ℕ) → i < k → Stays n couplers drawn i
+  pub here : k < n → Stays n couplers drawn k → ⊥
+
+-- ---- demand 3
+
+-- two jobs agree on the set S: "the same couplers inside, the same final parities of its wires, the same sums of all parities inside it"
+pub record Agree (S : ℕ) (couplers couplers′ : List ℕ) (drawn drawn′ : List Gate) : Type 0 where
+  pub there : (u v : ℕ) → In u S → In v S → Listed couplers u v → Listed couplers′ u v
+  pub back : (u v : ℕ) → In u S → In v S → Listed couplers′ u v → Listed couplers u v
+  pub finals : (i : ℕ) → In i S → finalOf drawn i ≡ finalOf drawn′ i
+  pub sums : (p : ℕ) → Sub p S → sumOf p drawn ≡ sumOf p drawn′

@@ -1,0 +1,18 @@
+-- A job that passed tests 1 to 7.
+use mathlib.Core.Path.{_≡_}
+use mathlib.Core.List.{List}
+use Prim.Native.Nat.{ℕ, _≤_}
+use lib.ListN.{length}
+use Rattle.meaning.specs.Layout.{gatesOf, Good}
+use Rattle.meaning.specs.Borne.{borne, overAt}
+use Rattle.meaning.specs.Same.{All}
+use Rattle.chip.specs.Couplers.{nearOf}
+use Rattle.chip.specs.Islands.{islandOf}
+use Rattle.laying.specs.Reach.{Within}
+
+pub record Layable (n : ℕ) (couplers gates : List ℕ) : Type 0 where
+  pub few : n ≤ 20
+  pub good : All (Good n) (gatesOf n gates)
+  pub whole : overAt (gatesOf n gates) ≡ length (gatesOf n gates)
+  pub fit : length (borne (gatesOf n gates)) ≤ 256
+  pub within : Within n (islandOf (nearOf n couplers)) (gatesOf n gates)

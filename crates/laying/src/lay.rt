@@ -1,0 +1,94 @@
+// The entry point: any numbers, any records, any room.
+use crate::island;
+use crate::judge;
+use crate::own;
+use chip::couplers;
+use chip::islands;
+use ending::mirror;
+use meaning::depth;
+use meaning::tally;
+use meaning::told;
+use meaning::verdict;
+use meaning::verdict::Verdict;
+use steps::Laid;
+ghost use mathlib.Core.Path.{_≡_};
+ghost use lib.ListN.{length};
+ghost use Rattle.meaning.specs.Layout.{gatesOf};
+ghost use Rattle.laying.specs.Layable.{Layable};
+ghost use Rattle.columns.specs.Emit.{emit, emitAt};
+ghost use Rattle.steps.specs.declared.Laid.the-variants.{On};
+ghost use Rattle.laying.specs.Verdict.{circuitOf, countsOf, answered, outputOf};
+
+// What laying answers: the counts of the laid gates, or why there are none.
+pub enum Answer {
+    Laid {
+        records: usize,
+        cnots: usize,
+        rotations: usize,
+        depth: usize,
+    },
+    Refused {
+        verdict: Verdict,
+    },
+}
+
+// The islands one after another, by ascending lowest qubit.
+fn lay_islands(n: usize, couplers: &[u32], gates: &[u32], out: &mut [u32]) -> Laid
+    requires { ⌜ Layable n (now couplers) (now gates) ⌝ }
+    ensures { λ r. ⌜ (now (out .exit) ≡ emit (now (out .entry)) 0 (circuitOf n (now (couplers .entry)) (now (gates .entry)))) × (r ≡ On (emitAt (now (out .entry)) 0 (circuitOf n (now (couplers .entry)) (now (gates .entry))))) ⌝ }
+{
+    let near = couplers::near(couplers, n);
+    let all = islands::islands(near);
+    let told = told::tell(gates, n);
+    let meaning = told.meaning;
+    let sums = meaning.sums;
+    let wires = meaning.wires;
+    let asked = wires.parity;
+    let mirror = mirror::mirrored(gates, n);
+    let mut at = 0;
+    for q in 0..n {
+        let set = all[q];
+        if sets::lowest(set) == q {
+            match island::lay_island(own::handed(set, near, sums, asked, mirror), out, at) {
+                Laid::On(next) => {
+                    at = next;
+                }
+                Laid::Stuck(_) => {
+                    return Laid::Stuck(at);
+                }
+            }
+        }
+    }
+    Laid::On(at)
+}
+
+fn counted(laid: &[u32], n: usize) -> Answer
+    ensures { λ r. ⌜ r ≡ countsOf (gatesOf n (now (laid .entry))) ⌝ }
+{
+    Answer::Laid {
+        records: laid.len(),
+        cnots: tally::cnots(laid, n),
+        rotations: tally::rotations(laid, n),
+        depth: depth::depth(laid, n),
+    }
+}
+
+// Lays a job: tests 1 to 9 in order; the gates go to `out` only once all of them are passed.
+pub fn lay(n: usize, couplers: &[u32], gates: &[u32], out: &mut [u32]) -> Answer
+    ensures { λ r. ⌜ (r ≡ answered n (now (couplers .entry)) (now (gates .entry)) (length (now (out .entry)))) × (now (out .exit) ≡ outputOf n (now (couplers .entry)) (now (gates .entry)) (now (out .entry))) ⌝ }
+{
+    let verdict = judge::judge(n, couplers, gates, out.len());
+    if verdict::number(verdict) != 0 {
+        return Answer::Refused { verdict };
+    }
+    let mut laid = [0u32; island::MOST];
+    match lay_islands(n, couplers, gates, &mut laid) {
+        Laid::On(k) => {
+            island::replay(&laid[..k], out, 0);
+            counted(&laid[..k], n)
+        }
+        Laid::Stuck(_) => Answer::Refused {
+            verdict: Verdict::Stuck,
+        },
+    }
+}
