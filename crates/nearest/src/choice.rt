@@ -182,7 +182,7 @@ fn over_column(
 }
 
 // The nearest of all columns.
-pub fn choose(
+pub(crate) fn choose(
     near: &[u32],
     order: &[usize],
     len: &[usize],

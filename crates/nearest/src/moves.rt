@@ -67,7 +67,7 @@ fn lay_moves(
 }
 
 // Column k is gathered at v.
-pub fn gather_next(
+pub(crate) fn gather_next(
     near: [u32; Job::QUBITS],
     set: u32,
     cols: &mut [u32],

@@ -46,7 +46,7 @@ fn mutual(near: [u32; Job::QUBITS]) -> bool
     true
 }
 
-pub fn sure(near: [u32; Job::QUBITS], set: u32) -> bool
+pub(crate) fn sure(near: [u32; Job::QUBITS], set: u32) -> bool
     ensures { λ r. ⌜ Told r (Sure near set) ⌝ }
 {
     if ABOVE <= set {

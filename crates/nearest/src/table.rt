@@ -25,7 +25,7 @@ fn with_row(qubit: [usize; ROOM], v: usize, row: [usize; Job::QUBITS]) -> [usize
     z
 }
 
-pub fn from_all(near: [u32; Job::QUBITS], set: u32) -> Orders
+pub(crate) fn from_all(near: [u32; Job::QUBITS], set: u32) -> Orders
     ensures { λ r. ⌜ Ordered near set (r .qubit) (r .len) ⌝ }
 {
     let mut qubit = [0; ROOM];
