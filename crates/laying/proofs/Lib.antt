@@ -21,3 +21,4 @@ pub mod Answering
 pub mod Linking
 pub mod Twice
 pub mod Demands
+pub mod Examples

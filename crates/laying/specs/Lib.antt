@@ -7,3 +7,4 @@ pub mod Reach
 pub mod Verdict
 pub mod Demands
 pub mod Layable
+pub mod Examples

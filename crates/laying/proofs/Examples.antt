@@ -1,0 +1,62 @@
+-- The examples of document 01 marked P hold, all of them. Assumes nothing.
+use mathlib.Core.Path.{_≡_, refl, ap}
+use mathlib.Core.List.{List, [], _∷_, _++_}
+use Prim.Native.Nat.{ℕ}
+use lib.Count.{trailingZeros}
+use Rattle.sets.specs.Columns.{units, cnot}
+use Rattle.sets.specs.Search.{firstOf, someOf}
+use Rattle.sets.specs.Size.{lowestOf}
+use Rattle.meaning.specs.Layout.{packed, kindIn, aIn, bIn, cnotOf, rotationOf, gateOf, couplerOf, gatesOf}
+use Rattle.meaning.specs.Circuit.{step, run, start, gives, given, sumOf}
+use Rattle.meaning.specs.Borne.{insert, bears, borneFrom, borne, overAt, kept, terms}
+use Rattle.meaning.specs.Tally.{boundOf}
+use Rattle.meaning.specs.Same.{Reachable}
+use Rattle.meaning.specs.Verdicts.{numberOf, placeOf, firstFailing, judgedQubits, wrongAt, judgedCouplers, badAt, judgedGates}
+use Rattle.meaning.specs.Examples.{True, records5, records6, meaningExamples}
+use Rattle.meaning.proofs.Examples.{meaning-examples, true-append}
+use Rattle.chip.specs.Graph.{nbrs, grow, closure}
+use Rattle.chip.specs.Couplers.{linkOf, addOf, addAll, nearOf}
+use Rattle.chip.specs.Islands.{islandOf, islandsFrom, islandsOf}
+use Rattle.chip.specs.Examples.{chipExamples}
+use Rattle.chip.proofs.Examples.{chip-examples}
+use Rattle.laying.specs.Own.{insideOf}
+use Rattle.laying.specs.Verdict.{judgedCount, judgedParities, leavesAt, strayAt, scatters, scattered, judgedReach, judgedRoom, judgedMeaning, judgedJob, verdictOf}
+use Rattle.laying.specs.Examples.{couplers4, once4, twice4, gates9, layingExamples, provedExamples}
+use Rattle.laying.proofs.Accepting.{job-layable}
+use Rattle.laying.proofs.Accepted.{circuit-reaches, job-accepted}
+
+-- what is found by computing it: three refusals, and three jobs that pass tests 1 to 8
+record Computed : Type 0 where
+  once : (room : ℕ) → (numberOf (verdictOf 3 couplers4 once4 room) ≡ 7) × (placeOf (verdictOf 3 couplers4 once4 room) ≡ 2)
+  term : (room : ℕ) → (numberOf (verdictOf 3 couplers4 records5 room) ≡ 7) × (placeOf (verdictOf 3 couplers4 records5 room) ≡ 3)
+  short : numberOf (verdictOf 2 couplers4 gates9 6) ≡ 8
+  twice : numberOf (judgedJob 3 couplers4 twice4 12) ≡ 0
+  none : numberOf (judgedJob 3 couplers4 records6 12) ≡ 0
+  enough : numberOf (judgedJob 2 couplers4 gates9 7) ≡ 0
+
+computed : Computed
+unfolding verdictOf judgedJob judgedMeaning judgedQubits judgedCouplers wrongAt judgedCount judgedGates badAt firstFailing firstOf someOf judgedParities overAt borne borneFrom bears insert judgedReach strayAt leavesAt insideOf scattered scatters terms kept sumOf given gives judgedRoom boundOf run start step units cnot lowestOf trailingZeros islandsOf islandsFrom islandOf closure grow nbrs nearOf addAll addOf linkOf couplerOf gateOf cnotOf rotationOf packed kindIn aIn bIn
+computed = record { once = λ room. (refl, refl); term = λ room. (refl, refl); short = refl; twice = refl; none = refl; enough = refl }
+
+accepted : (n : ℕ) (xs ys : List ℕ) (room : ℕ) → numberOf (judgedJob n xs ys room) ≡ 0 → numberOf (verdictOf n xs ys room) ≡ 0
+accepted n xs ys room e = ap numberOf (job-accepted n xs ys room e)
+
+reached : (n : ℕ) (xs ys : List ℕ) (room : ℕ) → numberOf (judgedJob n xs ys room) ≡ 0 → Reachable n xs (gatesOf n ys)
+reached n xs ys room e = circuit-reaches n xs ys (job-layable n xs ys room e)
+
+laying-examples : True layingExamples
+unfolding True
+laying-examples = (
+  (reached 3 couplers4 twice4 12 (computed .twice), accepted 3 couplers4 twice4 12 (computed .twice), computed .once),
+  (
+    computed .term,
+    (
+      (reached 3 couplers4 records6 12 (computed .none), accepted 3 couplers4 records6 12 (computed .none)),
+      ((computed .short, accepted 2 couplers4 gates9 7 (computed .enough)), tt),
+    ),
+  ),
+)
+
+-- all examples marked P
+pub examples : True provedExamples
+examples = true-append (meaningExamples ++ chipExamples) layingExamples (true-append meaningExamples chipExamples meaning-examples chip-examples) laying-examples

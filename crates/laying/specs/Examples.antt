@@ -1,0 +1,51 @@
+-- Examples 4, 5, 6 and 9 of document 01, "Examples by number", of the entry point's verdict; and the list of all that are marked P.
+use mathlib.Core.Path.{_≡_}
+use mathlib.Core.List.{List, [], _∷_, _++_}
+use Prim.Native.Nat.{ℕ}
+use Rattle.meaning.specs.Layout.{packed, gatesOf}
+use Rattle.meaning.specs.Same.{Reachable}
+use Rattle.meaning.specs.Verdicts.{numberOf, placeOf}
+use Rattle.meaning.specs.Examples.{Example, cnotRecord, rotationRecord, records5, records6, meaningExamples}
+use Rattle.chip.specs.Examples.{chipExamples}
+use Rattle.laying.specs.Verdict.{verdictOf}
+
+-- "coupler 0-1"
+abbrev pub couplers4 : List ℕ
+couplers4 = packed 0 0 1 ∷ []
+
+-- "CNOT 0-2 once", "twice"
+abbrev pub once4 : List ℕ
+once4 = cnotRecord 0 2 ∷ []
+
+abbrev pub twice4 : List ℕ
+twice4 = cnotRecord 0 2 ∷ cnotRecord 0 2 ∷ []
+
+-- "n=3, coupler 0-1, CNOT 0-2 twice: reachable; CNOT 0-2 once: 7, place 2", whatever the room
+abbrev pub fourth : Example
+fourth = record {
+  number = 4;
+  says = Reachable 3 couplers4 (gatesOf 3 twice4) × (numberOf (verdictOf 3 couplers4 twice4 12) ≡ 0)
+      × ((room : ℕ) → (numberOf (verdictOf 3 couplers4 once4 room) ≡ 7) × (placeOf (verdictOf 3 couplers4 once4 room) ≡ 2));
+}
+
+-- "same couplers, CNOT 0-2, angle 40 on 2, CNOT 0-2: 7, place 3"
+abbrev pub fifth : Example
+fifth = record { number = 5; says = (room : ℕ) → (numberOf (verdictOf 3 couplers4 records5 room) ≡ 7) × (placeOf (verdictOf 3 couplers4 records5 room) ≡ 3) }
+
+-- "the same with angles 40 and 65,496 between: reachable, no term"
+abbrev pub sixth : Example
+sixth = record { number = 6; says = Reachable 3 couplers4 (gatesOf 3 records6) × (numberOf (verdictOf 3 couplers4 records6 12) ≡ 0) }
+
+-- "n=2, t=1: B is 7; 6 records lent give 8", 7 do not
+abbrev pub gates9 : List ℕ
+gates9 = rotationRecord 0 5 ∷ []
+
+abbrev pub ninth : Example
+ninth = record { number = 9; says = (numberOf (verdictOf 2 couplers4 gates9 6) ≡ 8) × (numberOf (verdictOf 2 couplers4 gates9 7) ≡ 0) }
+
+abbrev pub layingExamples : List Example
+layingExamples = fourth ∷ fifth ∷ sixth ∷ ninth ∷ []
+
+-- all that are marked P
+abbrev pub provedExamples : List Example
+provedExamples = meaningExamples ++ chipExamples ++ layingExamples
