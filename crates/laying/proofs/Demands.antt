@@ -33,6 +33,7 @@ use Rattle.laying.proofs.Judging.{qubits-few, over-few}
 use Rattle.laying.proofs.Accepting.{reach-within, within-reach, reach-number, reach-place, parities-whole, job-layable, job-room, job-listed, job-not-stuck, room-number}
 use Rattle.laying.proofs.Accepted.{circuit-same, circuit-good, circuit-coupled, circuit-rotations, circuit-cnots, circuit-bounded, circuit-reaches, stuck-passed, job-accepted}
 use Rattle.laying.proofs.Linking.{linked-in, in-linked}
+use Rattle.laying.proofs.Each.{each-term-once, no-other}
 use Rattle.laying.proofs.Twice.{same-gates}
 
 -- ---- demand 1
@@ -97,6 +98,8 @@ demand-2 n couplers gates room z =
       good = circuit-good n couplers gates job;
       coupled = circuit-coupled n couplers gates job;
       rotations = circuit-rotations n couplers gates job;
+      each = each-term-once n (gatesOf n gates) (circuitOf n couplers gates) (circuit-same n couplers gates job) (circuit-rotations n couplers gates job);
+      other = no-other n (gatesOf n gates) (circuitOf n couplers gates) (circuit-same n couplers gates job) (circuit-rotations n couplers gates job);
       cnots = circuit-cnots n couplers gates job;
       bound = circuit-bounded n couplers gates job;
     }

@@ -19,6 +19,7 @@ pub mod Accepting
 pub mod Accepted
 pub mod Answering
 pub mod Linking
+pub mod Each
 pub mod Twice
 pub mod Demands
 pub mod Examples

@@ -3,14 +3,15 @@ use mathlib.Core.Path.{_≡_}
 use mathlib.Core.Bool.{Bool, true, false}
 use mathlib.Core.List.{List, [], _∷_}
 use Prim.Native.Nat.{ℕ, _-_, _+_, _*_, _≤_, _<_}
-use lib.ListN.{length}
+use lib.Dec.{eqb}
+use lib.ListN.{length, getD}
 use Rattle.sets.specs.Pick.{pick}
 use Rattle.sets.specs.Bit.{In, Sub, has}
 use Rattle.meaning.specs.declared.gate.Gate.{Gate}
 use Rattle.meaning.specs.declared.gate.Gate.the-variants.{Cnot, Rotation, Bad}
 use Rattle.meaning.specs.declared.verdict.Verdict.{Verdict}
 use Rattle.meaning.specs.Layout.{gatesOf, Good}
-use Rattle.meaning.specs.Circuit.{finalOf, sumOf}
+use Rattle.meaning.specs.Circuit.{step, start, finalOf, sumOf, Term}
 use Rattle.meaning.specs.Borne.{terms}
 use Rattle.meaning.specs.Same.{All, Listed, OnCoupler, SameMeaning}
 use Rattle.meaning.specs.Tally.{cnotsOf, rotationsOf, boundOf}
@@ -43,12 +44,25 @@ gatesOn S (g ∷ gs) = pick (isOn S g) (g ∷ gatesOn S gs) (gatesOn S gs)
 
 -- ---- demand 2
 
--- "The circuit that comes out": its meaning, its couplers, "exactly t rotations and at most 2(n-1)t + 2n(n-1) CNOTs", at most B gates
+-- 1 for a rotation where the wire's parity is p
+unfoldable pub oneOn : ℕ → Gate → List ℕ → ℕ
+oneOn p (Cnot c t) W = 0
+oneOn p (Rotation q a) W = pick (eqb (getD W q 0) p) 1 0
+oneOn p Bad W = 0
+
+-- the rotations of a list that parity p bears, from the wires W on
+unfoldable pub rotationsOn : ℕ → List Gate → List ℕ → ℕ
+rotationsOn p [] W = 0
+rotationsOn p (g ∷ gs) W = oneOn p g W + rotationsOn p gs (step g W)
+
+-- "The circuit that comes out": its meaning, its couplers, "exactly t rotations", one for each term, "and at most 2(n-1)t + 2n(n-1) CNOTs", at most B gates
 pub record Faithful (n : ℕ) (couplers : List ℕ) (drawn laid : List Gate) : Type 0 where
   pub same : SameMeaning n drawn laid
   pub good : All (Good n) laid
   pub coupled : All (OnCoupler couplers) laid
   pub rotations : rotationsOf laid ≡ length (terms drawn)
+  pub each : (p : ℕ) → Term drawn p → rotationsOn p laid start ≡ 1
+  pub other : (p : ℕ) → (Term drawn p → ⊥) → rotationsOn p laid start ≡ 0
   pub cnots : cnotsOf laid ≤ 2 * (n - 1) * length (terms drawn) + 2 * n * (n - 1)
   pub bound : length laid ≤ boundOf n (length (terms drawn))
 
