@@ -1,0 +1,4 @@
+pub mod Choosing
+pub mod Reading
+pub mod Laying
+pub mod Writing

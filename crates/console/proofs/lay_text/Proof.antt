@@ -1,0 +1,74 @@
+-- `console::lay_text` meets its contract. Assumes nothing.
+use Prim.Native.Nat.{ℕ}
+use lib.ListN.{length-replicate}
+use Rattle.console.specs.Printed.{mostLines}
+use Rattle.console.proofs.Choosing.{prints-same}
+use Rattle.console.proofs.Reading.{couplers-fit, couplers-long, gates-fit, gates-long, laid-read, laid-unread}
+use borrow.Author.Needs.{needs}
+use Rattle.console.proofs.lay_text.Statement.{statement}
+use Rattle.console.proofs.lay_text.Tie as tie
+
+slice-aggregate-read : tie.Need-slice-aggregate-read
+slice-aggregate-read c = search needs
+
+slice-aggregate-read-2 : tie.Need-slice-aggregate-read-2
+slice-aggregate-read-2 c = search needs
+
+read-requires : tie.Need-read-requires
+read-requires c κs = search needs
+
+enum-known-job : tie.Need-enum-known-job
+enum-known-job c = search needs
+
+array-share-prefix-couplers : tie.Need-array-share-prefix-couplers
+array-share-prefix-couplers c = couplers-fit _ _ _ _ _ (length-replicate {A = ℕ} mostLines 0) (length-replicate {A = ℕ} mostLines 0) _ _ (c .before .before .before .before .before .read .ensures .0) (c .before .job .given .1) (c .before .before .before .before .before .read .ensures .1) (c .before .before .before .before .before .read .ensures .2)
+
+slice-aggregate-lay-job : tie.Need-slice-aggregate-lay-job
+slice-aggregate-lay-job c = couplers-long _ _ _ _ _ (length-replicate {A = ℕ} mostLines 0) (length-replicate {A = ℕ} mostLines 0) _ _ (c .before .before .before .before .before .before .read .ensures .0) (c .before .before .job .given .1) (c .before .before .before .before .before .before .read .ensures .1) (c .before .before .before .before .before .before .read .ensures .2)
+
+array-share-prefix-gates : tie.Need-array-share-prefix-gates
+array-share-prefix-gates c = gates-fit _ _ _ _ _ (length-replicate {A = ℕ} mostLines 0) (length-replicate {A = ℕ} mostLines 0) _ _ (c .before .before .before .before .before .before .read .ensures .0) (c .before .before .job .given .1) (c .before .before .before .before .before .before .read .ensures .1) (c .before .before .before .before .before .before .read .ensures .2)
+
+slice-aggregate-lay-job-2 : tie.Need-slice-aggregate-lay-job-2
+slice-aggregate-lay-job-2 c = gates-long _ _ _ _ _ (length-replicate {A = ℕ} mostLines 0) (length-replicate {A = ℕ} mostLines 0) _ _ (c .before .before .before .before .before .before .before .read .ensures .0) (c .before .before .before .job .given .1) (c .before .before .before .before .before .before .before .read .ensures .1) (c .before .before .before .before .before .before .before .read .ensures .2)
+
+lay-job-requires : tie.Need-lay-job-requires
+lay-job-requires c κs = search needs
+
+enum-known-verdict : tie.Need-enum-known-verdict
+enum-known-verdict c = search needs
+
+print-refusal-requires : tie.Need-print-refusal-requires
+print-refusal-requires c κs = search needs
+
+same-length : tie.Need-same-length
+same-length c = search needs
+
+returns : tie.Need-returns
+returns c = prints-same _ _ (c .before .before .before .before .before .before .before .before .before .before .before .before .before .before .before .before .args .out .now) _ _ (laid-read _ _ _ _ _ (length-replicate {A = ℕ} mostLines 0) (length-replicate {A = ℕ} mostLines 0) _ _ (c .before .before .before .before .before .before .before .before .before .before .before .read .ensures .0) (c .before .before .before .before .before .before .before .job .given .1) (c .before .before .before .before .before .before .before .before .before .before .before .read .ensures .1) (c .before .before .before .before .before .before .before .before .before .before .before .read .ensures .2) _) (c .before .before .lay-job .ensures)
+
+same-length-2 : tie.Need-same-length-2
+same-length-2 c = search needs
+
+returns-2 : tie.Need-returns-2
+returns-2 c = prints-same _ _ (c .before .before .before .before .before .before .before .before .before .before .before .before .before .before .args .out .now) _ _ (laid-unread _ _ _ (length-replicate {A = ℕ} mostLines 0) (length-replicate {A = ℕ} mostLines 0) _ _ (c .before .before .before .before .before .before .before .before .before .read .ensures .0) (c .before .before .before .before .before .verdict .given .1) _) (c .before .before .print-refusal .ensures)
+
+pub lay-text-spec : {M : Type 1} → statement M
+lay-text-spec =
+    tie.close
+    (tie.spec
+    slice-aggregate-read
+    slice-aggregate-read-2
+    read-requires
+    enum-known-job
+    array-share-prefix-couplers
+    slice-aggregate-lay-job
+    array-share-prefix-gates
+    slice-aggregate-lay-job-2
+    lay-job-requires
+    enum-known-verdict
+    print-refusal-requires
+    same-length
+    returns
+    same-length-2
+    returns-2)

@@ -1,0 +1,11 @@
+// The laying program: a job's text from standard input, the laid job's to standard output.
+use libc::STDIN_FILENO;
+use libc::STDOUT_FILENO;
+
+fn main() {
+    let mut text = [0u8; console::INPUT];
+    let n = io::read_full(STDIN_FILENO, &mut text);
+    let mut out = [0u8; console::OUTPUT];
+    let k = console::lay_text(&text[..n], &mut out);
+    io::write_all(STDOUT_FILENO, &out[..k]);
+}
