@@ -2,3 +2,4 @@ pub mod Choosing
 pub mod Reading
 pub mod Laying
 pub mod Writing
+pub mod Whole
