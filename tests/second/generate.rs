@@ -1,0 +1,901 @@
+//! Makes jobs, good and bad ones, always the same from the same seed. Prints a bundle: texts,
+//! each closed by a line `--`, or by a line `-.` where the last LF is not the text's own.
+//!
+//!     generate jobs COUNT SEED                  random, damaged and boundary jobs
+//!     generate vectors                          the fixed list of jobs, closed by `--` only
+//!     generate terms COUPLING T COUNT SEED      COUNT jobs of T random terms, identity asked;
+//!                                               COUPLING: singapore, aspen, line:N, grid:N, all:N
+
+use std::collections::BTreeSet;
+use std::io::Write;
+
+// ------------------------------------------------------------ dice
+
+/// SplitMix64: small, and the same on every machine.
+struct Dice(u64);
+
+impl Dice {
+    fn roll(&mut self) -> u64 {
+        self.0 = self.0.wrapping_add(0x9e37_79b9_7f4a_7c15);
+        let mut z = self.0;
+        z = (z ^ z >> 30).wrapping_mul(0xbf58_476d_1ce4_e5b9);
+        z = (z ^ z >> 27).wrapping_mul(0x94d0_49bb_1331_11eb);
+        z ^ z >> 31
+    }
+
+    fn below(&mut self, bound: usize) -> usize {
+        (self.roll() % bound as u64) as usize
+    }
+
+    fn between(&mut self, low: usize, high: usize) -> usize {
+        low + self.below(high - low + 1)
+    }
+
+    fn percent(&mut self, chance: usize) -> bool {
+        self.below(100) < chance
+    }
+
+    fn pick<T: Clone>(&mut self, list: &[T]) -> T {
+        list[self.below(list.len())].clone()
+    }
+
+    fn shuffle<T>(&mut self, list: &mut [T]) {
+        for i in (1..list.len()).rev() {
+            list.swap(i, self.below(i + 1));
+        }
+    }
+}
+
+// ------------------------------------------------------------ drafts
+
+#[derive(Clone, Copy, PartialEq)]
+enum Gate {
+    Cnot(usize, usize),
+    Rot(usize, usize),
+}
+use Gate::{Cnot, Rot};
+
+#[derive(Clone)]
+struct Draft {
+    n: usize,
+    couplers: Vec<(usize, usize)>,
+    gates: Vec<Gate>,
+}
+
+impl Draft {
+    fn new(n: usize, couplers: &[(usize, usize)], gates: &[Gate]) -> Draft {
+        Draft { n, couplers: couplers.to_vec(), gates: gates.to_vec() }
+    }
+
+    fn text(&self) -> Vec<u8> {
+        let mut text = format!("q\t{}\n", self.n);
+        for (a, b) in &self.couplers {
+            text += &format!("e\t{a}\t{b}\n");
+        }
+        for gate in &self.gates {
+            text += &match gate {
+                Cnot(c, t) => format!("c\t{c}\t{t}\n"),
+                Rot(q, angle) => format!("r\t{q}\t{angle}\n"),
+            };
+        }
+        text.into_bytes()
+    }
+
+    /// For each qubit the qubits of its island.
+    fn islands(&self) -> Vec<Vec<usize>> {
+        let mut label: Vec<usize> = (0..self.n).collect();
+        for _ in 0..self.n {
+            for &(a, b) in &self.couplers {
+                let low = label[a].min(label[b]);
+                (label[a], label[b]) = (low, low);
+            }
+        }
+        (0..self.n).map(|q| (0..self.n).filter(|&p| label[p] == label[q]).collect()).collect()
+    }
+}
+
+// ------------------------------------------------------------ couplings
+
+fn line(n: usize) -> Vec<(usize, usize)> {
+    (1..n).map(|i| (i - 1, i)).collect()
+}
+
+fn grid(n: usize) -> Vec<(usize, usize)> {
+    let wide = (1..).find(|wide| wide * wide >= n).unwrap();
+    let across = (1..n).filter(|i| i % wide != 0).map(|i| (i - 1, i));
+    across.chain((wide..n).map(|i| (i - wide, i))).collect()
+}
+
+fn all_to_all(n: usize) -> Vec<(usize, usize)> {
+    (0..n).flat_map(|b| (0..b).map(move |a| (a, b))).collect()
+}
+
+/// The 20-qubit Singapore device, as its makers published it.
+fn singapore() -> Vec<(usize, usize)> {
+    let rows = (0..20).filter(|i| i % 5 != 0).map(|i| (i - 1, i));
+    let between = [(1, 6), (3, 8), (5, 10), (7, 12), (9, 14), (11, 16), (13, 18)];
+    rows.chain(between).collect()
+}
+
+/// The 16-qubit Aspen device: two rings of eight, joined twice.
+fn aspen() -> Vec<(usize, usize)> {
+    let ring = |first: usize| (0..8).map(move |i| (first + i, first + (i + 1) % 8));
+    ring(0).chain(ring(8)).chain([(1, 14), (2, 13)]).collect()
+}
+
+fn tree(dice: &mut Dice, n: usize) -> Vec<(usize, usize)> {
+    (1..n).map(|i| (dice.below(i), i)).collect()
+}
+
+/// Pieces of random size, each a tree with perhaps some more couplers.
+fn many_islands(dice: &mut Dice, n: usize) -> Vec<(usize, usize)> {
+    let (mut couplers, mut start) = (vec![], 0);
+    while start < n {
+        let size = dice.between(1, 5).min(n - start);
+        couplers.extend(tree(dice, size).into_iter().map(|(a, b)| (start + a, start + b)));
+        if size > 2 && dice.percent(50) {
+            couplers.push((start, start + size - 1));
+        }
+        start += size;
+    }
+    couplers
+}
+
+fn scattered(dice: &mut Dice, n: usize) -> Vec<(usize, usize)> {
+    let density = dice.between(5, 60);
+    all_to_all(n).into_iter().filter(|_| dice.percent(density)).collect()
+}
+
+fn any_coupling(dice: &mut Dice, n: usize) -> Vec<(usize, usize)> {
+    let couplers = match dice.below(12) {
+        0 => vec![],
+        1 | 2 => line(n),
+        3 => grid(n),
+        4 | 5 => tree(dice, n),
+        6 => all_to_all(n),
+        7 | 8 => many_islands(dice, n),
+        9 => (1..n).map(|i| (0, i)).collect(),
+        10 if n > 2 => line(n).into_iter().chain([(0, n - 1)]).collect(),
+        _ if n == 20 => singapore(),
+        _ if n == 16 => aspen(),
+        _ => scattered(dice, n),
+    };
+    if dice.percent(50) { renumber(dice, n, couplers) } else { couplers }
+}
+
+fn renumber(dice: &mut Dice, n: usize, couplers: Vec<(usize, usize)>) -> Vec<(usize, usize)> {
+    let mut names: Vec<usize> = (0..n).collect();
+    dice.shuffle(&mut names);
+    couplers.into_iter().map(|(a, b)| (names[a], names[b])).collect()
+}
+
+/// The same coupling, written otherwise: order, direction, repetitions.
+fn rewrite_couplers(dice: &mut Dice, couplers: &mut Vec<(usize, usize)>) {
+    for _ in 0..dice.below(4) {
+        if !couplers.is_empty() && couplers.len() < 190 {
+            couplers.push(dice.pick(couplers));
+        }
+    }
+    dice.shuffle(couplers);
+    for ends in couplers {
+        if dice.percent(50) {
+            *ends = (ends.1, ends.0);
+        }
+    }
+}
+
+// ------------------------------------------------------------ gates
+
+fn any_angle(dice: &mut Dice) -> usize {
+    match dice.below(10) {
+        0 => dice.pick(&[0, 1, 65_535, 32_768]),
+        1 | 2 => dice.between(1, 9),
+        _ => dice.below(65_536),
+    }
+}
+
+/// A random gate that stays inside an island.
+fn gate_inside(dice: &mut Dice, islands: &[Vec<usize>]) -> Gate {
+    let q = dice.below(islands.len());
+    let other = dice.pick(&islands[q]);
+    if other != q && dice.percent(65) {
+        Cnot(q, other)
+    } else {
+        Rot(q, any_angle(dice))
+    }
+}
+
+fn gates_inside(dice: &mut Dice, draft: &Draft, count: usize) -> Vec<Gate> {
+    let islands = draft.islands();
+    (0..count).map(|_| gate_inside(dice, &islands)).collect()
+}
+
+/// CNOTs between any qubits, islands or not.
+fn cnots_anywhere(dice: &mut Dice, n: usize, count: usize) -> Vec<Gate> {
+    let count = if n < 2 { 0 } else { count };
+    (0..count)
+        .map(|_| {
+            let c = dice.below(n);
+            Cnot(c, (c + dice.between(1, n - 1)) % n)
+        })
+        .collect()
+}
+
+/// Two or three rotations on one wire whose angles come to a full turn.
+fn cancelling(dice: &mut Dice, n: usize) -> Vec<Gate> {
+    let (q, a, b) = (dice.below(n), dice.below(65_536), dice.below(65_536));
+    let rest = (2 * 65_536 - a - b) % 65_536;
+    vec![Rot(q, a), Rot(q, b), Rot(q, rest)]
+}
+
+fn there_and_back(between: &[Gate], there: Vec<Gate>) -> Vec<Gate> {
+    let back = there.iter().rev().cloned().collect();
+    [there, between.to_vec(), back].concat()
+}
+
+/// Gates that bear all these parities in turn and end with the identity. Each parity is drawn on
+/// the wire of its lowest qubit; from one to the nearest next one only the difference is laid, so
+/// that 256 terms on 20 qubits stay far below 4,096 gates.
+fn draw_terms(terms: &[(usize, usize)]) -> Vec<Gate> {
+    let mut gates = vec![];
+    for wire in 0..20 {
+        let mut open: Vec<_> = terms.iter().filter(|(p, _)| p.trailing_zeros() == wire).collect();
+        let (wire, mut now) = (wire as usize, 1usize << wire);
+        let move_to = |now: &mut usize, next: usize, gates: &mut Vec<Gate>| {
+            let changed = (0..20).filter(|q| (*now ^ next) >> q & 1 == 1);
+            gates.extend(changed.map(|q| Cnot(q, wire)));
+            *now = next;
+        };
+        while !open.is_empty() {
+            let nearest = (0..open.len()).min_by_key(|&i| (open[i].0 ^ now).count_ones()).unwrap();
+            let &(parity, angle) = open.remove(nearest);
+            move_to(&mut now, parity, &mut gates);
+            gates.push(Rot(wire, angle));
+        }
+        move_to(&mut now, 1 << wire, &mut gates);
+    }
+    gates
+}
+
+fn random_terms(dice: &mut Dice, n: usize, count: usize) -> Vec<(usize, usize)> {
+    let count = count.min((1 << n) - 1);
+    let mut terms = BTreeSet::new();
+    while terms.len() < count {
+        terms.insert(dice.between(1, (1 << n) - 1));
+    }
+    terms.into_iter().map(|parity| (parity, dice.between(1, 65_535))).collect()
+}
+
+// ------------------------------------------------------------ good drafts
+
+fn draft_of(dice: &mut Dice, n: usize) -> Draft {
+    let mut couplers = any_coupling(dice, n);
+    rewrite_couplers(dice, &mut couplers);
+    Draft::new(n, &couplers, &[])
+}
+
+fn reachable(dice: &mut Dice, n: usize, most_gates: usize) -> Draft {
+    let mut draft = draft_of(dice, n);
+    let count = dice.between(0, most_gates);
+    draft.gates = gates_inside(dice, &draft, count);
+    draft
+}
+
+/// Reachable in the end, though CNOTs leave the islands on the way.
+fn conjugated(dice: &mut Dice) -> Draft {
+    let n = dice.between(1, 12);
+    let mut draft = draft_of(dice, n);
+    for _ in 0..dice.between(1, 3) {
+        let (inside, away) = (dice.below(12), dice.between(1, 8));
+        let between = cancelling(dice, n);
+        draft.gates.extend(gates_inside(dice, &draft, inside));
+        draft.gates.extend(there_and_back(&between, cnots_anywhere(dice, n, away)));
+    }
+    draft
+}
+
+/// Mostly not reachable: by a wire, or by a term only.
+fn leaving(dice: &mut Dice) -> Draft {
+    let n = dice.between(2, 10);
+    let mut draft = Draft::new(n, &many_islands(dice, n), &[]);
+    let (inside, away) = (dice.below(20), dice.between(1, 4));
+    draft.gates = gates_inside(dice, &draft, inside);
+    let there = cnots_anywhere(dice, n, away);
+    if dice.percent(60) {
+        let astray = Rot(dice.below(n), dice.between(1, 65_535));
+        draft.gates.extend(there_and_back(&[astray], there));
+    } else {
+        let place = dice.between(0, draft.gates.len());
+        draft.gates.splice(place..place, there);
+    }
+    draft
+}
+
+fn many_terms(dice: &mut Dice) -> Draft {
+    let n = dice.between(5, 20);
+    let mut draft = draft_of(dice, n);
+    if draft.islands()[0].len() < n {
+        draft.couplers = tree(dice, n);
+    }
+    let count = dice.between(1, 256);
+    draft.gates = draw_terms(&random_terms(dice, n, count));
+    if dice.percent(50) {
+        draft.gates.extend(cnots_anywhere(dice, n, 40));
+    }
+    draft
+}
+
+/// A tree with some more couplers and terms of few qubits. Here gathering is seldom the shortest
+/// way, so a column other than the chosen one can become single between two moves.
+fn crooked(dice: &mut Dice) -> Draft {
+    let n = dice.between(4, 12);
+    let mut couplers = tree(dice, n);
+    for _ in 0..dice.below(n) {
+        couplers.push(dice.pick(&all_to_all(n)));
+    }
+    let couplers = renumber(dice, n, couplers);
+    let count = dice.between(2, 14);
+    let thin = |(parity, angle): (usize, usize), dice: &mut Dice| (parity & dice.below(1 << n), angle);
+    let terms: Vec<_> = random_terms(dice, n, count).into_iter().map(|term| thin(term, dice)).collect();
+    Draft::new(n, &couplers, &draw_terms(&terms))
+}
+
+// ------------------------------------------------------------ a second drawing
+
+fn qubits_of(gate: Gate) -> [usize; 2] {
+    match gate {
+        Cnot(c, t) => [c, t],
+        Rot(q, _) => [q, q],
+    }
+}
+
+fn apart(a: Gate, b: Gate) -> bool {
+    qubits_of(a).iter().all(|q| !qubits_of(b).contains(q))
+}
+
+/// One change that leaves the meaning as it is.
+fn redraw_once(dice: &mut Dice, n: usize, gates: &mut Vec<Gate>) {
+    let place = dice.between(0, gates.len());
+    match dice.below(5) {
+        0 => {
+            let two = cnots_anywhere(dice, n, 1);
+            gates.splice(place..place, there_and_back(&[], two));
+        }
+        1 => {
+            gates.splice(place..place, cancelling(dice, n));
+        }
+        2 if place + 1 < gates.len() && apart(gates[place], gates[place + 1]) => {
+            gates.swap(place, place + 1)
+        }
+        3 => {
+            if let Some(&Rot(q, angle)) = gates.get(place) {
+                let part = dice.below(65_536);
+                gates.splice(place..=place, [Rot(q, part), Rot(q, (65_536 + angle - part) % 65_536)]);
+            }
+        }
+        _ => {
+            let third = dice.below(n);
+            if let Some(&Cnot(c, t)) = gates.get(place) {
+                if third != c && third != t {
+                    let by_third = [Cnot(c, third), Cnot(third, t), Cnot(c, third), Cnot(third, t)];
+                    gates.splice(place..=place, by_third);
+                }
+            }
+        }
+    }
+}
+
+fn redrawn(dice: &mut Dice, draft: &Draft) -> Draft {
+    let mut other = draft.clone();
+    for _ in 0..dice.between(1, 30) {
+        redraw_once(dice, other.n, &mut other.gates);
+    }
+    rewrite_couplers(dice, &mut other.couplers);
+    other
+}
+
+// ------------------------------------------------------------ limits
+
+fn with_gates(n: usize, count: usize) -> Draft {
+    let gates: Vec<Gate> = (0..count).map(|i| Rot(i % n, 1 + i % 7)).collect();
+    Draft::new(n, &line(n), &gates)
+}
+
+fn with_couplers(count: usize) -> Draft {
+    let couplers: Vec<_> = all_to_all(20).into_iter().cycle().take(count).collect();
+    Draft::new(20, &couplers, &[Cnot(3, 17), Rot(17, 5), Rot(0, 9)])
+}
+
+/// A Gray walk on wire 0: each rotation finds a new parity.
+fn with_parities(n: usize, count: usize, angle: usize) -> Draft {
+    let mut gates = vec![];
+    for i in 1..=count {
+        gates.push(Rot(0, angle));
+        if i < count {
+            gates.push(Cnot(1 + i.trailing_zeros() as usize, 0));
+        }
+    }
+    Draft::new(n, &line(n), &gates)
+}
+
+fn at_a_limit(dice: &mut Dice) -> Draft {
+    let n = dice.between(10, 20);
+    let angle = dice.pick(&[0, 1, 65_535]);
+    match dice.below(8) {
+        0 | 1 => with_gates(dice.between(1, 20), dice.pick(&[4_095, 4_096, 4_097])),
+        2 | 3 => with_couplers(dice.pick(&[189, 190, 191])),
+        4 | 5 => with_parities(n, dice.pick(&[255, 256, 257, 300]), angle),
+        6 => Draft::new(dice.pick(&[0, 1, 20, 21, 22, 127, 128, 255]), &[], &[]),
+        _ => with_gates(dice.pick(&[1, 20, 21]), 1),
+    }
+}
+
+/// Several faults at once: the first in the order of the tests has to win.
+fn with_faults(dice: &mut Dice) -> Draft {
+    let n = dice.between(1, 20);
+    let mut draft = reachable(dice, n, 12);
+    let bad_qubit = dice.pick(&[n, n + 1, 20, 21, 255]);
+    let bad_second = dice.pick(&[n, n + 1, 255, 256, 65_535]);
+    if dice.percent(10) {
+        draft.couplers = with_couplers(dice.between(191, 200)).couplers;
+    }
+    if dice.percent(30) {
+        let place = dice.between(0, draft.couplers.len());
+        let good = dice.below(n);
+        let bad = dice.pick(&[(good, good), (bad_qubit, good), (good, bad_second)]);
+        draft.couplers.insert(place, bad);
+    }
+    if dice.percent(5) {
+        draft.gates.extend(with_gates(n, 4_097).gates);
+    }
+    if dice.percent(40) {
+        let place = dice.between(0, draft.gates.len());
+        let good = dice.below(n);
+        let bad = [Cnot(good, good), Cnot(bad_qubit, good), Cnot(good, bad_second), Rot(bad_qubit, 5)];
+        draft.gates.insert(place, dice.pick(&bad));
+    }
+    if n > 9 && dice.percent(15) {
+        draft.gates.extend(with_parities(n, dice.between(250, 260), 1).gates);
+    }
+    if dice.percent(20) {
+        draft.gates.extend(cnots_anywhere(dice, n, 2));
+    }
+    if dice.percent(15) {
+        draft.n = dice.pick(&[0, 1, 2, 21, 200]);
+    }
+    draft
+}
+
+// ------------------------------------------------------------ damaged texts
+
+const ODD_BYTES: &[u8] = b"\0\t\n\r +-0123456789qecrxsQECR#.,\x0b\x7f\x80\xff";
+const ODD_NUMBERS: &[&str] = &[
+    "", "00", "01", "+1", "-1", "-0", "1.0", "1e1", "0x1", "255", "256", "257", "999", "1000", "65535",
+    "65536", "65537", "99999", "100000", "4294967295", "4294967296", "4294967297",
+    "18446744073709551616", "340282366920938463463374607431768211457", "\u{0663}", " 1", "1 ", "a", "1_0",
+];
+const ODD_LINES: &[&str] = &[
+    "", "q", "q\t", "q\t1", "q\t1\t1", "e", "e\t0", "e\t0\t", "e\t0\t1", "e\t0\t1\t", "e\t0\t1\t1", "c\t0",
+    "c\t0\t1", "c\t\t1", "r\t0", "r\t0\t65535", "r\t0\t65536", "r\t255\t1", "r\t256\t1", "x\t1\t0",
+    "s\t0\t0\t0", "# remark", "\t", " ", "Q\t1", "E\t0\t1", "ee\t0\t1", "e 0 1", "e\t0 1", "\u{feff}q\t1",
+    "h\t0", "r\t0\t-1", "c\t0\t1\r",
+];
+
+fn lines_of(text: &[u8]) -> Vec<Vec<u8>> {
+    text.split_inclusive(|&byte| byte == b'\n').map(<[u8]>::to_vec).collect()
+}
+
+fn damage_bytes(dice: &mut Dice, text: &mut Vec<u8>) {
+    let place = dice.below(text.len() + 1);
+    let odd = if dice.percent(70) { dice.pick(ODD_BYTES) } else { dice.below(256) as u8 };
+    match dice.below(4) {
+        0 => text.insert(place, odd),
+        1 => text.truncate(place),
+        2 if place < text.len() => text[place] = odd,
+        _ if place < text.len() => drop(text.remove(place)),
+        _ => drop(text.pop()),
+    }
+}
+
+fn damage_lines(dice: &mut Dice, text: &mut Vec<u8>) {
+    let mut lines = lines_of(text);
+    let place = dice.below(lines.len() + 1);
+    let (i, j) = (dice.below(lines.len().max(1)), dice.below(lines.len().max(1)));
+    match dice.below(4) {
+        0 => lines.insert(place, [dice.pick(ODD_LINES).as_bytes(), b"\n"].concat()),
+        1 if !lines.is_empty() => lines.swap(i, j),
+        2 if !lines.is_empty() => lines.insert(place, lines[i].clone()),
+        _ if !lines.is_empty() => drop(lines.remove(i)),
+        _ => {}
+    }
+    *text = lines.concat();
+}
+
+fn damage_field(dice: &mut Dice, text: &mut Vec<u8>) {
+    let mut lines = lines_of(text);
+    if lines.is_empty() {
+        return;
+    }
+    let i = dice.below(lines.len());
+    let mut fields: Vec<Vec<u8>> =
+        lines[i].trim_ascii_end().split(|&byte| byte == b'\t').map(<[u8]>::to_vec).collect();
+    let f = dice.below(fields.len());
+    match dice.below(6) {
+        0 => fields.insert(f, vec![]),
+        1 => fields.push(b"1".to_vec()),
+        2 => drop(fields.remove(f)),
+        3 => fields[f].insert(0, dice.pick(b"0+- ")),
+        _ => fields[f] = dice.pick(ODD_NUMBERS).as_bytes().to_vec(),
+    }
+    lines[i] = fields.join(&b"\t"[..]);
+    lines[i].push(b'\n');
+    *text = lines.concat();
+}
+
+fn replace_all(text: &[u8], from: u8, to: &[u8]) -> Vec<u8> {
+    text.iter().flat_map(|&byte| if byte == from { to.to_vec() } else { vec![byte] }).collect()
+}
+
+fn damage_whole(dice: &mut Dice, text: &mut Vec<u8>) {
+    *text = match dice.below(7) {
+        0 => replace_all(text, b'\n', b"\r\n"),
+        1 => replace_all(text, b'\t', b" "),
+        2 => replace_all(text, b'\n', b"\r"),
+        3 => [b"\xef\xbb\xbf", &text[..]].concat(),
+        4 => [b"\n", &text[..]].concat(),
+        5 => [&text[..], &text[..]].concat(),
+        _ => text.to_ascii_uppercase(),
+    };
+}
+
+fn damaged(dice: &mut Dice) -> Vec<u8> {
+    let n = dice.between(1, 8);
+    let mut text = reachable(dice, n, 15).text();
+    for _ in 0..dice.pick(&[1, 1, 1, 2, 3]) {
+        match dice.below(8) {
+            0 | 1 => damage_bytes(dice, &mut text),
+            2 | 3 => damage_lines(dice, &mut text),
+            4 | 5 => damage_field(dice, &mut text),
+            6 => drop(text.pop()),
+            _ => damage_whole(dice, &mut text),
+        }
+    }
+    text
+}
+
+/// Bytes, letters of the job text, or whole lines, thrown together.
+fn noise(dice: &mut Dice) -> Vec<u8> {
+    let length = dice.below(60);
+    match dice.below(3) {
+        0 => (0..length).map(|_| dice.below(256) as u8).collect(),
+        1 => (0..length).map(|_| dice.pick(b"qecr\t\t\t\n\n0123456789")).collect(),
+        _ => {
+            let text = format!("q\t{}\n", dice.pick(ODD_NUMBERS));
+            let lines = (0..length / 4).map(|_| dice.pick(ODD_LINES).to_string() + "\n");
+            (text + &lines.collect::<String>()).into_bytes()
+        }
+    }
+}
+
+// ------------------------------------------------------------ long texts
+
+/// `line` again and again behind `head`, as often as fits into `size`, then `fill` bytes.
+fn repeated(head: &str, line: &str, size: usize, fill: u8) -> Vec<u8> {
+    let mut text = head.as_bytes().to_vec();
+    while text.len() + line.len() <= size {
+        text.extend(line.as_bytes());
+    }
+    text.resize(size, fill);
+    text
+}
+
+fn long(dice: &mut Dice) -> Vec<u8> {
+    let size = dice.pick(&[65_535, 65_536, 65_536, 65_537, 65_538, 70_000, 200_000]);
+    let head = dice.pick(&["q\t1\n", "q\t2\n", "q\t20\n", "q\t21\n", ""]);
+    let line = dice.pick(&["r\t0\t0\n", "r\t19\t65535\n", "e\t0\t1\n", "c\t0\t1\n", "e\t1\t1\n", "\n", "7"]);
+    let fill = dice.pick(b"\n1\t");
+    repeated(head, line, size, fill)
+}
+
+// ------------------------------------------------------------ rare jobs
+
+/// Found by search: jobs on which a rule decides that seldom does. `;` stands for LF, a space for
+/// a tab.
+const RARE: &[&str] = &[
+    // A column other than the chosen one becomes single between two moves of nearest first.
+    "q 7;e 5 3;e 5 0;e 3 2;e 2 1;e 3 4;e 2 6;e 3 1;e 5 0;e 0 1;e 3 4;e 3 1;c 3 1;\
+     c 6 1;r 1 29500;c 3 1;c 6 1;r 3 39562;r 3 1996;r 3 50494;r 4 4399;c 5 4;c 6 4;\
+     r 4 22981;c 5 4;c 6 4;r 5 50429;c 6 5;r 5 43189;c 6 5;",
+    "q 7;e 1 5;e 5 4;e 1 0;e 1 2;e 0 6;e 2 3;e 0 3;e 5 0;e 5 6;r 0 53748;c 1 0;\
+     r 0 19763;c 2 0;c 5 0;r 0 22189;c 2 0;c 3 0;c 5 0;c 6 0;r 0 20311;c 1 0;c 3 0;\
+     c 6 0;r 1 58896;r 2 1464;c 4 2;r 2 17388;c 6 2;r 2 36238;c 4 2;c 6 2;r 3 17593;\
+     r 5 41231;",
+    "q 10;e 6 7;e 6 4;e 4 8;e 6 2;e 4 3;e 7 1;e 1 0;e 6 5;e 2 9;e 6 3;e 7 3;e 7 2;\
+     e 6 0;e 2 0;c 3 1;c 9 1;r 1 21922;c 3 1;c 4 1;c 6 1;c 8 1;r 1 15698;c 4 1;c 6 1;\
+     c 8 1;c 9 1;r 2 43260;c 9 2;r 2 42580;c 3 2;c 6 2;c 8 2;c 9 2;r 2 37912;c 3 2;\
+     c 6 2;c 8 2;c 9 3;r 3 62912;c 9 3;c 6 5;c 7 5;r 5 64000;c 6 5;c 7 5;r 8 60691;",
+    "q 10;e 8 1;e 8 4;e 4 2;e 4 7;e 7 3;e 3 0;e 8 5;e 8 9;e 9 6;e 7 9;e 8 9;e 2 9;\
+     e 4 0;e 1 9;e 9 6;e 8 1;e 0 6;e 2 7;c 1 0;c 5 0;r 0 13894;c 1 0;c 5 0;c 6 0;\
+     c 9 0;r 0 38069;c 3 0;r 0 51762;c 4 0;c 9 0;r 0 43816;c 3 0;c 4 0;c 5 0;c 8 0;\
+     c 9 0;r 0 40005;c 5 0;c 6 0;c 8 0;c 9 0;c 9 2;r 2 48154;c 9 2;c 7 3;r 3 41715;\
+     c 7 3;c 9 4;r 4 36265;c 9 4;",
+    // Onward and back first have the same number of CNOTs.
+    "q 6;e 4 1;e 4 1;e 2 3;e 1 2;e 2 1;e 4 1;r 0 9;c 1 2;r 2 65535;c 2 1;c 2 3;",
+    "q 5;e 0 3;e 4 1;e 0 2;e 0 1;r 0 48254;c 2 0;r 0 1603;c 2 1;c 0 3;r 3 5;c 4 3;",
+    "q 5;e 1 0;e 0 2;r 3 11853;r 0 7;c 1 0;r 3 23685;r 4 38660;c 2 1;r 3 51596;\
+     r 0 38146;",
+    "q 3;e 1 0;e 2 0;e 2 1;e 0 2;e 0 1;e 0 2;r 2 15959;r 1 18118;c 0 2;r 0 3;c 0 1;\
+     r 0 37054;r 0 41536;r 2 49327;r 2 8;c 0 2;",
+    // Where back first meets the ending, two equal CNOTs stand side by side and stay.
+    "q 3;e 2 1;e 0 2;e 1 2;e 2 1;r 2 20758;r 0 44413;r 2 1;r 0 65535;r 1 50042;r 0 1;\
+     c 1 2;r 0 0;r 1 5;c 0 2;r 1 4;r 2 56411;r 2 54041;r 1 9;r 2 2;c 0 1;",
+    "q 3;e 1 0;e 0 1;e 0 2;c 1 2;c 2 0;c 2 0;r 0 5;r 0 5713;r 1 51204;r 2 7;c 2 1;\
+     r 1 28367;c 1 0;r 2 6;r 1 27221;r 0 1;r 2 57893;r 0 6;c 2 1;c 0 1;c 1 0;c 2 0;\
+     r 0 65535;",
+];
+
+fn rare(text: &str) -> Vec<u8> {
+    text.replace(' ', "\t").replace(';', "\n").into_bytes()
+}
+
+// ------------------------------------------------------------ random jobs
+
+/// One job, or two drawings of one.
+fn random_jobs(dice: &mut Dice) -> Vec<Vec<u8>> {
+    let (small, any) = (dice.between(1, 6), dice.between(1, 20));
+    let draft = match dice.below(1_000) {
+        0..300 => reachable(dice, small, 30),
+        300..400 => reachable(dice, any, 150),
+        400..500 => crooked(dice),
+        500..512 => reachable(dice, any, 1_500),
+        512..525 => many_terms(dice),
+        525..605 => conjugated(dice),
+        605..685 => leaving(dice),
+        685..765 => {
+            let first = if dice.percent(30) { conjugated(dice) } else { reachable(dice, any, 60) };
+            return vec![first.text(), redrawn(dice, &first).text()];
+        }
+        765..785 => at_a_limit(dice),
+        785..845 => with_faults(dice),
+        845..965 => return vec![damaged(dice)],
+        965..992 => return vec![noise(dice)],
+        992..996 => return vec![rare(dice.pick(RARE))],
+        _ => return vec![long(dice)],
+    };
+    vec![draft.text()]
+}
+
+fn jobs(count: usize, seed: u64) -> Vec<Vec<u8>> {
+    let mut dice = Dice(seed);
+    let mut jobs = vec![];
+    while jobs.len() < count {
+        jobs.extend(random_jobs(&mut dice));
+    }
+    jobs.truncate(count);
+    jobs
+}
+
+// ------------------------------------------------------------ the fixed list
+
+/// Document 01's examples and the job it prints whole.
+fn examples() -> Vec<Vec<u8>> {
+    let joined = &[(0, 1)][..];
+    let drafts = [
+        Draft::new(2, &[(1, 0)], &[Rot(1, 500), Rot(0, 7), Rot(1, 65_036)]),
+        Draft::new(2, joined, &[Cnot(0, 1), Cnot(1, 0), Cnot(0, 1)]),
+        Draft::new(2, joined, &[Rot(1, 5), Cnot(0, 1), Rot(1, 5)]),
+        Draft::new(1, &[], &[Rot(0, 65_535), Rot(0, 1)]),
+        Draft::new(3, joined, &[Cnot(0, 2), Cnot(0, 2)]),
+        Draft::new(3, joined, &[Cnot(0, 2)]),
+        Draft::new(3, joined, &[Cnot(0, 2), Rot(2, 40), Cnot(0, 2)]),
+        Draft::new(3, joined, &[Cnot(0, 2), Rot(2, 40), Rot(2, 65_496), Cnot(0, 2)]),
+        Draft::new(0, &[], &[]),
+        Draft::new(21, &[], &[]),
+        Draft::new(1, &[], &[]),
+        Draft::new(20, &[], &[]),
+        Draft::new(2, &[(0, 0)], &[]),
+        Draft::new(2, joined, &[Cnot(0, 1), Rot(1, 9), Cnot(0, 1)]),
+        Draft::new(2, joined, &[Cnot(0, 1), Rot(1, 9)]),
+    ];
+    let worked = "q\t4\ne\t0\t1\ne\t1\t2\ne\t2\t3\n\
+        c\t1\t3\nc\t1\t0\nr\t0\t200\nr\t1\t300\nr\t3\t100\nc\t1\t3\n";
+    drafts.iter().map(Draft::text).chain([worked.into()]).collect()
+}
+
+fn refusals_at_their_boundaries() -> Vec<Vec<u8>> {
+    let mut drafts = vec![
+        with_gates(1, 4_096),
+        with_gates(1, 4_097),
+        with_couplers(190),
+        with_couplers(191),
+        with_parities(10, 256, 1),
+        with_parities(10, 257, 1),
+        with_parities(10, 256, 0),
+        with_parities(10, 257, 0),
+        with_parities(20, 256, 77),
+    ];
+    for n in [0, 1, 2, 19, 20, 21, 22, 99, 100, 127, 128, 254, 255] {
+        drafts.push(Draft::new(n, &[], &[Rot(0, 3)]));
+    }
+    for ends in [(0, 2), (2, 0), (1, 1), (2, 2), (255, 0), (0, 255), (0, 256), (0, 65_535), (1, 0)] {
+        drafts.push(Draft::new(2, &[ends], &[]));
+        drafts.push(Draft::new(2, &[(0, 1), (1, 0), ends], &[Rot(0, 1)]));
+    }
+    let gates = [Cnot(0, 3), Cnot(3, 0), Cnot(1, 1), Cnot(0, 256), Cnot(0, 65_535), Rot(3, 1), Rot(255, 0), Rot(2, 0)];
+    for gate in gates {
+        drafts.push(Draft::new(3, &line(3), &[gate]));
+        drafts.push(Draft::new(3, &line(3), &[Cnot(0, 1), Rot(2, 65_535), gate]));
+    }
+    for wire in 0..5 {
+        let next = (wire + 1) % 5;
+        drafts.push(Draft::new(5, &[], &[Cnot(next, wire)]));
+        drafts.push(Draft::new(5, &[], &[Cnot(next, wire), Rot(wire, 8), Cnot(next, wire)]));
+        drafts.push(Draft::new(5, &[(0, 1), (2, 3)], &[Cnot(next, wire), Cnot(wire, next)]));
+    }
+    drafts.iter().map(Draft::text).collect()
+}
+
+fn texts_at_their_boundaries() -> Vec<Vec<u8>> {
+    let mut texts = vec![vec![], b"\n".to_vec(), b"\n\n".to_vec(), b"q\t3\n\n".to_vec()];
+    for number in ODD_NUMBERS {
+        texts.push(format!("q\t{number}\n").into_bytes());
+        texts.push(format!("q\t2\ne\t{number}\t1\n").into_bytes());
+        texts.push(format!("q\t2\ne\t1\t{number}\n").into_bytes());
+        texts.push(format!("q\t3\nr\t{number}\t1\n").into_bytes());
+        texts.push(format!("q\t3\nr\t2\t{number}\n").into_bytes());
+    }
+    for line in ODD_LINES {
+        texts.push(format!("{line}\n").into_bytes());
+        texts.push(format!("q\t2\n{line}\n").into_bytes());
+        texts.push(format!("q\t2\ne\t0\t1\nr\t1\t4\n{line}\n").into_bytes());
+    }
+    // 10,922 lines of either list, the most that 65,536 bytes can hold, and one byte too many.
+    texts.push(repeated("q\t1\n", "r\t0\t0\n", 65_536, b'\n'));
+    texts.push(repeated("q\t2\n", "e\t0\t1\n", 65_536, b'\n'));
+    texts.push(repeated("q\t20\n", "e\t0\t1\n", 65_537, b'\n'));
+    texts
+}
+
+fn couplings_of_all_kinds() -> Vec<Vec<u8>> {
+    let mut dice = Dice(20);
+    let mut texts = vec![];
+    for n in [2, 3, 4, 5, 6, 7, 9, 12, 16, 20] {
+        let kinds = [line(n), grid(n), all_to_all(n), tree(&mut dice, n), many_islands(&mut dice, n)];
+        for couplers in kinds {
+            let mut draft = Draft::new(n, &couplers, &[]);
+            draft.gates = gates_inside(&mut dice, &draft, 6 * n);
+            texts.push(draft.text());
+        }
+    }
+    for couplers in [singapore(), aspen()] {
+        let n = if couplers.len() == 23 { 20 } else { 16 };
+        let gates = draw_terms(&random_terms(&mut dice, n, 12));
+        texts.push(Draft::new(n, &couplers, &gates).text());
+    }
+    texts
+}
+
+/// Three drawings of each meaning.
+fn drawn_thrice() -> Vec<Vec<u8>> {
+    let mut dice = Dice(3);
+    let mut texts = vec![];
+    for n in [1, 2, 3, 4, 5, 6, 8, 11, 15, 20] {
+        let draft = reachable(&mut dice, n, 25);
+        let others = [redrawn(&mut dice, &draft), redrawn(&mut dice, &draft)];
+        texts.push(draft.text());
+        texts.extend(others.iter().map(Draft::text));
+    }
+    texts
+}
+
+/// One island with the same terms, beside different others.
+fn one_island_in_two_jobs() -> Vec<Vec<u8>> {
+    let island = Draft::new(4, &[(0, 1), (1, 2), (1, 3)], &[]);
+    let mut texts = vec![];
+    for seed in 0..6 {
+        let own = gates_inside(&mut Dice(seed), &island, 20);
+        let alone = Draft { gates: own.clone(), ..island.clone() };
+        let mut beside = Draft { n: 7, gates: own, ..island.clone() };
+        beside.couplers.extend([(4, 5), (5, 6)]);
+        beside.gates.extend([Cnot(4, 5), Rot(5, 11), Cnot(6, 5), Rot(5, 12)]);
+        texts.extend([alone.text(), beside.text()]);
+    }
+    texts
+}
+
+fn one_qubit_and_cancelled() -> Vec<Vec<u8>> {
+    let mut dice = Dice(1);
+    let mut drafts = vec![];
+    for angle in [0, 1, 2, 32_767, 32_768, 65_534, 65_535] {
+        drafts.push(Draft::new(1, &[], &[Rot(0, angle)]));
+        drafts.push(Draft::new(1, &[], &[Rot(0, angle), Rot(0, angle)]));
+        drafts.push(Draft::new(1, &[], &[Rot(0, angle), Rot(0, (65_536 - angle) % 65_536)]));
+    }
+    drafts.extend((0..20).map(|_| conjugated(&mut dice)));
+    drafts.extend((0..20).map(|_| leaving(&mut dice)));
+    drafts.iter().map(Draft::text).collect()
+}
+
+/// The fixed list can only hold texts that are empty or end with LF.
+fn ends_with_lf(text: &[u8]) -> bool {
+    text.is_empty() || text.ends_with(b"\n")
+}
+
+fn vectors() -> Vec<Vec<u8>> {
+    let mut dice = Dice(7);
+    let mut texts = examples();
+    texts.extend(RARE.iter().map(|text| rare(text)));
+    texts.extend((0..20).map(|_| crooked(&mut dice).text()));
+    texts.extend(refusals_at_their_boundaries());
+    texts.extend(texts_at_their_boundaries());
+    texts.extend(couplings_of_all_kinds());
+    texts.extend(drawn_thrice());
+    texts.extend(one_island_in_two_jobs());
+    texts.extend(one_qubit_and_cancelled());
+    texts.extend((0..60).map(|_| damaged(&mut dice)));
+    texts.extend((0..30).map(|_| noise(&mut dice)));
+    texts.retain(|text| ends_with_lf(text));
+    texts
+}
+
+// ------------------------------------------------------------ jobs for measuring
+
+fn named_coupling(name: &str) -> Option<(usize, Vec<(usize, usize)>)> {
+    if let Some((kind, n)) = name.split_once(':') {
+        let n = n.parse().ok().filter(|n| (1..=20).contains(n))?;
+        return match kind {
+            "line" => Some((n, line(n))),
+            "grid" => Some((n, grid(n))),
+            "all" => Some((n, all_to_all(n))),
+            _ => None,
+        };
+    }
+    match name {
+        "singapore" => Some((20, singapore())),
+        "aspen" => Some((16, aspen())),
+        _ => None,
+    }
+}
+
+fn terms(coupling: &str, count: usize, jobs: usize, seed: u64) -> Option<Vec<Vec<u8>>> {
+    let (n, couplers) = named_coupling(coupling)?;
+    let mut dice = Dice(seed);
+    let job = |_| Draft::new(n, &couplers, &draw_terms(&random_terms(&mut dice, n, count))).text();
+    Some((0..jobs).map(job).collect())
+}
+
+// ------------------------------------------------------------ bundles
+
+/// Closes a text. Random bytes could look like a closing line; such a line is changed.
+fn bundle(texts: Vec<Vec<u8>>) -> Vec<u8> {
+    let mut all = vec![];
+    for text in texts {
+        for line in text.split_inclusive(|&byte| byte == b'\n') {
+            let looks_closing = line.starts_with(b"--") || line.starts_with(b"-.");
+            all.extend(if looks_closing { [b"+", &line[1..]].concat() } else { line.to_vec() });
+        }
+        all.extend(if ends_with_lf(&text) { &b"--\n"[..] } else { b"\n-.\n" });
+    }
+    all
+}
+
+fn main() {
+    let words: Vec<String> = std::env::args().skip(1).collect();
+    let words: Vec<&str> = words.iter().map(String::as_str).collect();
+    let number = |word: &str| word.parse::<u64>().ok();
+    let texts = match words[..] {
+        ["jobs", count, seed] => number(count).zip(number(seed)).map(|(n, s)| jobs(n as usize, s)),
+        ["vectors"] => Some(vectors()),
+        ["terms", coupling, t, count, seed] => match (number(t), number(count), number(seed)) {
+            (Some(t), Some(count), Some(seed)) => terms(coupling, t as usize, count as usize, seed),
+            _ => None,
+        },
+        _ => None,
+    };
+    let Some(texts) = texts else {
+        eprintln!("generate jobs COUNT SEED | vectors | terms COUPLING T COUNT SEED");
+        std::process::exit(2)
+    };
+    let written = std::io::stdout().write_all(&bundle(texts));
+    std::process::exit(if written.is_ok() { 0 } else { 1 });
+}

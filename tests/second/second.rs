@@ -1,0 +1,814 @@
+//! The independent second program of Pikselvuo: it lays the same gates as the first one, from
+//! document 01 and the page on laying alone. Text in, text out.
+//!
+//!     second lay     one job in, what the laying program prints out
+//!     second count   one job in, what the counting program prints out
+//!     second many    a bundle of jobs in; for each job what `lay` and then what `count` print
+//!     second bundle  the same, but each of these texts is closed by a line `--`
+//!
+//! Without an argument its own name decides, so links called `lay` and `count` stand in for the
+//! two programs.
+//!
+//! A bundle is a row of texts, each closed by a line `--`. A line `-.` closes a text too, whose
+//! last LF is then not its own; so texts without a last LF can be bundled as well.
+
+use std::collections::BTreeMap;
+use std::io::{self, BufWriter, Read, Write};
+
+const LONGEST_TEXT: usize = 65_536;
+const READER_ROOM: usize = 10_922;
+const MOST_QUBITS: usize = 20;
+const MOST_COUPLERS: usize = 190;
+const MOST_GATES: usize = 4_096;
+const MOST_PARITIES: usize = 256;
+const FULL_TURN: u32 = 65_536;
+
+// ---------------------------------------------------------------- gates and refusals
+
+#[derive(Clone, Copy, PartialEq, Debug)]
+enum Gate {
+    Cnot(usize, usize),
+    Rot(usize, u32),
+}
+
+#[derive(Clone, Copy, PartialEq, Debug)]
+struct Refusal {
+    number: u32,
+    place: usize,
+}
+
+fn refuse<T>(number: u32, place: usize) -> Result<T, Refusal> {
+    Err(Refusal { number, place })
+}
+
+struct Job {
+    n: usize,
+    couplers: Vec<(usize, usize)>,
+    gates: Vec<Gate>,
+}
+
+// ---------------------------------------------------------------- reading the text
+
+/// A decimal number without sign and needless zeros, at most `most`.
+fn number(field: &[u8], most: usize) -> Option<usize> {
+    let needless_zero = field.len() > 1 && field[0] == b'0';
+    if field.is_empty() || field.len() > 5 || needless_zero {
+        return None;
+    }
+    let mut value = 0;
+    for &digit in field {
+        if !digit.is_ascii_digit() {
+            return None;
+        }
+        value = 10 * value + usize::from(digit - b'0');
+    }
+    if value <= most { Some(value) } else { None }
+}
+
+fn pair(fields: &[&[u8]]) -> Option<(usize, usize)> {
+    match fields {
+        [first, second] => Some((number(first, 255)?, number(second, 65_535)?)),
+        _ => None,
+    }
+}
+
+/// Adds one line (without its LF) to the job, or says that it cannot continue it.
+fn add_line(job: &mut Option<Job>, line: &[u8]) -> Option<()> {
+    let fields: Vec<&[u8]> = line.split(|&byte| byte == b'\t').collect();
+    let (&letter, rest) = fields.split_first()?;
+    let Some(job) = job else {
+        if letter != b"q" || rest.len() != 1 {
+            return None;
+        }
+        *job = Some(Job { n: number(rest[0], 255)?, couplers: vec![], gates: vec![] });
+        return Some(());
+    };
+    let (a, b) = pair(rest)?;
+    match letter {
+        b"e" if job.gates.is_empty() => job.couplers.push((a, b)),
+        b"c" => job.gates.push(Gate::Cnot(a, b)),
+        b"r" => job.gates.push(Gate::Rot(a, b as u32)),
+        _ => return None,
+    }
+    Some(())
+}
+
+fn read_job(text: &[u8]) -> Result<Job, Refusal> {
+    if text.len() > LONGEST_TEXT {
+        return refuse(11, 0);
+    }
+    let mut job = None;
+    for (i, line) in text.split_inclusive(|&byte| byte == b'\n').enumerate() {
+        let fits = line.strip_suffix(b"\n").and_then(|line| add_line(&mut job, line));
+        if fits.is_none() {
+            return refuse(10, i + 1);
+        }
+    }
+    let Some(job) = job else { return refuse(10, 1) };
+    if job.couplers.len() > READER_ROOM || job.gates.len() > READER_ROOM {
+        return refuse(8, 0);
+    }
+    Ok(job)
+}
+
+// ---------------------------------------------------------------- sets of qubits
+
+fn members(mut set: u32) -> impl Iterator<Item = usize> {
+    std::iter::from_fn(move || {
+        if set == 0 {
+            return None;
+        }
+        let lowest = set.trailing_zeros() as usize;
+        set &= set - 1;
+        Some(lowest)
+    })
+}
+
+fn holds(set: u32, q: usize) -> bool {
+    set >> q & 1 == 1
+}
+
+/// If t is in the set, changes whether c is in it.
+fn turn(set: u32, c: usize, t: usize) -> u32 {
+    set ^ (set >> t & 1) << c
+}
+
+// ---------------------------------------------------------------- couplings
+
+#[derive(Clone)]
+struct Coupling {
+    near: [u32; MOST_QUBITS],
+}
+
+impl Coupling {
+    fn of(couplers: &[(usize, usize)]) -> Coupling {
+        let mut near = [0; MOST_QUBITS];
+        for &(a, b) in couplers {
+            near[a] |= 1 << b;
+            near[b] |= 1 << a;
+        }
+        Coupling { near }
+    }
+
+    /// All that chains inside `set` reach from `start`.
+    fn flood(&self, set: u32, start: usize) -> u32 {
+        let (mut seen, mut fresh) = (1 << start, 1u32 << start);
+        while fresh != 0 {
+            let q = fresh.trailing_zeros() as usize;
+            let found = self.near[q] & set & !seen;
+            seen |= found;
+            fresh = fresh & (fresh - 1) | found;
+        }
+        seen
+    }
+
+    fn is_spare(&self, set: u32, v: usize) -> bool {
+        let rest = set & !(1 << v);
+        rest == 0 || self.flood(rest, rest.trailing_zeros() as usize) == rest
+    }
+
+    /// The islands by ascending lowest qubit.
+    fn islands(&self, n: usize) -> Vec<u32> {
+        let mut left = ((1u64 << n) - 1) as u32;
+        let mut islands = vec![];
+        while left != 0 {
+            let island = self.flood(left, left.trailing_zeros() as usize);
+            islands.push(island);
+            left &= !island;
+        }
+        islands
+    }
+
+    /// The way a gathering at `v` goes: from the last qubit of `order(set, v)` down to its
+    /// second, each with its neighbours among the qubits before it.
+    fn walk(&self, set: u32, v: usize) -> Walk {
+        let mut walk = Walk { length: 0, steps: [(0, 0); MOST_QUBITS] };
+        let (mut before, mut layer) = (1u32 << v, 1u32 << v);
+        loop {
+            let next = members(layer).fold(0, |found, q| found | self.near[q]) & set & !before;
+            if next == 0 {
+                break;
+            }
+            for u in members(next) {
+                walk.steps[walk.length] = (u, self.near[u] & before);
+                walk.length += 1;
+                before |= 1 << u;
+            }
+            layer = next;
+        }
+        walk.steps[..walk.length].reverse();
+        walk
+    }
+}
+
+struct Walk {
+    length: usize,
+    steps: [(usize, u32); MOST_QUBITS],
+}
+
+impl Walk {
+    /// The moves (u, p), "u by p", that bring x to the walk's end.
+    fn gather(&self, mut x: u32) -> Vec<(usize, usize)> {
+        let mut moves = vec![];
+        for &(u, earlier) in &self.steps[..self.length] {
+            if !holds(x, u) {
+                continue;
+            }
+            let common = earlier & x;
+            let p = (if common != 0 { common } else { earlier }).trailing_zeros() as usize;
+            if common == 0 {
+                moves.push((p, u));
+            }
+            moves.push((u, p));
+            x = x & !(1 << u) | 1 << p;
+        }
+        moves
+    }
+
+    /// How many moves `gather` has; counting stops at `enough`.
+    fn moves(&self, mut x: u32, enough: u32) -> u32 {
+        let mut moves = 0;
+        for &(u, earlier) in &self.steps[..self.length] {
+            if !holds(x, u) {
+                continue;
+            }
+            x &= !(1 << u);
+            if earlier & x != 0 {
+                moves += 1;
+            } else {
+                moves += 2;
+                x |= earlier & earlier.wrapping_neg();
+            }
+            if moves >= enough {
+                break;
+            }
+        }
+        moves
+    }
+}
+
+// ---------------------------------------------------------------- meaning
+
+struct Meaning {
+    parity: [u32; MOST_QUBITS],
+    mirror: [u32; MOST_QUBITS],
+    /// Every parity that bears a rotation, also where the sum is 0.
+    sums: BTreeMap<u32, u32>,
+}
+
+impl Meaning {
+    /// Refuses with 6 at the gate that brings one parity too many.
+    fn of(gates: &[Gate]) -> Result<Meaning, Refusal> {
+        let wires: [u32; MOST_QUBITS] = std::array::from_fn(|i| 1 << i);
+        let mut meaning = Meaning { parity: wires, mirror: wires, sums: BTreeMap::new() };
+        for (place, &gate) in gates.iter().enumerate() {
+            match gate {
+                Gate::Cnot(c, t) => {
+                    meaning.parity[t] ^= meaning.parity[c];
+                    meaning.mirror[c] ^= meaning.mirror[t];
+                }
+                Gate::Rot(q, angle) => {
+                    let sum = meaning.sums.entry(meaning.parity[q]).or_insert(0);
+                    *sum = (*sum + angle) % FULL_TURN;
+                    if meaning.sums.len() > MOST_PARITIES {
+                        return refuse(6, place);
+                    }
+                }
+            }
+        }
+        Ok(meaning)
+    }
+
+    fn terms(&self) -> impl Iterator<Item = (u32, u32)> + '_ {
+        self.sums.iter().map(|(&parity, &sum)| (parity, sum)).filter(|&(_, sum)| sum != 0)
+    }
+}
+
+// ---------------------------------------------------------------- tests 1 to 7
+
+fn gate_fits(gate: Gate, n: usize) -> bool {
+    match gate {
+        Gate::Cnot(c, t) => c < n && t < n && c != t,
+        Gate::Rot(q, _) => q < n,
+    }
+}
+
+fn test_lists(job: &Job) -> Result<(), Refusal> {
+    if job.n < 1 || job.n > MOST_QUBITS {
+        return refuse(1, 0);
+    }
+    if job.couplers.len() > MOST_COUPLERS {
+        return refuse(2, 0);
+    }
+    if let Some(bad) = job.couplers.iter().position(|&(a, b)| a >= job.n || b >= job.n || a == b) {
+        return refuse(3, bad);
+    }
+    if job.gates.len() > MOST_GATES {
+        return refuse(4, 0);
+    }
+    if let Some(bad) = job.gates.iter().position(|&gate| !gate_fits(gate, job.n)) {
+        return refuse(5, bad);
+    }
+    Ok(())
+}
+
+fn test_reachable(n: usize, meaning: &Meaning, islands: &[u32]) -> Result<(), Refusal> {
+    let inside = |set: u32, island: u32| set & !island == 0;
+    for wire in 0..n {
+        let own = islands.iter().find(|&&island| holds(island, wire)).unwrap();
+        if !inside(meaning.parity[wire], *own) {
+            return refuse(7, wire);
+        }
+    }
+    for (term, _) in meaning.terms() {
+        if !islands.iter().any(|&island| inside(term, island)) {
+            return refuse(7, n);
+        }
+    }
+    Ok(())
+}
+
+// ---------------------------------------------------------------- sets of places
+
+/// A set of columns, by their places.
+#[derive(Clone, Copy)]
+struct Places([u64; MOST_PARITIES / 64]);
+
+impl Places {
+    const NONE: Places = Places([0; MOST_PARITIES / 64]);
+
+    fn with(self, other: Places, join: impl Fn(u64, u64) -> u64) -> Places {
+        Places(std::array::from_fn(|i| join(self.0[i], other.0[i])))
+    }
+
+    fn and(self, other: Places) -> Places {
+        self.with(other, |a, b| a & b)
+    }
+
+    fn without(self, other: Places) -> Places {
+        self.with(other, |a, b| a & !b)
+    }
+
+    fn or(self, other: Places) -> Places {
+        self.with(other, |a, b| a | b)
+    }
+
+    fn xor(self, other: Places) -> Places {
+        self.with(other, |a, b| a ^ b)
+    }
+
+    fn size(self) -> u32 {
+        self.0.iter().map(|word| word.count_ones()).sum()
+    }
+
+    fn is_empty(self) -> bool {
+        self.0 == [0; MOST_PARITIES / 64]
+    }
+
+    fn insert(&mut self, place: usize) {
+        self.0[place / 64] |= 1 << (place % 64);
+    }
+
+    fn holds(self, place: usize) -> bool {
+        self.0[place / 64] >> (place % 64) & 1 == 1
+    }
+
+    fn list(self) -> impl Iterator<Item = usize> {
+        (0..self.0.len()).flat_map(move |i| {
+            let mut word = self.0[i];
+            std::iter::from_fn(move || {
+                if word == 0 {
+                    return None;
+                }
+                let place = 64 * i + word.trailing_zeros() as usize;
+                word &= word - 1;
+                Some(place)
+            })
+        })
+    }
+}
+
+// ---------------------------------------------------------------- laying the terms
+
+struct Island {
+    qubits: u32,
+    coupling: Coupling,
+    /// (parity, sum) by ascending parity; the position is the column's place.
+    terms: Vec<(u32, u32)>,
+    asked: Asked,
+}
+
+/// The columns, kept as one row of places for each qubit: a CNOT then is one exclusive or.
+struct Board<'a> {
+    island: &'a Island,
+    rows: [Places; MOST_QUBITS],
+    laid: Vec<Gate>,
+}
+
+impl<'a> Board<'a> {
+    /// All terms as columns, the single ones struck off.
+    fn new(island: &'a Island) -> Board<'a> {
+        let mut board = Board { island, rows: [Places::NONE; MOST_QUBITS], laid: vec![] };
+        for (place, &(parity, _)) in island.terms.iter().enumerate() {
+            for q in members(parity) {
+                board.rows[q].insert(place);
+            }
+        }
+        board.strike_off();
+        board
+    }
+
+    fn left(&self) -> Places {
+        members(self.island.qubits).fold(Places::NONE, |all, q| all.or(self.rows[q]))
+    }
+
+    fn column(&self, place: usize) -> u32 {
+        members(self.island.qubits)
+            .fold(0, |column, q| column | u32::from(self.rows[q].holds(place)) << q)
+    }
+
+    fn lay(&mut self, c: usize, t: usize) {
+        self.laid.push(Gate::Cnot(c, t));
+        self.rows[c] = self.rows[c].xor(self.rows[t]);
+    }
+
+    fn strike_off(&mut self) {
+        let (mut once, mut more) = (Places::NONE, Places::NONE);
+        for q in members(self.island.qubits) {
+            more = more.or(once.and(self.rows[q]));
+            once = once.or(self.rows[q]);
+        }
+        let single = once.without(more);
+        if single.is_empty() {
+            return;
+        }
+        for q in members(self.island.qubits) {
+            for place in self.rows[q].and(single).list() {
+                self.laid.push(Gate::Rot(q, self.island.terms[place].1));
+            }
+            self.rows[q] = self.rows[q].without(single);
+        }
+    }
+
+    fn ones(&self, q: usize, chosen: Places) -> u32 {
+        self.rows[q].and(chosen).size()
+    }
+
+    /// The spare qubit with most equal entries in the chosen columns, the lowest in a tie.
+    fn row_to_split(&self, set: u32, chosen: Places) -> usize {
+        let all = chosen.size();
+        let mut best = None;
+        for q in members(set) {
+            let ones = self.ones(q, chosen);
+            let equal = ones.max(all - ones);
+            // Only a better row is worth the search for its being spare.
+            if best.is_none_or(|(most, _)| equal > most) && self.island.coupling.is_spare(set, q) {
+                best = Some((equal, q));
+            }
+        }
+        best.expect("a connected set has a spare qubit").1
+    }
+
+    /// The neighbour of r with most ones, the lowest in a tie, and its ones.
+    fn neighbour_of(&self, set: u32, r: usize, chosen: Places) -> (usize, u32) {
+        let mut best: Option<(usize, u32)> = None;
+        for m in members(self.island.coupling.near[r] & set) {
+            let ones = self.ones(m, chosen);
+            if best.is_none_or(|(_, most)| ones > most) {
+                best = Some((m, ones));
+            }
+        }
+        best.expect("the chosen qubit has a neighbour in the set")
+    }
+}
+
+/// What the steps still have to do; the last one comes first.
+enum Task {
+    Base(u32, Places),
+    Ones(u32, usize, Places),
+}
+
+/// Splits the chosen columns on row r; the zeros come first, so they are put on the pile last.
+fn split(pile: &mut Vec<Task>, board: &Board, set: u32, r: usize, chosen: Places) {
+    pile.push(Task::Ones(set, r, chosen.and(board.rows[r])));
+    pile.push(Task::Base(set & !(1 << r), chosen.without(board.rows[r])));
+}
+
+fn steps(island: &Island) -> Vec<Gate> {
+    let mut board = Board::new(island);
+    let mut pile = vec![Task::Base(island.qubits, board.left())];
+    while let Some(task) = pile.pop() {
+        match task {
+            Task::Base(_, chosen) | Task::Ones(_, _, chosen) if chosen.is_empty() => {}
+            Task::Base(set, chosen) => {
+                let r = board.row_to_split(set, chosen);
+                split(&mut pile, &board, set, r, chosen);
+            }
+            Task::Ones(set, r, chosen) => {
+                let (m, ones) = board.neighbour_of(set, r, chosen);
+                if ones == 0 {
+                    board.lay(m, r);
+                }
+                board.lay(r, m);
+                board.strike_off();
+                let left = chosen.and(board.left());
+                split(&mut pile, &board, set, r, left);
+            }
+        }
+    }
+    board.laid
+}
+
+/// The cheapest gathering over all columns left and all their members, the first in a tie.
+fn cheapest_gathering(board: &Board, walks: &[Option<Walk>], left: Places) -> Vec<(usize, usize)> {
+    let (mut fewest, mut chosen) = (u32::MAX, None);
+    for place in left.list() {
+        let x = board.column(place);
+        // Every member but one costs a move at least.
+        if x.count_ones() - 1 >= fewest {
+            continue;
+        }
+        for v in members(x) {
+            let moves = walks[v].as_ref().unwrap().moves(x, fewest);
+            if moves < fewest {
+                (fewest, chosen) = (moves, Some((v, x)));
+            }
+        }
+    }
+    let (v, x) = chosen.expect("a column left has members");
+    walks[v].as_ref().unwrap().gather(x)
+}
+
+fn nearest_first(island: &Island) -> Vec<Gate> {
+    let walks: Vec<Option<Walk>> = (0..MOST_QUBITS)
+        .map(|v| holds(island.qubits, v).then(|| island.coupling.walk(island.qubits, v)))
+        .collect();
+    let mut board = Board::new(island);
+    loop {
+        let left = board.left();
+        if left.is_empty() {
+            return board.laid;
+        }
+        for (u, p) in cheapest_gathering(&board, &walks, left) {
+            board.lay(u, p);
+            board.strike_off();
+        }
+    }
+}
+
+// ---------------------------------------------------------------- ending and closing
+
+/// Asked rows and mirror rows.
+#[derive(Clone, Copy)]
+struct Asked {
+    rows: [u32; MOST_QUBITS],
+    mirror: [u32; MOST_QUBITS],
+}
+
+impl Asked {
+    fn replay(&mut self, (c, t): (usize, usize)) {
+        for i in 0..MOST_QUBITS {
+            self.rows[i] = turn(self.rows[i], c, t);
+            self.mirror[i] = turn(self.mirror[i], t, c);
+        }
+    }
+}
+
+type Cnots = Vec<(usize, usize)>;
+
+fn as_laid_on_mirror(moves: Cnots) -> Cnots {
+    moves.into_iter().map(|(u, p)| (p, u)).collect()
+}
+
+fn rows_first(walk: &Walk, v: usize, asked: &Asked) -> Cnots {
+    let mut list = walk.gather(asked.rows[v]);
+    // Of the whole copy only this one mirror row is looked at.
+    let y = list.iter().fold(asked.mirror[v], |y, &(c, t)| turn(y, t, c));
+    list.extend(as_laid_on_mirror(walk.gather(y)));
+    list
+}
+
+fn mirror_first(walk: &Walk, v: usize, asked: &Asked) -> Cnots {
+    let mut list = as_laid_on_mirror(walk.gather(asked.mirror[v]));
+    let y = list.iter().fold(asked.rows[v], |y, &(c, t)| turn(y, c, t));
+    list.extend(walk.gather(y));
+    list
+}
+
+fn ending(island: &Island, mut asked: Asked) -> Cnots {
+    let mut all = vec![];
+    let mut set = island.qubits;
+    while set.count_ones() > 1 {
+        let mut best: Option<(usize, Cnots)> = None;
+        for v in members(set).filter(|&v| island.coupling.is_spare(set, v)) {
+            let walk = island.coupling.walk(set, v);
+            for list in [rows_first(&walk, v, &asked), mirror_first(&walk, v, &asked)] {
+                if best.as_ref().is_none_or(|(_, least)| list.len() < least.len()) {
+                    best = Some((v, list));
+                }
+            }
+        }
+        let (v, list) = best.expect("a connected set has a spare qubit");
+        list.iter().for_each(|&cnot| asked.replay(cnot));
+        all.extend(list);
+        set &= !(1 << v);
+    }
+    all
+}
+
+fn cnots_of(gates: &[Gate]) -> Cnots {
+    let cnot = |gate: &Gate| if let Gate::Cnot(c, t) = *gate { Some((c, t)) } else { None };
+    gates.iter().filter_map(cnot).collect()
+}
+
+fn closing(island: &Island, laid: &[Gate]) -> Cnots {
+    let cnots = cnots_of(laid);
+    let mut reached = island.asked;
+    cnots.iter().for_each(|&cnot| reached.replay(cnot));
+    let onward = ending(island, reached);
+    let mut back_first = cnots;
+    back_first.reverse();
+    back_first.extend(ending(island, island.asked));
+    if back_first.len() < onward.len() { back_first } else { onward }
+}
+
+fn closed(island: &Island, mut laid: Vec<Gate>) -> Vec<Gate> {
+    let end = closing(island, &laid);
+    laid.extend(end.into_iter().map(|(c, t)| Gate::Cnot(c, t)));
+    laid
+}
+
+// ---------------------------------------------------------------- the whole circuit
+
+fn island_of(qubits: u32, coupling: &Coupling, meaning: &Meaning) -> Island {
+    let own = |row: u32| row & qubits;
+    Island {
+        qubits,
+        coupling: coupling.clone(),
+        terms: meaning.terms().filter(|&(parity, _)| parity & !qubits == 0).collect(),
+        asked: Asked { rows: meaning.parity.map(own), mirror: meaning.mirror.map(own) },
+    }
+}
+
+fn lay_island(island: &Island) -> Vec<Gate> {
+    let by_steps = closed(island, steps(island));
+    let by_nearness = closed(island, nearest_first(island));
+    if by_nearness.len() < by_steps.len() { by_nearness } else { by_steps }
+}
+
+fn lay(job: &Job) -> Result<Vec<Gate>, Refusal> {
+    test_lists(job)?;
+    let meaning = Meaning::of(&job.gates)?;
+    let coupling = Coupling::of(&job.couplers);
+    let islands = coupling.islands(job.n);
+    test_reachable(job.n, &meaning, &islands)?;
+    let lists = islands.iter().map(|&qubits| lay_island(&island_of(qubits, &coupling, &meaning)));
+    Ok(lists.flatten().collect())
+}
+
+fn depth(gates: &[Gate]) -> usize {
+    let mut busy_to = [0; MOST_QUBITS];
+    for &gate in gates {
+        let (a, b) = match gate {
+            Gate::Cnot(c, t) => (c, t),
+            Gate::Rot(q, _) => (q, q),
+        };
+        let layer = busy_to[a].max(busy_to[b]) + 1;
+        busy_to[a] = layer;
+        busy_to[b] = layer;
+    }
+    busy_to.into_iter().max().unwrap_or(0)
+}
+
+// ---------------------------------------------------------------- printing
+
+fn refusal_line(refusal: Refusal) -> String {
+    format!("x\t{}\t{}\n", refusal.number, refusal.place)
+}
+
+fn lay_text(job: &Job, gates: &[Gate]) -> String {
+    let mut ends: Vec<_> = job.couplers.iter().map(|&(a, b)| (a.min(b), a.max(b))).collect();
+    ends.sort();
+    ends.dedup();
+    let mut text = format!("q\t{}\n", job.n);
+    for (a, b) in ends {
+        text += &format!("e\t{a}\t{b}\n");
+    }
+    for gate in gates {
+        text += &match gate {
+            Gate::Cnot(c, t) => format!("c\t{c}\t{t}\n"),
+            Gate::Rot(q, angle) => format!("r\t{q}\t{angle}\n"),
+        };
+    }
+    text
+}
+
+fn count_text(gates: &[Gate]) -> String {
+    let cnots = cnots_of(gates).len();
+    format!("s\t{}\t{}\t{}\n", cnots, gates.len() - cnots, depth(gates))
+}
+
+/// What the two programs print.
+fn both_texts(text: &[u8]) -> [String; 2] {
+    let answer = read_job(text).and_then(|job| lay(&job).map(|gates| (job, gates)));
+    match answer {
+        Err(refusal) => [refusal_line(refusal), refusal_line(refusal)],
+        Ok((job, gates)) => [lay_text(&job, &gates), count_text(&gates)],
+    }
+}
+
+// ---------------------------------------------------------------- programs
+
+/// The texts of a bundle; what follows the last closing line is no text.
+fn unbundle(bundle: &[u8]) -> Vec<&[u8]> {
+    let (mut texts, mut start, mut at) = (vec![], 0, 0);
+    for line in bundle.split_inclusive(|&byte| byte == b'\n') {
+        let end = match line {
+            b"--\n" => Some(at),
+            b"-.\n" => Some(at.max(start + 1) - 1),
+            _ => None,
+        };
+        at += line.len();
+        if let Some(end) = end {
+            texts.push(&bundle[start..end]);
+            start = at;
+        }
+    }
+    texts
+}
+
+/// Reads no more than is needed to know that a text is too long.
+fn read_one() -> Vec<u8> {
+    let mut text = vec![];
+    let _ = io::stdin().take(LONGEST_TEXT as u64 + 1).read_to_end(&mut text);
+    text
+}
+
+fn print_many(close: &str) -> io::Result<()> {
+    let mut bundle = vec![];
+    io::stdin().read_to_end(&mut bundle)?;
+    let mut out = BufWriter::new(io::stdout().lock());
+    for text in unbundle(&bundle) {
+        for printed in both_texts(text) {
+            out.write_all(printed.as_bytes())?;
+            out.write_all(close.as_bytes())?;
+        }
+    }
+    out.flush()
+}
+
+fn mode() -> String {
+    let mut words = std::env::args();
+    let own_name = words.next().unwrap_or_default();
+    words.next().unwrap_or_else(|| own_name.rsplit('/').next().unwrap_or_default().to_string())
+}
+
+fn main() {
+    // Nobody is left to be told when the output is closed, so its errors are passed over.
+    let _ = match mode().as_str() {
+        "lay" => io::stdout().write_all(both_texts(&read_one())[0].as_bytes()),
+        "count" => io::stdout().write_all(both_texts(&read_one())[1].as_bytes()),
+        "many" => print_many(""),
+        "bundle" => print_many("--\n"),
+        _ => {
+            eprintln!("second lay | count | many | bundle");
+            std::process::exit(2)
+        }
+    };
+}
+
+#[cfg(test)]
+mod worked_example {
+    use super::*;
+
+    const JOB: &[u8] = b"q\t4\ne\t0\t1\ne\t1\t2\ne\t2\t3\n\
+        c\t1\t3\nc\t1\t0\nr\t0\t200\nr\t1\t300\nr\t3\t100\nc\t1\t3\n";
+
+    fn island() -> Island {
+        let job = read_job(JOB).unwrap();
+        island_of(15, &Coupling::of(&job.couplers), &Meaning::of(&job.gates).unwrap())
+    }
+
+    #[test]
+    fn the_steps_and_their_closing() {
+        let laid = steps(&island());
+        assert_eq!(laid.len(), 9);
+        assert_eq!(cnots_of(&laid), [(2, 1), (1, 2), (2, 3), (1, 0), (0, 1), (1, 2)]);
+        let back_first = [(1, 2), (0, 1), (1, 0), (2, 3), (1, 2), (2, 1), (1, 0)];
+        assert_eq!(closing(&island(), &laid), back_first);
+    }
+
+    #[test]
+    fn onward_after_the_steps() {
+        let mut reached = island().asked;
+        cnots_of(&steps(&island())).into_iter().for_each(|cnot| reached.replay(cnot));
+        assert_eq!((&reached.rows[..4], &reached.mirror[..4]), (&[4, 6, 5, 14][..], &[7, 10, 1, 8][..]));
+        let onward = [(1, 2), (2, 3), (2, 1), (0, 1), (1, 0), (1, 2), (2, 1), (1, 2)];
+        assert_eq!(ending(&island(), reached), onward);
+    }
+
+    #[test]
+    fn nearest_first_is_taken() {
+        assert_eq!(both_texts(JOB)[1], "s\t7\t3\t7\n");
+    }
+}
