@@ -3,6 +3,7 @@ pub mod Tabling
 pub mod Piecing
 pub mod Turns
 pub mod Strikes
+pub mod Singles
 pub mod Gates
 pub mod Layings
 pub mod Laid

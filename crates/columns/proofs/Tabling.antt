@@ -2,7 +2,7 @@
 use mathlib.Core.Path.{_≡_, refl, sym, ap, ap₂, _∙_, subst}
 use mathlib.Core.Logic.{_≢_}
 use mathlib.Core.Bool.{Bool, true, false}
-use mathlib.Core.List.{List}
+use mathlib.Core.List.{List, _∷_}
 use Prim.Native.Nat.{ℕ, zero, suc, _+_, _≤_, _<_}
 use native.Mathlib.Nat.{le-of-suc-le-suc, not-suc-le-zero}
 use native.Mathlib.Omega.{arith}
@@ -37,6 +37,11 @@ filled-next d f i z v h e g k l = at (ℕ-discrete i k)
 pub filled-all : {A : Type 0} (d : A) (f : ℕ → A) (n i : ℕ) (z : List A) → length z ≡ n → n ≤ i → Filled d f i z → z ≡ tab n f
 filled-all d f n i z e h g =
     ext-getD d z (tab n f) (e ∙ sym (tab-length n f)) (λ k (l : k < length z). g k (omega arith) ∙ sym (tab-at n f k d (omega arith)))
+
+pub tab-ext : {A : Type 0} (n : ℕ) (f g : ℕ → A) → ((k : ℕ) → k < n → f k ≡ g k) → tab n f ≡ tab n g
+unfolding tab
+tab-ext zero f g h = refl
+tab-ext (suc n) f g h = ap₂ (λ x xs. x ∷ xs) (h 0 (omega arith)) (tab-ext n (λ k. f (suc k)) (λ k. g (suc k)) (λ k l. h (suc k) (omega arith)))
 
 -- ---- sums
 

@@ -6,6 +6,7 @@ use lib.Dec.{eqb}
 use lib.ListN.{length, getD, set}
 use Rattle.sets.specs.Pick.{pick, both}
 use Rattle.sets.specs.Size.{singleOf, lowestOf}
+use Rattle.sets.specs.Search.{someOf}
 use Rattle.meaning.specs.Limits.{mostQubits}
 use Rattle.meaning.specs.declared.gate.Gate.the-variants.{Rotation}
 use Rattle.columns.specs.Pieces.{Piece, piece, idle, andThen}
@@ -31,3 +32,7 @@ strikeFrom (suc d) q angles xs = andThen (strikeRow (length xs) 0 q angles xs) (
 
 unfoldable pub strikeOff : List ℕ → List ℕ → Piece
 strikeOff angles xs = strikeFrom mostQubits 0 angles xs
+
+-- some column is of one qubit
+unfoldable pub someSingle : List ℕ → Bool
+someSingle xs = someOf (λ k. singleOf (getD xs k 0)) (length xs)

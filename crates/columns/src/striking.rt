@@ -6,7 +6,7 @@ ghost use mathlib.Core.Path.{_≡_};
 ghost use mathlib.Core.Bool.{false};
 ghost use lib.ListN.{length};
 ghost use Rattle.columns.specs.Pieces.{held, wrote};
-ghost use Rattle.columns.specs.Striking.{strikeOne, strikeRow, strikeOff};
+ghost use Rattle.columns.specs.Striking.{someSingle, strikeOne, strikeRow, strikeOff};
 
 // The column k, where it is the qubit q alone.
 fn strike_one(
@@ -43,7 +43,7 @@ fn strike_row(cols: &mut [u32], angles: &[u32], out: &mut [u32], at: usize, q: u
 }
 
 // Every column of one qubit, lowest qubit first.
-pub fn strike(cols: &mut [u32], angles: &[u32], out: &mut [u32], at: usize) -> usize
+fn strike_all(cols: &mut [u32], angles: &[u32], out: &mut [u32], at: usize) -> usize
     ensures { λ r. ⌜ held (now (cols .exit)) (now (out .exit)) r false ≡ wrote (now (out .entry)) at (strikeOff (now (angles .entry)) (now (cols .entry))) ⌝ }
 {
     let mut a = at;
@@ -51,4 +51,25 @@ pub fn strike(cols: &mut [u32], angles: &[u32], out: &mut [u32], at: usize) -> u
         a = strike_row(cols, angles, out, a, q);
     }
     a
+}
+
+fn some_single(cols: &[u32]) -> bool
+    ensures { λ r. ⌜ r ≡ someSingle (now (cols .entry)) ⌝ }
+{
+    for k in 0..cols.len() {
+        if sets::single(cols[k]) {
+            return true;
+        }
+    }
+    false
+}
+
+// The same. After most CNOTs there is nothing to strike off, and one pass over the columns shows it.
+pub fn strike(cols: &mut [u32], angles: &[u32], out: &mut [u32], at: usize) -> usize
+    ensures { λ r. ⌜ held (now (cols .exit)) (now (out .exit)) r false ≡ wrote (now (out .entry)) at (strikeOff (now (angles .entry)) (now (cols .entry))) ⌝ }
+{
+    if some_single(cols) {
+        return strike_all(cols, angles, out, at);
+    }
+    at
 }

@@ -1,19 +1,11 @@
 -- Moves are laid one after another: "A column of one qubit is laid at once as a rotation there and struck off" (document 01, "Steps from document 000").
-use mathlib.Core.Bool.{Bool}
 use mathlib.Core.List.{List, [], _∷_}
 use Prim.Native.Nat.{ℕ}
-use lib.ListN.{length, getD}
-use Rattle.sets.specs.Size.{singleOf}
-use Rattle.sets.specs.Search.{someOf}
 use Rattle.meaning.specs.declared.gate.Gate.{Gate}
 use Rattle.meaning.specs.declared.gate.Gate.the-variants.{Cnot, Rotation, Bad}
 use Rattle.columns.specs.Pieces.{Piece, idle, andThen}
 use Rattle.columns.specs.Turning.{layCnot}
 use Rattle.columns.specs.Striking.{strikeOff}
-
--- some column is of one qubit
-unfoldable pub someSingle : List ℕ → Bool
-someSingle xs = someOf (λ k. singleOf (getD xs k 0)) (length xs)
 
 -- one move, "c by t": CNOT c,t; what becomes a column of one qubit is struck off before the next move
 unfoldable pub layMove : List ℕ → ℕ → ℕ → List ℕ → Piece

@@ -7,31 +7,9 @@ ghost use mathlib.Core.Path.{_≡_};
 ghost use mathlib.Core.Bool.{false};
 ghost use Prim.Native.Nat.{_≤_};
 ghost use Rattle.columns.specs.Pieces.{held, wrote};
-ghost use Rattle.columns.specs.Striking.{strikeOff};
 ghost use Rattle.columns.specs.Gather.{cnotsIn};
-ghost use Rattle.nearest.specs.Moves.{someSingle, layMove, layMoves};
+ghost use Rattle.nearest.specs.Moves.{layMove, layMoves};
 ghost use Rattle.nearest.specs.Nearest.{gatherNext};
-
-fn some_single(cols: &[u32]) -> bool
-    ensures { λ r. ⌜ r ≡ someSingle (now (cols .entry)) ⌝ }
-{
-    for k in 0..cols.len() {
-        if sets::single(cols[k]) {
-            return true;
-        }
-    }
-    false
-}
-
-// Most moves leave nothing to strike off, and one pass over the columns shows it.
-fn strike(cols: &mut [u32], angles: &[u32], out: &mut [u32], at: usize) -> usize
-    ensures { λ r. ⌜ held (now (cols .exit)) (now (out .exit)) r false ≡ wrote (now (out .entry)) at (strikeOff (now (angles .entry)) (now (cols .entry))) ⌝ }
-{
-    if some_single(cols) {
-        return striking::strike(cols, angles, out, at);
-    }
-    at
-}
 
 fn lay_move(
     cols: &mut [u32],
@@ -44,7 +22,7 @@ fn lay_move(
     ensures { λ r. ⌜ held (now (cols .exit)) (now (out .exit)) r false ≡ wrote (now (out .entry)) at (layMove (now (angles .entry)) control target (now (cols .entry))) ⌝ }
 {
     let a = turning::lay_cnot(cols, out, at, control, target);
-    strike(cols, angles, out, a)
+    striking::strike(cols, angles, out, a)
 }
 
 fn lay_moves(

@@ -2,7 +2,7 @@
 use mathlib.Core.Path.{_≡_, refl, ap, _∙_}
 use mathlib.Core.Bool.{Bool, true, false}
 use mathlib.Core.List.{List}
-use Prim.Native.Nat.{ℕ, zero, suc, _+_, _-_, _≤_, _<_}
+use Prim.Native.Nat.{ℕ, suc, _+_, _-_, _≤_, _<_}
 use native.Mathlib.Omega.{arith}
 use lib.Dec.{eqb, ltb}
 use lib.ListN.{getD}
@@ -56,3 +56,6 @@ module _ (may : List Bool) (worth : List ℕ) where
   -- the inner search ended without a qubit
   pub best-none : (w v q : ℕ) → w ≡ suc v → 20 ≤ q → firstOf (fits v) (20 - q) q ≡ worthAt may worth v → bestOf may worth w ≡ bestOf may worth v
   best-none w v q ew l e = best-miss w v ew (omega (arith, e, worth-end v q l))
+
+pub best-same : {may may′ : List Bool} {worth worth′ : List ℕ} {n n′ : ℕ} → may ≡ may′ → worth ≡ worth′ → n ≡ n′ → bestOf may worth (n + 1) ≡ bestOf may′ worth′ (n′ + 1)
+best-same em ew en = cc

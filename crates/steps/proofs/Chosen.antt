@@ -3,7 +3,7 @@ use mathlib.Core.Path.{_≡_, sym, ap, _∙_}
 use mathlib.Core.Logic.{_≢_}
 use mathlib.Core.Bool.{Bool, true, false}
 use mathlib.Core.List.{List}
-use Prim.Native.Nat.{ℕ, zero, suc, _^_, _≤_, _<_}
+use Prim.Native.Nat.{ℕ, _^_, _≤_, _<_}
 use native.Mathlib.Omega.{arith}
 use lib.ListN.{getD}
 use lib.Bits.{bitAnd}
@@ -16,20 +16,20 @@ use Rattle.chip.specs.Graph.{Near, Symm, Joined}
 use Rattle.chip.specs.Spare.{spareOf}
 use Rattle.chip.proofs.Spares.{spare-in, spare-other, neighbour-in}
 use Rattle.columns.specs.Tables.{tab, one}
-use Rattle.columns.proofs.Tabling.{tab-at, sum-ones, one-le}
-use Rattle.steps.specs.Selection.{oneAt, rowOf}
-use Rattle.steps.specs.Choice.{bestOf, equalOf, sparing, without, beside, partner}
-use Rattle.steps.proofs.Selecting.{count-most}
+use Rattle.columns.proofs.Tabling.{tab-at, sum-le}
+use Rattle.steps.specs.Selection.{countOf, oneAt, rowOf}
+use Rattle.steps.specs.Choice.{bestOf, moreOf, equalOf, over, sparing, without, beside, partner}
+use Rattle.steps.proofs.Selecting.{one-at-le}
 use Rattle.steps.proofs.Best.{best-is}
 use Rattle.steps.proofs.Meets.{rest-in, rest-out, rest-sub}
 
-row-most : (sel : List Bool) (xs : List ℕ) (q : ℕ) → rowOf sel xs q ≤ 256
-unfolding rowOf
-row-most sel xs q = sum-ones 256 (λ k. one (oneAt q (getD sel k false) (getD xs k 0))) (λ k l. one-le (oneAt q (getD sel k false) (getD xs k 0)))
+row-most : (sel : List Bool) (xs : List ℕ) (q : ℕ) → rowOf sel xs q ≤ countOf sel
+unfolding rowOf countOf
+row-most sel xs q = sum-le 256 (λ k. one (oneAt q (getD sel k false) (getD xs k 0))) (λ k. one (getD sel k false)) (λ k l. one-at-le q (getD sel k false) (getD xs k 0))
 
-equal-most : (sel : List Bool) (xs : List ℕ) (q : ℕ) → equalOf sel xs q ≤ 256
-unfolding equalOf
-equal-most sel xs q = omega (arith, count-most sel, row-most sel xs q)
+equal-most : (sel : List Bool) (xs : List ℕ) (q : ℕ) → equalOf sel xs q ≤ countOf sel
+unfolding equalOf moreOf
+equal-most sel xs q = omega (arith, row-most sel xs q)
 
 module _ (near : List ℕ) (Q : ℕ) (low : Q < 2 ^ 20) (sy : Symm near) (j : Joined near Q) (two : 2 ≤ ones Q) (sel : List Bool) (xs : List ℕ) where
   pub spare-found : (sparing near Q sel xs < 20) × (spareOf near Q (sparing near Q sel xs) ≡ true)
@@ -39,9 +39,9 @@ module _ (near : List ℕ) (Q : ℕ) (low : Q < 2 ^ 20) (sy : Symm near) (j : Jo
       let v = some-bit Q some in
       let u = spare-other near Q low sy j (v .0) (v .1) two in
       let l : u .0 < 20 = in-lt 20 Q (u .0) low (spare-in near Q low (u .0) (u .2)) in
-      let b = best-is (tab 20 (spareOf near Q)) (tab 20 (equalOf sel xs)) 257 (u .0) l (tab-at 20 (spareOf near Q) (u .0) false l ∙ u .2)
+      let b = best-is (tab 20 (spareOf near Q)) (tab 20 (equalOf sel xs)) (over sel) (u .0) l (tab-at 20 (spareOf near Q) (u .0) false l ∙ u .2)
       (omega (arith, tab-at 20 (equalOf sel xs) (u .0) 0 l, equal-most sel xs (u .0))) in
-      (b .below, sym (tab-at 20 (spareOf near Q) (bestOf (tab 20 (spareOf near Q)) (tab 20 (equalOf sel xs)) 257) false (b .below)) ∙ b .taken)
+      (b .below, sym (tab-at 20 (spareOf near Q) (bestOf (tab 20 (spareOf near Q)) (tab 20 (equalOf sel xs)) (over sel)) false (b .below)) ∙ b .taken)
 
   -- a neighbour of r in Q
   pub record Beside (r m : ℕ) : Type 0 where
@@ -57,9 +57,9 @@ module _ (near : List ℕ) (Q : ℕ) (low : Q < 2 ^ 20) (sy : Symm near) (j : Jo
       let ln : n .0 < 20 = in-lt 20 Q (n .0) low (n .2) in
       let f : ℕ → Bool = has (bitAnd (getD near r 0) (without Q r)) in
       let yes-n : f (n .0) ≡ true = in-has _ (n .0) (and-in (getD near r 0) (without Q r) (n .0) (n .3) (rest-in Q r low h (n .0) (n .2) (n .1))) in
-      let b = best-is (tab 20 f) (tab 20 (rowOf sel xs)) 257 (n .0) ln (tab-at 20 f (n .0) false ln ∙ yes-n)
+      let b = best-is (tab 20 f) (tab 20 (rowOf sel xs)) (over sel) (n .0) ln (tab-at 20 f (n .0) false ln ∙ yes-n)
       (omega (arith, tab-at 20 (rowOf sel xs) (n .0) 0 ln, row-most sel xs (n .0))) in
-      let m : ℕ = bestOf (tab 20 f) (tab 20 (rowOf sel xs)) 257 in
+      let m : ℕ = bestOf (tab 20 f) (tab 20 (rowOf sel xs)) (over sel) in
       let a = in-and (getD near r 0) (without Q r) m (has-true (bitAnd (getD near r 0) (without Q r)) m (sym (tab-at 20 f m false (b .below)) ∙ b .taken)) in
       record {
         below = b .below;

@@ -1,18 +1,19 @@
 -- The tests of one column, and counts of columns, as the loops go. Assumes nothing.
-use mathlib.Core.Path.{_≡_, sym, ap, _∙_}
+use mathlib.Core.Path.{_≡_, refl, sym, ap, ap₂, _∙_}
 use mathlib.Core.Bool.{Bool, true, false, not}
 use mathlib.Core.List.{List}
 use Prim.Native.Nat.{ℕ, _+_, _-_, _≤_, _<_}
 use native.Mathlib.Omega.{arith}
 use lib.Dec.{eqb}
-use lib.ListN.{getD}
+use native.Mathlib.Decide.{decLt}
+use lib.ListN.{length, getD, replicate, length-replicate, getD-replicate, List·getD-eq-default}
 use borrow.Author.Tests.{eq-eqb, ne-eqb}
 use Rattle.sets.specs.Pick.{both}
 use Rattle.sets.specs.Bit.{has}
-use Rattle.columns.specs.Tables.{sumTo, one}
-use Rattle.columns.proofs.Tabling.{sum-zero, sum-next, sum-ones, one-le}
-use Rattle.steps.specs.Selection.{countOf, zeroAt, oneAt, rowOf}
-use Rattle.steps.specs.Choice.{equalOf}
+use Rattle.columns.specs.Tables.{tab, sumTo, one}
+use Rattle.columns.proofs.Tabling.{Filled, filled-all, tab-length, tab-at, tab-ext, sum-zero, sum-next, sum-ones, one-le}
+use Rattle.steps.specs.Selection.{countOf, zeroAt, oneAt, rowOf, Few, talliedOf}
+use Rattle.steps.specs.Choice.{moreOf, equalOf}
 
 pub one-yes : (r x : ℕ) (s b : Bool) → s ≡ true → b ≡ has x r → b ≡ oneAt r s x
 unfolding oneAt
@@ -21,6 +22,11 @@ one-yes r x s b e h = h ∙ sym (ap (λ (t : Bool). both t (has x r)) e)
 pub one-no : (r x : ℕ) (s : Bool) → s ≡ false → false ≡ oneAt r s x
 unfolding oneAt
 one-no r x s e = sym (ap (λ (t : Bool). both t (has x r)) e)
+
+pub one-at-le : (r : ℕ) (s : Bool) (x : ℕ) → one (oneAt r s x) ≤ one s
+unfolding oneAt
+one-at-le r true x = one-le (has x r)
+one-at-le r false x = omega arith
 
 module _ (r x : ℕ) (s : Bool) where
   pub zero-no : s ≡ false → false ≡ zeroAt r s x
@@ -89,16 +95,58 @@ module _ (q : ℕ) (sel : List Bool) (xs : List ℕ) where
   unfolding rowTo rowOf
   row-all k n h l e = e ∙ ap (λ (i : ℕ). sumTo i (λ j. one (oneAt q (getD sel j false) (getD xs j 0)))) (omega arith)
 
+-- ---- the ones of all rows
+
+module _ (sel : List Bool) (xs : List ℕ) where
+  -- z has the ones of each row among the first k columns
+  pub record Rows (k : ℕ) (z : List ℕ) : Type 0 where
+    pub wide : length z ≡ 20
+    pub ones : Filled 0 (λ q. rowTo q sel xs k) 20 z
+
+  pub rows-none : Rows 0 (replicate 20 0)
+  rows-none = record { wide = length-replicate {A = ℕ} 20 0; ones = λ q l. getD-replicate 20 q 0 0 l ∙ row-none q sel xs }
+
+  pub rows-few : (k : ℕ) (z : List ℕ) → k ≤ 256 → Rows k z → Few z
+  rows-few k z l r q = go (decLt q 20)
+    where
+      go : Dec (q < 20) → getD z q 0 ≤ 256
+      go (yes h) = omega (arith, row-small q sel xs k (getD z q 0) (r .ones q h))
+      go (no h) = omega (arith, List·getD-eq-default z 0 {n = q} (omega (arith, r .wide)))
+
+  pub rows-tallied : (k x : ℕ) (z z′ : List ℕ) → getD sel k false ≡ true → x ≡ getD xs k 0 → z′ ≡ talliedOf x z → Rows k z → Rows (k + 1) z′
+  unfolding talliedOf
+  rows-tallied k x z z′ e ex ez r = record {
+    wide = ap length ez ∙ tab-length 20 (λ q. getD z q 0 + one (has x q));
+    ones = λ q l.
+        row-next q sel xs k (getD z q 0) (getD z′ q 0) x (has x q) (one-yes q x (getD sel k false) (has x q) e refl) ex (r .ones q l)
+        (ap (λ (y : List ℕ). getD y q 0) ez ∙ tab-at 20 (λ q. getD z q 0 + one (has x q)) q 0 l);
+  }
+
+  pub rows-passed : (k : ℕ) (z : List ℕ) → getD sel k false ≡ false → Rows k z → Rows (k + 1) z
+  rows-passed k z e r = record {
+    wide = r .wide;
+    ones = λ q l. row-next q sel xs k (getD z q 0) (getD z q 0) (getD xs k 0) false (one-no q (getD xs k 0) (getD sel k false) e) refl (r .ones q l) (omega arith);
+  }
+
+  pub rows-all : (k : ℕ) (z : List ℕ) → 256 ≤ k → k ≤ 256 → Rows k z → z ≡ tab 20 (rowOf sel xs)
+  rows-all k z h l r = filled-all 0 (rowOf sel xs) 20 20 z (r .wide) (omega arith) (λ q b. row-all q sel xs k (getD z q 0) h l (r .ones q b))
+
 -- ---- equal entries
 
-module _ (sel : List Bool) (xs : List ℕ) (q n o : ℕ) (en : n ≡ countOf sel) (eo : o ≡ rowOf sel xs q) where
-  pub equal-zeros : o < n - o → n - o ≡ equalOf sel xs q
-  unfolding equalOf
-  equal-zeros h = omega (arith, en, eo)
+module _ (n o : ℕ) where
+  pub more-zeros : o < n - o → n - o ≡ moreOf n o
+  unfolding moreOf
+  more-zeros h = omega arith
 
-  pub equal-ones : n - o ≤ o → o ≡ equalOf sel xs q
-  unfolding equalOf
-  equal-ones h = omega (arith, en, eo)
+  pub more-ones : n - o ≤ o → o ≡ moreOf n o
+  unfolding moreOf
+  more-ones h = omega arith
+
+-- from the ones of all rows to their equal entries
+pub equal-all : (sel : List Bool) (xs : List ℕ) (n : ℕ) (os : List ℕ) → n ≡ countOf sel → os ≡ tab 20 (rowOf sel xs) → tab 20 (λ q. moreOf n (getD os q 0)) ≡ tab 20 (equalOf sel xs)
+unfolding equalOf
+equal-all sel xs n os en eo =
+    tab-ext 20 (λ q. moreOf n (getD os q 0)) (λ q. moreOf (countOf sel) (rowOf sel xs q)) (λ q l. ap₂ moreOf en (ap (λ (z : List ℕ). getD z q 0) eo ∙ tab-at 20 (rowOf sel xs) q 0 l))
 
 pub count-few : (k : ℕ) (sel : List Bool) → k ≡ countOf sel → k ≤ 256
 count-few k sel e = omega (arith, e, count-most sel)

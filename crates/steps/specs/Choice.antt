@@ -1,7 +1,7 @@
 -- The qubits that the steps choose: "In a tie the lowest-numbered qubit is taken, and the search stops there" (document 01, "Steps from document 000").
 use mathlib.Core.Bool.{Bool, false}
 use mathlib.Core.List.{List}
-use Prim.Native.Nat.{ℕ, zero, suc, _-_, max}
+use Prim.Native.Nat.{ℕ, zero, suc, _+_, _-_, max}
 use lib.Dec.{eqb, ltb}
 use lib.ListN.{getD}
 use lib.Bits.{bitAnd, bitXor}
@@ -23,17 +23,21 @@ unfoldable pub bestOf : List Bool → List ℕ → ℕ → ℕ
 bestOf may worth zero = mostQubits
 bestOf may worth (suc w) = pick (ltb (worthAt may worth w) mostQubits) (worthAt may worth w) (bestOf may worth w)
 
--- no row has more entries than there are columns, 256
-abbrev pub overWorth : ℕ
-overWorth = 257
+-- of n entries so many are ones: the greater of the numbers of zeros and of ones
+unfoldable pub moreOf : ℕ → ℕ → ℕ
+moreOf n o = max (n - o) o
 
 -- the number of equal entries in row q, among the selected columns
 unfoldable pub equalOf : List Bool → List ℕ → ℕ → ℕ
-equalOf sel xs q = max (countOf sel - rowOf sel xs q) (rowOf sel xs q)
+equalOf sel xs q = moreOf (countOf sel) (rowOf sel xs q)
+
+-- no row has more equal entries, or more ones, than there are selected columns
+abbrev pub over : List Bool → ℕ
+over sel = countOf sel + 1
 
 -- "among the qubits whose removal leaves the set connected, choose the row with most equal entries"
 unfoldable pub sparing : List ℕ → ℕ → List Bool → List ℕ → ℕ
-sparing near Q sel xs = bestOf (tab mostQubits (spareOf near Q)) (tab mostQubits (equalOf sel xs)) overWorth
+sparing near Q sel xs = bestOf (tab mostQubits (spareOf near Q)) (tab mostQubits (equalOf sel xs)) (over sel)
 
 -- the set Q without the qubit r
 unfoldable pub without : ℕ → ℕ → ℕ
@@ -45,4 +49,4 @@ beside near Q r = bitAnd (getD near r 0) (without Q r)
 
 -- "choose a neighbour in the set with most ones"
 unfoldable pub partner : List ℕ → ℕ → ℕ → List Bool → List ℕ → ℕ
-partner near Q r sel xs = bestOf (tab mostQubits (has (beside near Q r))) (tab mostQubits (rowOf sel xs)) overWorth
+partner near Q r sel xs = bestOf (tab mostQubits (has (beside near Q r))) (tab mostQubits (rowOf sel xs)) (over sel)

@@ -1,12 +1,12 @@
 -- Selected columns: a set of places, true where a column is selected (document 01, "Steps from document 000").
 use mathlib.Core.Bool.{Bool, false, not}
 use mathlib.Core.List.{List}
-use Prim.Native.Nat.{ℕ}
+use Prim.Native.Nat.{ℕ, _+_, _≤_}
 use lib.Dec.{eqb}
 use lib.ListN.{getD}
 use Rattle.sets.specs.Pick.{both}
 use Rattle.sets.specs.Bit.{has}
-use Rattle.meaning.specs.Limits.{mostParities}
+use Rattle.meaning.specs.Limits.{mostQubits, mostParities}
 use Rattle.columns.specs.Tables.{tab, sumTo, one}
 
 -- how many columns are selected
@@ -36,3 +36,11 @@ liveOf xs = tab mostParities (λ k. not (eqb (getD xs k 0) 0))
 -- the number of ones in row q, among the selected columns
 unfoldable pub rowOf : List Bool → List ℕ → ℕ → ℕ
 rowOf sel xs q = sumTo mostParities (λ k. one (oneAt q (getD sel k false) (getD xs k 0)))
+
+-- no row has more than 256 ones
+abbrev pub Few : List ℕ → Type 0
+Few z = (q : ℕ) → getD z q 0 ≤ mostParities
+
+-- the ones of each row, and those of the column x
+unfoldable pub talliedOf : ℕ → List ℕ → List ℕ
+talliedOf x z = tab mostQubits (λ q. getD z q 0 + one (has x q))

@@ -8,16 +8,15 @@ ghost use Rattle.sets.specs.Bit.{has};
 ghost use Rattle.meaning.specs.Limits.{mostQubits};
 ghost use Rattle.chip.specs.Spare.{spareOf};
 ghost use Rattle.columns.specs.Tables.{tab};
-ghost use Rattle.steps.specs.Selection.{rowOf};
-ghost use Rattle.steps.specs.Choice.{bestOf, equalOf, sparing, without, beside, partner};
+ghost use Rattle.steps.specs.Choice.{bestOf, moreOf, sparing, without, beside, partner};
 
-// Of the qubits that may be taken the one of most worth, the lowest in a tie; 20 where there is
-// none.
-pub fn best(may: [bool; Job::QUBITS], worth: [usize; Job::QUBITS]) -> usize
-    ensures { λ r. ⌜ r ≡ bestOf may worth 257 ⌝ }
+// Of the qubits that may be taken and are worth less than `over` the one of most worth, the lowest in
+// a tie; 20 where there is none.
+pub fn best(may: [bool; Job::QUBITS], worth: [usize; Job::QUBITS], over: usize) -> usize
+    ensures { λ r. ⌜ r ≡ bestOf may worth over ⌝ }
 {
     let mut found = Job::QUBITS;
-    let mut w = 257;
+    let mut w = over;
     'search: while 0 < w {
         w -= 1;
         for q in 0..Job::QUBITS {
@@ -32,23 +31,9 @@ pub fn best(may: [bool; Job::QUBITS], worth: [usize; Job::QUBITS]) -> usize
     found
 }
 
-// The ones of each row.
-pub fn rows(sel: [bool; Job::PARITIES], cols: &[u32]) -> [usize; Job::QUBITS]
-    ensures { λ z. ⌜ z ≡ tab mostQubits (rowOf sel (now (cols .entry))) ⌝ }
+fn more(n: usize, ones: usize) -> usize
+    ensures { λ r. ⌜ r ≡ moreOf n ones ⌝ }
 {
-    let mut z = [0; Job::QUBITS];
-    for q in 0..Job::QUBITS {
-        z[q] = selection::row(q, sel, cols);
-    }
-    z
-}
-
-// The equal entries of one row.
-pub fn equal(q: usize, sel: [bool; Job::PARITIES], cols: &[u32]) -> usize
-    ensures { λ r. ⌜ r ≡ equalOf sel (now (cols .entry)) q ⌝ }
-{
-    let n = selection::count(sel);
-    let ones = selection::row(q, sel, cols);
     if ones < n {
         if n - ones > ones {
             return n - ones;
@@ -57,13 +42,13 @@ pub fn equal(q: usize, sel: [bool; Job::PARITIES], cols: &[u32]) -> usize
     ones
 }
 
-// The equal entries of each row.
-pub fn equals(sel: [bool; Job::PARITIES], cols: &[u32]) -> [usize; Job::QUBITS]
-    ensures { λ z. ⌜ z ≡ tab mostQubits (equalOf sel (now (cols .entry))) ⌝ }
+// The equal entries of rows of n entries, of which so many are ones.
+fn equals(n: usize, ones: [usize; Job::QUBITS]) -> [usize; Job::QUBITS]
+    ensures { λ z. ⌜ z ≡ tab mostQubits (λ q. moreOf n (getD ones q 0)) ⌝ }
 {
     let mut z = [0; Job::QUBITS];
     for q in 0..Job::QUBITS {
-        z[q] = equal(q, sel, cols);
+        z[q] = more(n, ones[q]);
     }
     z
 }
@@ -83,7 +68,12 @@ pub fn spares(near: [u32; Job::QUBITS], set: u32) -> [bool; Job::QUBITS]
 pub fn spared(near: [u32; Job::QUBITS], set: u32, sel: [bool; Job::PARITIES], cols: &[u32]) -> usize
     ensures { λ r. ⌜ r ≡ sparing near set sel (now (cols .entry)) ⌝ }
 {
-    best(spares(near, set), equals(sel, cols))
+    let n = selection::count(sel);
+    best(
+        spares(near, set),
+        equals(n, selection::rows(sel, cols)),
+        n + 1,
+    )
 }
 
 pub fn rest(set: u32, r: usize) -> u32
@@ -126,5 +116,10 @@ pub fn partnered(
 ) -> usize
     ensures { λ m. ⌜ m ≡ partner near set r sel (now (cols .entry)) ⌝ }
 {
-    best(members(neighbours(near, set, r)), rows(sel, cols))
+    let n = selection::count(sel);
+    best(
+        members(neighbours(near, set, r)),
+        selection::rows(sel, cols),
+        n + 1,
+    )
 }

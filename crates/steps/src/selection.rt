@@ -2,7 +2,11 @@
 use columns::turning;
 use meaning::job::Job;
 ghost use mathlib.Core.Path.{_≡_};
-ghost use Rattle.steps.specs.Selection.{countOf, zeroAt, oneAt, zerosOf, onesOf, liveOf, rowOf};
+ghost use Prim.Native.Nat.{_+_, _≤_};
+ghost use Rattle.sets.specs.Bit.{has};
+ghost use Rattle.meaning.specs.Limits.{mostQubits};
+ghost use Rattle.columns.specs.Tables.{tab, one};
+ghost use Rattle.steps.specs.Selection.{countOf, zeroAt, oneAt, zerosOf, onesOf, liveOf, rowOf, Few, talliedOf};
 
 // How many columns are selected.
 pub fn count(sel: [bool; Job::PARITIES]) -> usize
@@ -72,6 +76,40 @@ pub fn live(cols: &[u32]) -> [bool; Job::PARITIES]
     let mut z = [false; Job::PARITIES];
     for k in 0..Job::PARITIES {
         z[k] = turning::entry(cols, k) != 0;
+    }
+    z
+}
+
+// One more where x has 1 at q.
+fn plus(n: usize, x: u32, q: usize) -> usize
+    requires { ⌜ n ≤ 256 ⌝ }
+    ensures { λ r. ⌜ r ≡ n + one (has x q) ⌝ }
+{
+    if sets::holds(x, q) { n + 1 } else { n }
+}
+
+// The ones of each row so far, and those of the column x.
+fn tallied(z: [usize; Job::QUBITS], x: u32) -> [usize; Job::QUBITS]
+    requires { ⌜ Few z ⌝ }
+    ensures { λ r. ⌜ r ≡ talliedOf x z ⌝ }
+{
+    let mut next = [0; Job::QUBITS];
+    for q in 0..Job::QUBITS {
+        next[q] = plus(z[q], x, q);
+    }
+    next
+}
+
+// The ones in each row, among the selected columns: one pass over the columns serves all rows.
+pub fn rows(sel: [bool; Job::PARITIES], cols: &[u32]) -> [usize; Job::QUBITS]
+    ensures { λ z. ⌜ z ≡ tab mostQubits (rowOf sel (now (cols .entry))) ⌝ }
+{
+    let mut z = [0; Job::QUBITS];
+    for k in 0..Job::PARITIES {
+        if sel[k] {
+            let next = tallied(z, turning::entry(cols, k));
+            z = next;
+        }
     }
     z
 }

@@ -2,7 +2,6 @@
 use mathlib.Core.Path.{_≡_, refl, sym, _∙_}
 use Prim.Native.Nat.{_-_, _≤_}
 use native.Mathlib.Omega.{arith}
-use Prim.Native.Nat.{suc}
 use mathlib.Core.Logic.{⊎-elim}
 use Rattle.sets.specs.Search.{firstOf}
 use Rattle.steps.specs.Choice.{worthAt, bestOf}
@@ -12,16 +11,16 @@ use Rattle.steps.proofs.choice.best.Statement.{statement}
 use Rattle.steps.proofs.choice.best.Tie as tie
 
 abbrev Inv-loop : tie.InvT-loop
-Inv-loop may worth found₀ w q₀ found q = (q ≤ 20) × (firstOf (fits may worth w) (20 - q) q ≡ worthAt may worth w) × (found ≡ 20)
+Inv-loop over may worth found₀ w q₀ found q = (q ≤ 20) × (firstOf (fits may worth w) (20 - q) q ≡ worthAt may worth w) × (found ≡ 20)
 
 abbrev μ-loop : tie.MeasureT-loop
-μ-loop may worth found₀ w q₀ found q = 20 - q
+μ-loop over may worth found₀ w q₀ found q = 20 - q
 
 abbrev Inv-search : tie.InvT-search
-Inv-search may worth found₀ w₀ found w = (w ≤ 257) × (bestOf may worth w ≡ bestOf may worth 257) × (found ≡ 20)
+Inv-search over may worth found₀ w₀ found w = (w ≤ over) × (bestOf may worth w ≡ bestOf may worth over) × (found ≡ 20)
 
 abbrev μ-search : tie.MeasureT-search
-μ-search may worth found₀ w₀ found w = w
+μ-search over may worth found₀ w₀ found w = w
 
 search-holds : tie.Need-search-holds Inv-loop μ-loop Inv-search μ-search
 search-holds c = (search needs, refl, refl)

@@ -1,13 +1,13 @@
--- `nearest::moves::some_single` meets its contract. Assumes nothing.
+-- `columns::striking::some_single` meets its contract. Assumes nothing.
 use mathlib.Core.Path.{_≡_, sym, _∙_}
 use Prim.Native.Nat.{_-_, _≤_}
 use lib.ListN.{length}
 use Rattle.sets.specs.Search.{firstOf}
 use Rattle.sets.proofs.Finding.{first-all, first-next}
-use Rattle.nearest.proofs.Moving.{singleAt, single-here, single-nowhere}
+use Rattle.columns.proofs.Singles.{singleAt, single-here, single-nowhere}
 use borrow.Author.Needs.{needs}
-use Rattle.nearest.proofs.moves.some_single.Statement.{statement}
-use Rattle.nearest.proofs.moves.some_single.Tie as tie
+use Rattle.columns.proofs.striking.some_single.Statement.{statement}
+use Rattle.columns.proofs.striking.some_single.Tie as tie
 
 abbrev Inv-loop : tie.InvT-loop
 Inv-loop cols k₀ k-end k = (k ≤ length cols) × (firstOf (singleAt cols) (length cols - k) k ≡ firstOf (singleAt cols) (length cols) 0)
