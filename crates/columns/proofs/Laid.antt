@@ -8,7 +8,7 @@ use native.Mathlib.Omega.{arith}
 use lib.Arith.{lt-one}
 use lib.Dec.{eqb}
 use lib.Count.{ones}
-use lib.ListN.{length, getD, List·getD-eq-default}
+use lib.ListN.{length, getD}
 use lib.Bits.{bitXor}
 use Rattle.sets.specs.Pick.{pick}
 use Rattle.sets.specs.Bit.{when, In, Sub}
@@ -20,7 +20,7 @@ use Rattle.meaning.specs.declared.gate.Gate.{Gate}
 use Rattle.meaning.specs.Circuit.{run}
 use Rattle.meaning.specs.Tally.{cnotsOf}
 use Rattle.columns.specs.Terms.{Bears, totalOf, LaysTerms, due, left, liveOne, live, Laying}
-use Rattle.columns.proofs.Tabling.{sum-ext, sum-none, sum-front, sum-same}
+use Rattle.columns.proofs.Tabling.{sum-ext, sum-none, sum-same}
 use Rattle.columns.proofs.Layings.{due-struck, due-is, live-one, live-none}
 
 -- a part of a set of n qubits is a number below 2^n
@@ -50,34 +50,21 @@ comb-bears Q W x low l b f =
     comb-agree W (units 20) x (l ∙ sym (length-units 20)) (λ i h. b i (f i h) ∙ sym (getD-units 20 i (in-lt 20 Q i low (f i h))))
     ∙ comb-units 20 x (sub-below 20 x Q f low)
 
-module _ (near : List ℕ) (Q : ℕ) (ps angles xs as′ : List ℕ) (g : List Gate) (ys : List ℕ) (low : Q < 2 ^ 20) (few : length ps ≤ length xs)
-    (begin : (k : ℕ) → k < length xs → getD xs k 0 ≡ getD ps k 0) (same : (k : ℕ) → k < length xs → getD as′ k 0 ≡ getD angles k 0)
-    (term : (k : ℕ) → k < length ps → Sub (getD ps k 0) Q × (getD ps k 0 ≢ 0))
-    (lays : Laying near Q as′ xs g ys) (struck : (k : ℕ) → getD ys k 0 ≡ 0) where
-  nothing-due : (p : ℕ) (W : List ℕ) → left p W as′ ys ≡ 0
+module _ (near : List ℕ) (Q : ℕ) (ps angles : List ℕ) (g : List Gate) (ys : List ℕ) (low : Q < 2 ^ 20)
+    (term : (k : ℕ) → k < length ps → Sub (getD ps k 0) Q × (getD ps k 0 ≢ 0)) (lays : Laying near Q angles ps g ys) (struck : (k : ℕ) → getD ys k 0 ≡ 0) where
+  nothing-due : (p : ℕ) (W : List ℕ) → left p W angles ys ≡ 0
   unfolding left
-  nothing-due p W = sum-none (length ys) (λ k. due p W (getD ys k 0) (getD as′ k 0)) (λ k l. due-struck p W (getD ys k 0) (getD as′ k 0) (struck k))
+  nothing-due p W = sum-none (length ys) (λ k. due p W (getD ys k 0) (getD angles k 0)) (λ k l. due-struck p W (getD ys k 0) (getD angles k 0) (struck k))
 
-  past : (k : ℕ) → length ps ≤ k → k < length xs → getD xs k 0 ≡ 0
-  past k h l = begin k l ∙ List·getD-eq-default ps 0 h
-
-  due-all : (W : List ℕ) → length W ≡ 20 → Bears Q W → (p : ℕ) → left p W as′ xs ≡ totalOf p ps angles
+  due-all : (W : List ℕ) → length W ≡ 20 → Bears Q W → (p : ℕ) → left p W angles ps ≡ totalOf p ps angles
   unfolding left totalOf
   due-all W l b p =
-      sum-front (length xs) (length ps) (λ k. due p W (getD xs k 0) (getD as′ k 0)) few (λ k h m. due-struck p W (getD xs k 0) (getD as′ k 0) (past k h m))
-      ∙ sum-ext (length ps) (λ k. due p W (getD xs k 0) (getD as′ k 0)) (λ k. pick (eqb (getD ps k 0) p) (getD angles k 0) 0) one
-    where
-      one : (k : ℕ) → k < length ps → due p W (getD xs k 0) (getD as′ k 0) ≡ pick (eqb (getD ps k 0) p) (getD angles k 0) 0
-      one k h =
-          let m : k < length xs = omega arith in
-          ap₂ (λ (x a : ℕ). due p W x a) (begin k m) (same k m) ∙ due-is p W (getD ps k 0) (getD angles k 0) (term k h .1)
-          ∙ ap (λ (x : ℕ). pick (eqb x p) (getD angles k 0) 0) (comb-bears Q W (getD ps k 0) low l b (term k h .0))
+      sum-ext (length ps) (λ k. due p W (getD ps k 0) (getD angles k 0)) (λ k. pick (eqb (getD ps k 0) p) (getD angles k 0) 0) (λ k h.
+      due-is p W (getD ps k 0) (getD angles k 0) (term k h .1) ∙ ap (λ (x : ℕ). pick (eqb x p) (getD angles k 0) 0) (comb-bears Q W (getD ps k 0) low l b (term k h .0)))
 
-  live-all : live xs ≡ length ps
+  live-all : live ps ≡ length ps
   unfolding live
-  live-all =
-      sum-front (length xs) (length ps) (λ k. liveOne (getD xs k 0)) few (λ k h m. live-none (getD xs k 0) (past k h m))
-      ∙ sum-same (length ps) (λ k. liveOne (getD xs k 0)) (λ k h. let m : k < length xs = omega arith in ap liveOne (begin k m) ∙ live-one (getD ps k 0) (term k h .1))
+  live-all = sum-same (length ps) (λ k. liveOne (getD ps k 0)) (λ k h. live-one (getD ps k 0) (term k h .1))
 
   live-end : live ys ≡ 0
   unfolding live
@@ -88,7 +75,7 @@ module _ (near : List ℕ) (Q : ℕ) (ps angles xs as′ : List ℕ) (g : List G
       record {
         sums = λ W l b p. omega (arith, lays .sums W l p, nothing-due p (run g W), due-all W l b p);
         inside = lays .inside;
-        small = λ h. lays .small (λ k l. subst (λ (a : ℕ). a < 65536) (sym (same k l)) (h k));
+        small = λ h. lays .small (λ k l. h k);
         rotations = omega (arith, lays .rotations, live-all, live-end);
         cnots = bound;
       }

@@ -7,6 +7,7 @@ pub mod Singles
 pub mod Gates
 pub mod Layings
 pub mod Laid
+pub mod Parts
 pub mod Struck
 pub mod Inside
 pub mod OrderParts

@@ -2,6 +2,7 @@
 use crate::emit;
 ghost use mathlib.Core.Path.{_≡_};
 ghost use mathlib.Core.Bool.{false};
+ghost use Prim.Native.Nat.{min};
 ghost use lib.ListN.{getD};
 ghost use Rattle.columns.specs.Pieces.{held, wrote};
 ghost use Rattle.columns.specs.Turning.{turnedBy, turnAll, layCnot};
@@ -11,6 +12,13 @@ pub fn entry(xs: &[u32], k: usize) -> u32
     ensures { λ r. ⌜ r ≡ getD (now (xs .entry)) k 0 ⌝ }
 {
     if k < xs.len() { xs[k] } else { 0 }
+}
+
+// As many as there are, where more are named.
+pub fn at_most(n: usize, most: usize) -> usize
+    ensures { λ r. ⌜ r ≡ min n most ⌝ }
+{
+    if n < most { n } else { most }
 }
 
 pub fn turned(x: u32, control: usize, target: usize) -> u32

@@ -19,7 +19,7 @@ use Rattle.columns.specs.Pieces.{Piece, idle, after}
 use Rattle.columns.specs.Striking.{strikeOff}
 use Rattle.columns.specs.Terms.{LaysTerms, Laying, live, liveOne}
 use Rattle.columns.specs.Gather.{Gathers, gatherOf}
-use Rattle.columns.proofs.Tabling.{sum-less, sum-ones, sum-front}
+use Rattle.columns.proofs.Tabling.{sum-less, sum-ones}
 use Rattle.columns.proofs.Piecing.{then-on}
 use Rattle.columns.proofs.Gates.{cnots-none, cnots-append}
 use Rattle.columns.proofs.Layings.{live-one, live-none, laying-none, laying-then}
@@ -28,8 +28,8 @@ use Rattle.columns.proofs.Struck.{Strikes, strikes-off}
 use Rattle.columns.proofs.GatherWorks.{gathers}
 use Rattle.nearest.specs.Choice.{far, chosen}
 use Rattle.nearest.specs.Moves.{layMoves}
-use Rattle.nearest.specs.Nearest.{gatherNext, rounds, placed, nearestFor}
-use Rattle.nearest.proofs.Entry.{placed-at, placed-length, rounds-none, rounds-more, rounds-over}
+use Rattle.nearest.specs.Nearest.{gatherNext, rounds, nearestFor}
+use Rattle.nearest.proofs.Entry.{rounds-none, rounds-more, rounds-over}
 use Rattle.nearest.proofs.Nearness.{chosen-sound, chosen-over}
 use Rattle.nearest.proofs.Moved.{Within, Ready, fits, strike-ready, Moved, moves-moved, moves-gone}
 
@@ -64,10 +64,9 @@ live-zero xs h k = go (ℕ-discrete (getD xs k 0) 0) (decLt k (length xs))
     go (no ne) (no l) = List·getD-eq-default xs 0 (omega arith)
     go (no ne) (yes l) = absurd (omega (arith, h, sum-less (length xs) (λ j. 0) (λ j. liveOne (getD xs j 0)) k l (omega (arith, live-one (getD xs k 0) ne)) (λ j b. omega arith)))
 
-live-most : (xs : List ℕ) (n : ℕ) → n ≤ length xs → ((k : ℕ) → n ≤ k → k < length xs → getD xs k 0 ≡ 0) → live xs ≤ n
+live-most : (xs : List ℕ) → live xs ≤ length xs
 unfolding live
-live-most xs n l h =
-    omega (arith, sum-front (length xs) n (λ k. liveOne (getD xs k 0)) l (λ k a b. live-none (getD xs k 0) (h k a b)), sum-ones n (λ k. liveOne (getD xs k 0)) (λ k b. one-most (getD xs k 0)))
+live-most xs = sum-ones (length xs) (λ k. liveOne (getD xs k 0)) (λ k b. one-most (getD xs k 0))
 
 -- ---- the rounds
 
@@ -143,35 +142,28 @@ module _ (near : List ℕ) (Q : ℕ) (angles : List ℕ) (sy : Symm near) (j : J
 
 module _ (near : List ℕ) (Q : ℕ) (ps angles : List ℕ) (sy : Symm near) (j : Joined near Q) (low : Q < 2 ^ 20) (few : length ps ≤ 256)
     (term : (k : ℕ) → k < length ps → Sub (getD ps k 0) Q × (getD ps k 0 ≢ 0)) where
-  behind : (k : ℕ) → length ps ≤ k → getD (placed ps) k 0 ≡ 0
-  behind k h = go (decLt k 256)
-    where
-      go : Dec (k < 256) → getD (placed ps) k 0 ≡ 0
-      go (yes l) = placed-at ps k l ∙ List·getD-eq-default ps 0 h
-      go (no l) = List·getD-eq-default (placed ps) 0 (omega (arith, placed-length ps))
-
-  within : Within Q (placed ps)
+  within : Within Q ps
   within k = go (decLt k (length ps))
     where
-      go : Dec (k < length ps) → Sub (getD (placed ps) k 0) Q
-      go (yes l) = subst (λ (x : ℕ). Sub x Q) (sym (placed-at ps k (omega arith))) (term k l .0)
-      go (no l) = subst (λ (x : ℕ). Sub x Q) (sym (behind k (omega arith))) (λ i h. absurd (omega (arith, h, bit-of-zero i)))
+      go : Dec (k < length ps) → Sub (getD ps k 0) Q
+      go (yes l) = term k l .0
+      go (no l) = subst (λ (x : ℕ). Sub x Q) (sym (List·getD-eq-default ps 0 (omega arith))) (λ i h. absurd (omega (arith, h, bit-of-zero i)))
 
   abbrev first : Piece
-  first = strikeOff (placed angles) (placed ps)
+  first = strikeOff angles ps
 
-  singles : Strikes near Q (placed angles) (placed ps) first
-  singles = strikes-off near Q (placed angles) (placed ps) (fits near Q (placed angles) low (placed ps) within)
+  singles : Strikes near Q angles ps first
+  singles = strikes-off near Q angles ps (fits near Q angles low ps within)
 
   few-live : live (first .cols) ≤ length ps
-  few-live = omega (arith, singles .lays .rotations, live-most (placed ps) (length ps) (omega (arith, placed-length ps)) (λ k a b. behind k a))
+  few-live = omega (arith, singles .lays .rotations, live-most ps)
 
-  rest : Done near Q (placed angles) sy j low (first .cols) (rounds 256 near (placed angles) Q (first .cols))
-  rest = rounds-done near Q (placed angles) sy j low 256 (first .cols) (strike-ready near Q (placed angles) low (placed ps) within) (omega (arith, few-live))
+  rest : Done near Q angles sy j low (first .cols) (rounds 256 near angles Q (first .cols))
+  rest = rounds-done near Q angles sy j low 256 (first .cols) (strike-ready near Q angles low ps within) (omega (arith, few-live))
 
-  nearest-is : nearestFor near Q ps angles ≡ after first (rounds 256 near (placed angles) Q (first .cols))
+  nearest-is : nearestFor near Q ps angles ≡ after first (rounds 256 near angles Q (first .cols))
   unfolding nearestFor
-  nearest-is = then-on first (λ xs. rounds 256 near (placed angles) Q xs) (singles .on)
+  nearest-is = then-on first (λ xs. rounds 256 near angles Q xs) (singles .on)
 
   -- never stuck
   pub nearest-on : nearestFor near Q ps angles .stuck ≡ false
@@ -181,12 +173,10 @@ module _ (near : List ℕ) (Q : ℕ) (ps angles : List ℕ) (sy : Symm near) (j 
   pub nearest-lays : LaysTerms near Q ps angles (nearestFor near Q ps angles .laid)
   nearest-lays =
       subst (λ (p : Piece). LaysTerms near Q ps angles (p .laid)) (sym nearest-is)
-      (lays-terms near Q ps angles (placed ps) (placed angles) (first .laid ++ last .laid) (last .cols) low (omega (arith, placed-length ps))
-      (λ k l. placed-at ps k (omega (arith, placed-length ps))) (λ k l. placed-at angles k (omega (arith, placed-length ps))) term
-      (laying-then near Q (placed angles) (singles .lays) (rest .lays)) (rest .struck) bound)
+      (lays-terms near Q ps angles (first .laid ++ last .laid) (last .cols) low term (laying-then near Q angles (singles .lays) (rest .lays)) (rest .struck) bound)
     where
       last : Piece
-      last = rounds 256 near (placed angles) Q (first .cols)
+      last = rounds 256 near angles Q (first .cols)
 
       bound : cnotsOf (first .laid ++ last .laid) ≤ 2 * (ones Q - 1) * length ps
       bound =

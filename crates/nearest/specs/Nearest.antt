@@ -5,7 +5,6 @@ use lib.Dec.{ltb}
 use lib.ListN.{getD}
 use Rattle.sets.specs.Pick.{pick}
 use Rattle.meaning.specs.Limits.{mostParities}
-use Rattle.columns.specs.Tables.{tab}
 use Rattle.columns.specs.Pieces.{Piece, idle, andThen}
 use Rattle.columns.specs.Striking.{strikeOff}
 use Rattle.columns.specs.Gather.{gatherOf}
@@ -24,14 +23,6 @@ rounds (suc n) near angles Q xs =
     let more = andThen (gatherNext near angles Q (b .column) (b .qubit) xs) (λ ys. rounds n near angles Q ys) in
     pick (ltb (b .moves) far) more (idle xs)
 
--- x where it stands among the first `count`, 0 behind them
-abbrev pub keptAt : ℕ → ℕ → ℕ → ℕ
-keptAt count k x = pick (ltb k count) x 0
-
--- a list on 256 places, 0 behind it
-unfoldable pub placed : List ℕ → List ℕ
-placed xs = tab mostParities (λ k. getD xs k 0)
-
 -- "Terms are columns over the island's qubits": columns of one qubit first, then the rounds; never stuck
 unfoldable pub nearestFor : List ℕ → ℕ → List ℕ → List ℕ → Piece
-nearestFor near Q ps angles = andThen (strikeOff (placed angles) (placed ps)) (λ xs. rounds mostParities near (placed angles) Q xs)
+nearestFor near Q ps angles = andThen (strikeOff angles ps) (λ xs. rounds mostParities near angles Q xs)

@@ -1,12 +1,13 @@
 // Nearest first, the second way: from an island's terms to CNOTs and rotations.
 use columns::striking;
+use columns::turning;
 use meaning::job::Job;
 ghost use mathlib.Core.Path.{_≡_};
 ghost use mathlib.Core.Bool.{false};
 ghost use lib.ListN.{take};
 ghost use Rattle.columns.specs.Emit.{emit, emitAt};
 ghost use Rattle.columns.specs.Pieces.{held, wrote};
-ghost use Rattle.nearest.specs.Nearest.{keptAt, placed, rounds, nearestFor};
+ghost use Rattle.nearest.specs.Nearest.{rounds, nearestFor};
 ghost use Rattle.nearest.specs.Sure.{Sure, Told};
 ghost use Rattle.nearest.specs.Table.{Ordered};
 
@@ -14,23 +15,6 @@ mod choice;
 mod moves;
 mod sure;
 mod table;
-
-fn kept(x: u32, k: usize, count: usize) -> u32
-    ensures { λ r. ⌜ r ≡ keptAt count k x ⌝ }
-{
-    if k < count { x } else { 0 }
-}
-
-// The first `count` of a list, 0 behind them.
-fn front(xs: [u32; Job::PARITIES], count: usize) -> [u32; Job::PARITIES]
-    ensures { λ r. ⌜ r ≡ placed (take count xs) ⌝ }
-{
-    let mut z = [0; Job::PARITIES];
-    for k in 0..Job::PARITIES {
-        z[k] = kept(xs[k], k, count);
-    }
-    z
-}
 
 // Each round strikes off a column, so no more rounds than columns are needed.
 fn all_rounds(
@@ -60,6 +44,24 @@ fn all_rounds(
     a
 }
 
+// Lays the columns: those of one qubit at once, the others round by round.
+fn lay_columns(
+    near: [u32; Job::QUBITS],
+    set: u32,
+    cols: &mut [u32],
+    angles: &[u32],
+    out: &mut [u32],
+) -> usize
+    ensures { λ r. ⌜ held (now (cols .exit)) (now (out .exit)) r false ≡ wrote (now (out .entry)) 0 (nearestFor near set (now (cols .entry)) (now (angles .entry))) ⌝ }
+{
+    let orders = table::from_all(near, set);
+    let order = orders.qubit;
+    let len = orders.len;
+    let sure = sure::sure(near, set);
+    let a = striking::strike(cols, angles, out, 0);
+    all_rounds(near, &order, &len, set, sure, cols, angles, out, a)
+}
+
 // Lays the terms of the island `set`: the first `count` parities, ascending, with their angles.
 // The neighbours are those inside the island.
 pub fn lay_terms(
@@ -72,12 +74,7 @@ pub fn lay_terms(
 ) -> usize
     ensures { λ r. ⌜ (now (out .exit) ≡ emit (now (out .entry)) 0 (nearestFor near set (take count parity) (take count angle) .laid)) × (r ≡ emitAt (now (out .entry)) 0 (nearestFor near set (take count parity) (take count angle) .laid)) ⌝ }
 {
-    let mut cols = front(parity, count);
-    let angles = front(angle, count);
-    let orders = table::from_all(near, set);
-    let order = orders.qubit;
-    let len = orders.len;
-    let sure = sure::sure(near, set);
-    let a = striking::strike(&mut cols, &angles, out, 0);
-    all_rounds(near, &order, &len, set, sure, &mut cols, &angles, out, a)
+    let n = turning::at_most(count, Job::PARITIES);
+    let mut cols = parity;
+    lay_columns(near, set, &mut cols[..n], &angle[..n], out)
 }

@@ -3,7 +3,7 @@ use mathlib.Core.Path.{_≡_, refl, sym, ap, _∙_}
 use mathlib.Core.Logic.{_≢_, _⊎_, inl, inr}
 use mathlib.Core.Bool.{Bool, true, false, not}
 use mathlib.Core.List.{List}
-use Prim.Native.Nat.{ℕ, zero, suc, _+_, _≤_, _<_}
+use Prim.Native.Nat.{ℕ, _+_, _≤_, _<_}
 use native.Mathlib.Omega.{arith}
 use native.Mathlib.Decide.{ℕ-discrete, decLt}
 use lib.Dec.{eqb}
@@ -98,7 +98,7 @@ live-in xs k e =
     let t = tab-true 256 (λ k. not (eqb (getD xs k 0) 0)) k e in
     (t .0, eqb-false (getD xs k 0) 0 (not-yes _ (t .1)))
 
-pub live-out : (xs : List ℕ) (k : ℕ) → length xs ≡ 256 → getD (liveOf xs) k false ≡ false → getD xs k 0 ≡ 0
+pub live-out : (xs : List ℕ) (k : ℕ) → length xs ≤ 256 → getD (liveOf xs) k false ≡ false → getD xs k 0 ≡ 0
 unfolding liveOf
 live-out xs k len e = go (decLt k 256) (ℕ-discrete (getD xs k 0) 0)
   where

@@ -3,7 +3,7 @@ use mathlib.Core.Path.{_≡_, refl, sym, ap, _∙_, subst}
 use mathlib.Core.Logic.{_≢_, inl}
 use mathlib.Core.Bool.{Bool, true, false}
 use mathlib.Core.List.{List, _++_}
-use Prim.Native.Nat.{ℕ, zero, suc, _-_, _*_, _^_, _≤_, _<_}
+use Prim.Native.Nat.{ℕ, _-_, _*_, _^_, _≤_, _<_}
 use native.Mathlib.Omega.{arith}
 use native.Mathlib.Nat.{mul-le-mul-left}
 use native.Mathlib.Decide.{decLt}
@@ -26,9 +26,8 @@ use Rattle.columns.proofs.Laid.{lays-terms}
 use Rattle.columns.proofs.Strikes.{single-zero}
 use Rattle.columns.proofs.Struck.{Fit, fit-of, Strikes, strikes-off, off-single, off-other}
 use Rattle.steps.specs.Selection.{countOf, liveOf}
-use Rattle.steps.specs.Steps.{baseStep, placed, stepsFor, answerOf}
+use Rattle.steps.specs.Steps.{baseStep, stepsFor, answerOf}
 use Rattle.steps.specs.declared.Laid.the-variants.{On}
-use Rattle.steps.proofs.Entry.{placed-at, placed-length}
 use Rattle.steps.proofs.Apart.{Many, many-of, reached-zero}
 use Rattle.steps.proofs.Splits.{never, not-true, live-in, live-out}
 use Rattle.steps.proofs.Meets.{Ready, Done}
@@ -36,47 +35,36 @@ use Rattle.steps.proofs.Stepping.{base-meets}
 
 module _ (near : List ℕ) (Q : ℕ) (ps angles : List ℕ) (low : Q < 2 ^ 20) (sy : Symm near) (j : Joined near Q) (few : length ps ≤ 256)
     (term : (k : ℕ) → k < length ps → Sub (getD ps k 0) Q × (getD ps k 0 ≢ 0)) where
-  abbrev xs : List ℕ
-  xs = placed ps
-
-  abbrev given : List ℕ
-  given = placed angles
-
-  -- a column is a term's parity, or 0
-  begins : (k : ℕ) → getD xs k 0 ≡ getD ps k 0
-  begins k = go (decLt k 256)
-    where
-      go : Dec (k < 256) → getD xs k 0 ≡ getD ps k 0
-      go (yes l) = placed-at ps k l
-      go (no l) = List·getD-eq-default xs 0 (omega (arith, placed-length ps)) ∙ sym (List·getD-eq-default ps 0 (omega arith))
-
   -- a column that is not 0 is a term's
-  termed : (k : ℕ) → getD xs k 0 ≢ 0 → (k < length ps) × Sub (getD xs k 0) Q
+  termed : (k : ℕ) → getD ps k 0 ≢ 0 → (k < length ps) × Sub (getD ps k 0) Q
   termed k h = go (decLt k (length ps))
     where
-      go : Dec (k < length ps) → (k < length ps) × Sub (getD xs k 0) Q
-      go (yes l) = (l, subst (λ (x : ℕ). Sub x Q) (sym (begins k)) (term k l .0))
-      go (no l) = absurd (h (begins k ∙ List·getD-eq-default ps 0 (omega arith)))
+      go : Dec (k < length ps) → (k < length ps) × Sub (getD ps k 0) Q
+      go (yes l) = (l, term k l .0)
+      go (no l) = absurd (h (List·getD-eq-default ps 0 (omega arith)))
 
-  fit : Fit Q xs
-  fit = fit-of Q xs low (λ k s. termed k (λ z. never s (ap singleOf z ∙ single-zero)) .1)
+  fit : Fit Q ps
+  fit = fit-of Q ps low (λ k s. termed k (λ z. never s (ap singleOf z ∙ single-zero)) .1)
 
   abbrev A : Piece
-  A = strikeOff given xs
+  A = strikeOff angles ps
 
   abbrev ys : List ℕ
   ys = A .cols
 
-  singles : Strikes near Q given xs A
-  singles = strikes-off near Q given xs fit
+  singles : Strikes near Q angles ps A
+  singles = strikes-off near Q angles ps fit
+
+  few-left : length ys ≤ 256
+  few-left = omega (arith, few, singles .lays .size)
 
   -- what is left is as it was, and no column of one qubit
-  left-over : (k : ℕ) → getD ys k 0 ≢ 0 → (getD ys k 0 ≡ getD xs k 0) × (singleOf (getD xs k 0) ≡ false)
-  left-over k h = go (singleOf (getD xs k 0)) refl
+  left-over : (k : ℕ) → getD ys k 0 ≢ 0 → (getD ys k 0 ≡ getD ps k 0) × (singleOf (getD ps k 0) ≡ false)
+  left-over k h = go (singleOf (getD ps k 0)) refl
     where
-      go : (b : Bool) → singleOf (getD xs k 0) ≡ b → (getD ys k 0 ≡ getD xs k 0) × (singleOf (getD xs k 0) ≡ false)
-      go true s = absurd (h (off-single near Q given xs fit k s))
-      go false s = (off-other near Q given xs fit k s, s)
+      go : (b : Bool) → singleOf (getD ps k 0) ≡ b → (getD ys k 0 ≡ getD ps k 0) × (singleOf (getD ps k 0) ≡ false)
+      go true s = absurd (h (off-single near Q angles ps fit k s))
+      go false s = (off-other near Q angles ps fit k s, s)
 
   abbrev sel : List Bool
   sel = liveOf ys
@@ -86,35 +74,35 @@ module _ (near : List ℕ) (Q : ℕ) (ps angles : List ℕ) (low : Q < 2 ^ 20) (
       record {
         places = λ k e. live-in ys k e .0;
         chosen = λ k e. chosen k (live-in ys k e .1);
-        aside = λ k e. inl (live-out ys k (singles .lays .size ∙ placed-length ps) e);
+        aside = λ k e. inl (live-out ys k few-left e);
       }
     where
       chosen : (k : ℕ) → getD ys k 0 ≢ 0 → Sub (getD ys k 0) Q × Many (getD ys k 0)
       chosen k h =
           let o = left-over k h in
-          let hx : getD xs k 0 ≢ 0 = λ z. h (o .0 ∙ z) in
-          subst (λ (x : ℕ). Sub x Q × Many x) (sym (o .0)) (termed k hx .1, many-of (getD xs k 0) hx (λ s. never s (o .1)))
+          let hx : getD ps k 0 ≢ 0 = λ z. h (o .0 ∙ z) in
+          subst (λ (x : ℕ). Sub x Q × Many x) (sym (o .0)) (termed k hx .1, many-of (getD ps k 0) hx (λ s. never s (o .1)))
 
   abbrev B : Piece
-  B = baseStep (sizeOf Q) near given Q sel ys
+  B = baseStep (sizeOf Q) near angles Q sel ys
 
   size-is : sizeOf Q ≡ ones Q
   unfolding sizeOf
   size-is = refl
 
-  done : Done near Q given sel ys B
-  done = base-meets near given sy (sizeOf Q) Q sel ys low j (omega (arith, size-is)) ready
+  done : Done near Q angles sel ys B
+  done = base-meets near angles sy (sizeOf Q) Q sel ys low j (omega (arith, size-is)) ready
 
   same : stepsFor near Q ps angles ≡ after A B
   unfolding stepsFor
-  same = then-on A (λ xs. baseStep (sizeOf Q) near given Q (liveOf xs) xs) (singles .on)
+  same = then-on A (λ xs. baseStep (sizeOf Q) near angles Q (liveOf xs) xs) (singles .on)
 
   struck : (k : ℕ) → getD (B .cols) k 0 ≡ 0
   struck k = go (getD sel k false) refl
     where
       go : (b : Bool) → getD sel k false ≡ b → getD (B .cols) k 0 ≡ 0
       go true e = done .struck k e
-      go false e = reached-zero (done .others k e) (live-out ys k (singles .lays .size ∙ placed-length ps) e)
+      go false e = reached-zero (done .others k e) (live-out ys k few-left e)
 
   -- no more columns than terms
   count-terms : countOf sel ≤ length ps
@@ -131,11 +119,9 @@ module _ (near : List ℕ) (Q : ℕ) (ps angles : List ℕ) (low : Q < 2 ^ 20) (
 
   lays : LaysTerms near Q ps angles (A .laid ++ B .laid)
   lays =
-      lays-terms near Q ps angles xs given (A .laid ++ B .laid) (B .cols) low (omega (arith, few, placed-length ps)) (λ k l. begins k)
-      (λ k l. placed-at angles k (omega (arith, l, placed-length ps))) term
-      (laying-then near Q given (singles .lays) (done .lays)) struck bound
+      lays-terms near Q ps angles (A .laid ++ B .laid) (B .cols) low term (laying-then near Q angles (singles .lays) (done .lays)) struck bound
 
-  -- a connected island whose terms lie inside it: never stuck (answer 9 is not given)
+  -- a connected island whose terms lie inside it: never stuck (answer 9 is not angles)
   pub steps-on : stepsFor near Q ps angles .stuck ≡ false
   steps-on = ap (λ (p : Piece). p .stuck) same ∙ done .on
 

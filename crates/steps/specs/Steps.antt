@@ -3,11 +3,9 @@ use mathlib.Core.Bool.{Bool, true, false}
 use mathlib.Core.List.{List}
 use Prim.Native.Nat.{ℕ, zero, suc}
 use lib.Dec.{eqb, ltb}
-use lib.ListN.{getD}
 use Rattle.sets.specs.Pick.{pick}
 use Rattle.sets.specs.Size.{sizeOf}
-use Rattle.meaning.specs.Limits.{mostQubits, mostParities}
-use Rattle.columns.specs.Tables.{tab}
+use Rattle.meaning.specs.Limits.{mostQubits}
 use Rattle.columns.specs.Emit.{emitAt}
 use Rattle.columns.specs.Pieces.{Piece, idle, halted, andThen, Memory, held}
 use Rattle.columns.specs.Turning.{layCnot}
@@ -47,18 +45,10 @@ baseStep (suc q) near angles Q sel xs =
     let more = andThen (baseStep q near angles (without Q r) (zerosOf r sel xs) xs) (λ ys. onesStep (countOf p) (baseStep q near angles) near angles Q r p ys) in
     pick (eqb (countOf sel) 0) (idle xs) (pick (ltb r mostQubits) more (halted xs))
 
--- x where it stands among the first `count`, 0 behind them
-abbrev pub keptAt : ℕ → ℕ → ℕ → ℕ
-keptAt count k x = pick (ltb k count) x 0
-
--- a list on 256 places, 0 behind it
-unfoldable pub placed : List ℕ → List ℕ
-placed xs = tab mostParities (λ k. getD xs k 0)
-
 -- "Terms are columns over the island's qubits": columns of one qubit first, then the base step
 unfoldable pub stepsFor : List ℕ → ℕ → List ℕ → List ℕ → Piece
 stepsFor near Q ps angles =
-    andThen (strikeOff (placed angles) (placed ps)) (λ xs. baseStep (sizeOf Q) near (placed angles) Q (liveOf xs) xs)
+    andThen (strikeOff angles ps) (λ xs. baseStep (sizeOf Q) near angles Q (liveOf xs) xs)
 
 -- the code's answer and memory, as the memory behind a piece
 abbrev pub ended : List ℕ → List ℕ → Laid → Memory

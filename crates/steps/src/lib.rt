@@ -1,10 +1,12 @@
 // The steps of document 000, Figure 1: from an island's terms to CNOTs and rotations.
 use columns::striking;
+use columns::turning;
 use meaning::job::Job;
 ghost use mathlib.Core.Path.{_≡_};
 ghost use lib.ListN.{take};
 ghost use Rattle.columns.specs.Emit.{emit};
-ghost use Rattle.steps.specs.Steps.{keptAt, placed, stepsFor, answerOf};
+ghost use Rattle.columns.specs.Pieces.{wrote};
+ghost use Rattle.steps.specs.Steps.{stepsFor, ended, answerOf};
 
 mod choice;
 mod selection;
@@ -17,21 +19,19 @@ pub enum Laid {
     Stuck(usize),
 }
 
-fn kept(x: u32, k: usize, count: usize) -> u32
-    ensures { λ r. ⌜ r ≡ keptAt count k x ⌝ }
+// Lays the columns: those of one qubit at once, the others by the base step.
+fn lay_columns(
+    near: [u32; Job::QUBITS],
+    set: u32,
+    cols: &mut [u32],
+    angles: &[u32],
+    out: &mut [u32],
+) -> Laid
+    ensures { λ r. ⌜ ended (now (cols .exit)) (now (out .exit)) r ≡ wrote (now (out .entry)) 0 (stepsFor near set (now (cols .entry)) (now (angles .entry))) ⌝ }
 {
-    if k < count { x } else { 0 }
-}
-
-// The first `count` of a list, 0 behind them.
-fn front(xs: [u32; Job::PARITIES], count: usize) -> [u32; Job::PARITIES]
-    ensures { λ r. ⌜ r ≡ placed (take count xs) ⌝ }
-{
-    let mut z = [0; Job::PARITIES];
-    for k in 0..Job::PARITIES {
-        z[k] = kept(xs[k], k, count);
-    }
-    z
+    let a = striking::strike(cols, angles, out, 0);
+    let live = selection::live(cols);
+    steps::base(near, cols, angles, out, a, live, set, sets::size(set))
 }
 
 // Lays the terms of the island `set`: the first `count` parities, ascending, with their angles.
@@ -46,9 +46,7 @@ pub fn lay_terms(
 ) -> Laid
     ensures { λ r. ⌜ (now (out .exit) ≡ emit (now (out .entry)) 0 (stepsFor near set (take count parity) (take count angle) .laid)) × (r ≡ answerOf (now (out .entry)) (stepsFor near set (take count parity) (take count angle))) ⌝ }
 {
-    let mut cols = front(parity, count);
-    let angles = front(angle, count);
-    let a = striking::strike(&mut cols, &angles, out, 0);
-    let live = selection::live(&cols);
-    steps::base(near, &mut cols, &angles, out, a, live, set, sets::size(set))
+    let n = turning::at_most(count, Job::PARITIES);
+    let mut cols = parity;
+    lay_columns(near, set, &mut cols[..n], &angle[..n], out)
 }

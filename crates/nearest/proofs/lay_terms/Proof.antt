@@ -1,74 +1,49 @@
--- `nearest::lay_terms` meets its contract. Assumes nothing.
-use lib.ListN.{take}
-use Rattle.nearest.specs.Nearest.{nearestFor}
-use Rattle.nearest.proofs.Entry.{entry-wrote, entry-out, entry-at}
+-- `nearest::lay_terms` meets its contract: the columns are the terms counted. Assumes nothing.
+use mathlib.Core.Path.{_∙_}
+use Rattle.columns.proofs.Parts.{part-long, part-is}
+use Rattle.nearest.proofs.Entry.{entry-out, entry-at, of-parts}
 use borrow.Author.Needs.{needs}
 use Rattle.nearest.proofs.lay_terms.Statement.{statement}
 use Rattle.nearest.proofs.lay_terms.Tie as tie
 
-front-requires : tie.Need-front-requires
-front-requires c κs = search needs
+at-most-requires : tie.Need-at-most-requires
+at-most-requires c κs = search needs
 
-front-requires-2 : tie.Need-front-requires-2
-front-requires-2 c κs = search needs
+array-borrow-prefix-cols : tie.Need-array-borrow-prefix-cols
+array-borrow-prefix-cols c = search needs
 
-from-all-requires : tie.Need-from-all-requires
-from-all-requires c κs = search needs
+slice-aggregate-lay-columns : tie.Need-slice-aggregate-lay-columns
+slice-aggregate-lay-columns c = part-long _ _ (search needs) _ (c .before .at-most .ensures)
 
-sure-requires : tie.Need-sure-requires
-sure-requires c κs = search needs
+array-share-prefix-angle : tie.Need-array-share-prefix-angle
+array-share-prefix-angle c = search needs
 
-slice-aggregate-strike : tie.Need-slice-aggregate-strike
-slice-aggregate-strike c = search needs
+slice-aggregate-lay-columns-2 : tie.Need-slice-aggregate-lay-columns-2
+slice-aggregate-lay-columns-2 c = part-long _ _ (search needs) _ (c .before .before .at-most .ensures)
 
-slice-aggregate-strike-2 : tie.Need-slice-aggregate-strike-2
-slice-aggregate-strike-2 c = search needs
-
-strike-requires : tie.Need-strike-requires
-strike-requires c κs = search needs
-
-slice-aggregate-all-rounds : tie.Need-slice-aggregate-all-rounds
-slice-aggregate-all-rounds c = search needs
-
-slice-aggregate-all-rounds-2 : tie.Need-slice-aggregate-all-rounds-2
-slice-aggregate-all-rounds-2 c = search needs
-
-slice-aggregate-all-rounds-3 : tie.Need-slice-aggregate-all-rounds-3
-slice-aggregate-all-rounds-3 c = search needs
-
-slice-aggregate-all-rounds-4 : tie.Need-slice-aggregate-all-rounds-4
-slice-aggregate-all-rounds-4 c = search needs
-
-all-rounds-requires : tie.Need-all-rounds-requires
-all-rounds-requires c κs = (c .before .before .before .before .before .before .before .before .before .before .before .before .before .before .before .from-all .ensures, c .before .before .before .before .before .before .before .before .before .before .before .before .sure .ensures)
+lay-columns-requires : tie.Need-lay-columns-requires
+lay-columns-requires c κs = search needs
 
 same-length : tie.Need-same-length
 same-length c = search needs
 
 returns : tie.Need-returns
 returns c =
-    let a = c .before .before .before .before .before .before .before .before .before .before .before .before .before .before .before .before .before .before .before .before .before .before .before .args in
-    let ps = take (a .count) (a .parity) in
-    let an = take (a .count) (a .angle) in
-    let e = entry-wrote (a .near) (a .set) ps an (a .out .now) (c .before .before .before .before .before .before .before .before .before .before .before .before .before .before .before .before .before .before .before .before .before .front .ensures) (c .before .before .before .before .before .before .before .before .before .before .before .before .before .before .before .before .before .before .before .before .front2 .ensures) (c .before .before .before .before .before .before .before .before .before .before .before .before .strike .ensures) (c .before .before .before .all-rounds .ensures) in
-    let p = nearestFor (a .near) (a .set) ps an in
-    (entry-out (a .near) (a .set) ps an (a .out .now) _ _ _ p e, entry-at (a .near) (a .set) ps an (a .out .now) _ _ _ p e)
+    let a = c .before .before .before .before .before .before .before .before .before .args in
+    let n = c .before .before .before .before .before .before .before .at-most in
+    let b = c .before .before .before .lay-columns in
+    let e = b .ensures ∙ of-parts (a .near) (a .set) (a .out .now) (part-is (a .count) (a .parity) (search needs) (n .result) (n .ensures)) (part-is (a .count) (a .t4) (search needs) (n .result) (n .ensures)) in
+    (entry-out (a .out .now) (b .last .1 .1 .0) (b .last .1 .1 .1 .1 .0) (b .result) _ e, entry-at (a .out .now) (b .last .1 .1 .0) (b .last .1 .1 .1 .1 .0) (b .result) _ e)
 
 pub lay-terms-spec : {M : Type 1} → statement M
 lay-terms-spec =
     tie.close
     (tie.spec
-    front-requires
-    front-requires-2
-    from-all-requires
-    sure-requires
-    slice-aggregate-strike
-    slice-aggregate-strike-2
-    strike-requires
-    slice-aggregate-all-rounds
-    slice-aggregate-all-rounds-2
-    slice-aggregate-all-rounds-3
-    slice-aggregate-all-rounds-4
-    all-rounds-requires
+    at-most-requires
+    array-borrow-prefix-cols
+    slice-aggregate-lay-columns
+    array-share-prefix-angle
+    slice-aggregate-lay-columns-2
+    lay-columns-requires
     same-length
     returns)

@@ -1,70 +1,49 @@
--- `steps::lay_terms` meets its contract. Assumes nothing.
-use Rattle.steps.specs.Steps.{stepsFor}
-use lib.ListN.{take}
-use Rattle.steps.proofs.Entry.{entry-wrote, entry-out, entry-answer}
+-- `steps::lay_terms` meets its contract: the columns are the terms counted. Assumes nothing.
+use mathlib.Core.Path.{_∙_}
+use Rattle.columns.proofs.Parts.{part-long, part-is}
+use Rattle.steps.proofs.Entry.{entry-out, entry-answer, of-parts}
 use borrow.Author.Needs.{needs}
 use Rattle.steps.proofs.lay_terms.Statement.{statement}
 use Rattle.steps.proofs.lay_terms.Tie as tie
 
-front-requires : tie.Need-front-requires
-front-requires c κs = search needs
+at-most-requires : tie.Need-at-most-requires
+at-most-requires c κs = search needs
 
-front-requires-2 : tie.Need-front-requires-2
-front-requires-2 c κs = search needs
+array-borrow-prefix-cols : tie.Need-array-borrow-prefix-cols
+array-borrow-prefix-cols c = search needs
 
-slice-aggregate-strike : tie.Need-slice-aggregate-strike
-slice-aggregate-strike c = search needs
+slice-aggregate-lay-columns : tie.Need-slice-aggregate-lay-columns
+slice-aggregate-lay-columns c = part-long _ _ (search needs) _ (c .before .at-most .ensures)
 
-slice-aggregate-strike-2 : tie.Need-slice-aggregate-strike-2
-slice-aggregate-strike-2 c = search needs
+array-share-prefix-angle : tie.Need-array-share-prefix-angle
+array-share-prefix-angle c = search needs
 
-strike-requires : tie.Need-strike-requires
-strike-requires c κs = search needs
+slice-aggregate-lay-columns-2 : tie.Need-slice-aggregate-lay-columns-2
+slice-aggregate-lay-columns-2 c = part-long _ _ (search needs) _ (c .before .before .at-most .ensures)
 
-slice-aggregate-live : tie.Need-slice-aggregate-live
-slice-aggregate-live c = search needs
-
-live-requires : tie.Need-live-requires
-live-requires c κs = search needs
-
-slice-aggregate-base : tie.Need-slice-aggregate-base
-slice-aggregate-base c = search needs
-
-slice-aggregate-base-2 : tie.Need-slice-aggregate-base-2
-slice-aggregate-base-2 c = search needs
-
-size-requires : tie.Need-size-requires
-size-requires c κs = search needs
-
-base-requires : tie.Need-base-requires
-base-requires c κs = search needs
+lay-columns-requires : tie.Need-lay-columns-requires
+lay-columns-requires c κs = search needs
 
 same-length : tie.Need-same-length
 same-length c = search needs
 
 returns : tie.Need-returns
 returns c =
-    let a = c .before .before .before .before .before .before .before .before .before .before .before .before .before .before .before .before .before .before .before .before .args in
-    let b = c .before .before .before .base in
-    let ps = take (a .count) (a .parity) in
-    let an = take (a .count) (a .angle) in
-    let e = entry-wrote (a .near) (a .set) ps an (a .out .now) (c .before .before .before .before .before .before .before .before .before .before .before .before .before .before .before .before .before .before .front .ensures) (c .before .before .before .before .before .before .before .before .before .before .before .before .before .before .before .before .before .front2 .ensures) (c .before .before .before .before .before .before .before .before .before .before .before .before .before .strike .ensures) (c .before .before .before .before .before .before .before .before .live .ensures) (c .before .before .before .before .size .ensures) (c .before .before .before .base .ensures) in
-    (entry-out (a .near) (a .set) ps an (a .out .now) (b .last .1 .0) (b .last .1 .1 .1 .0) (b .result) (stepsFor (a .near) (a .set) ps an) e, entry-answer (a .near) (a .set) ps an (a .out .now) (b .last .1 .0) (b .last .1 .1 .1 .0) (b .result) (stepsFor (a .near) (a .set) ps an) e)
+    let a = c .before .before .before .before .before .before .before .before .before .args in
+    let n = c .before .before .before .before .before .before .before .at-most in
+    let b = c .before .before .before .lay-columns in
+    let e = b .ensures ∙ of-parts (a .near) (a .set) (a .out .now) (part-is (a .count) (a .parity) (search needs) (n .result) (n .ensures)) (part-is (a .count) (a .t4) (search needs) (n .result) (n .ensures)) in
+    (entry-out (a .out .now) (b .last .1 .1 .0) (b .last .1 .1 .1 .1 .0) (b .result) _ e, entry-answer (a .out .now) (b .last .1 .1 .0) (b .last .1 .1 .1 .1 .0) (b .result) _ e)
 
 pub lay-terms-spec : {M : Type 1} → statement M
 lay-terms-spec =
     tie.close
     (tie.spec
-    front-requires
-    front-requires-2
-    slice-aggregate-strike
-    slice-aggregate-strike-2
-    strike-requires
-    slice-aggregate-live
-    live-requires
-    slice-aggregate-base
-    slice-aggregate-base-2
-    size-requires
-    base-requires
+    at-most-requires
+    array-borrow-prefix-cols
+    slice-aggregate-lay-columns
+    array-share-prefix-angle
+    slice-aggregate-lay-columns-2
+    lay-columns-requires
     same-length
     returns)
