@@ -20,30 +20,47 @@ use Rattle.columns.specs.declared.gather.Order.{Order}
 use Rattle.columns.specs.declared.gather.Moves.{Moves}
 use Rattle.columns.specs.declared.gather.Gathering.{Gathering}
 use Rattle.columns.specs.Order.{orderOf, orderIn}
-use Rattle.columns.specs.Gather.{flip, movesAt, leftAt, gatherFrom, gatherOf, controlOf, targetOf, movesIn, stepIn, cnotsIn, Plain}
+use Rattle.columns.specs.Gather.{flip, movesAt, leftAt, gatherFrom, gatherOf, controlOf, targetOf, movesIn, Stepped, cnotsIn, Plain}
 use Rattle.columns.proofs.OrderGrows.{order-few}
 use Rattle.columns.proofs.GatherWorks.{gather-step, gather-none, moves-few, gather-few}
 
 -- ---- one step
 
 module _ (to by : List ℕ) (len a u x : ℕ) where
-  pub step-out : has x u ≡ false → (record { to = to; by = by; len = len; x = x }) ≡ stepIn to by len a u x
-  unfolding stepIn movesAt leftAt
-  step-out h = rw h (ap (λ (n : ℕ). record { to = to; by = by; len = n; x = x }) (omega arith))
+  stepped-as : (L : List Gate) (ts bs : List ℕ) (r : Gathering) → movesAt a u x ≡ L → ts ≡ sets to len (map controlOf L) → bs ≡ sets by len (map targetOf L)
+      → r .len ≡ len + length L → r .x ≡ leftAt a u x → Stepped to by len a u x ts bs r
+  stepped-as L ts bs r e et eb el ex =
+      record { tos = et ∙ sym (ap (λ (l : List Gate). sets to len (map controlOf l)) e); bys = eb ∙ sym (ap (λ (l : List Gate). sets by len (map targetOf l)) e); count = omega (arith, el, ap length e); left = ex }
 
-  pub step-alone : has x u ≡ true → bitAnd a x ≡ 0 → a ≡ 0 → (record { to = to; by = by; len = len; x = x }) ≡ stepIn to by len a u x
-  unfolding stepIn movesAt leftAt
-  step-alone h i z = rw (h, eq-eqb (bitAnd a x) 0 i, eq-eqb a 0 z) (ap (λ (n : ℕ). record { to = to; by = by; len = n; x = x }) (omega arith))
+  pub step-out : has x u ≡ false → Stepped to by len a u x to by (record { len = len; x = x })
+  unfolding movesAt leftAt
+  step-out h = stepped-as [] _ _ _ (rw h refl) refl refl (omega arith) (rw h refl)
+
+  pub step-alone : has x u ≡ true → bitAnd a x ≡ 0 → a ≡ 0 → Stepped to by len a u x to by (record { len = len; x = x })
+  unfolding movesAt leftAt
+  step-alone h i z =
+      let is = eq-eqb (bitAnd a x) 0 i in
+      let zs = eq-eqb a 0 z in
+      stepped-as [] _ _ _ (rw (h, is, zs) refl) refl refl (omega arith) (rw (h, is, zs) refl)
 
   pub step-two : (p d e : ℕ) → has x u ≡ true → bitAnd a x ≡ 0 → a ≢ 0 → p ≡ lowestOf a → d ≡ onlyOf p → e ≡ onlyOf u
-      → (record { to = set (set to len p) (len + 1) u; by = set (set by len u) (len + 1) p; len = len + 2; x = bitXor (bitXor x d) e }) ≡ stepIn to by len a u x
-  unfolding stepIn movesAt leftAt
-  step-two p d e h i n ep ed ee = rw (h, eq-eqb (bitAnd a x) 0 i, ne-eqb a 0 n, ← ep, ed, ee, add-one)
+      → Stepped to by len a u x (set (set to len p) (len + 1) u) (set (set by len u) (len + 1) p) (record { len = len + 2; x = bitXor (bitXor x d) e })
+  unfolding movesAt leftAt
+  step-two p d e h i n ep ed ee =
+      let is = eq-eqb (bitAnd a x) 0 i in
+      let ns = ne-eqb a 0 n in
+      stepped-as (Cnot p u ∷ Cnot u p ∷ []) _ _ _ (rw (h, is, ns, ← ep) refl) (rw add-one refl) (rw add-one refl) refl (rw (h, is, ns, ← ep, ed, ee) refl)
 
   pub step-one : (p e : ℕ) → has x u ≡ true → bitAnd a x ≢ 0 → p ≡ lowestOf (bitAnd a x) → e ≡ onlyOf u
-      → (record { to = set to len u; by = set by len p; len = len + 1; x = bitXor x e }) ≡ stepIn to by len a u x
-  unfolding stepIn movesAt leftAt
-  step-one p e h n ep ee = rw (h, ne-eqb (bitAnd a x) 0 n, ← ep, ee)
+      → Stepped to by len a u x (set to len u) (set by len p) (record { len = len + 1; x = bitXor x e })
+  unfolding movesAt leftAt
+  step-one p e h n ep ee =
+      let ns = ne-eqb (bitAnd a x) 0 n in
+      stepped-as (Cnot u p ∷ []) _ _ _ (rw (h, ns, ← ep) refl) refl refl refl (rw (h, ns, ee) refl)
+
+-- the second of two moves has its place
+pub write-next : (l : List ℕ) (i v : ℕ) → i + 2 ≤ length l → i + 1 < length (set l i v)
+write-next l i v h = omega (arith, length-set l i v)
 
 -- ---- lists at the front of an array
 
@@ -88,6 +105,8 @@ pub record Gathered (near qs to by : List ℕ) (len k E x : ℕ) (all : List Gat
   pub room : len + 2 * k ≤ 38
   pub wide : length qs ≡ 20
   pub few : k < 20
+  pub long-to : length to ≡ 38
+  pub long-by : length by ≡ 38
   pub tos : sets to len (map controlOf (gatherFrom near qs k E x)) ≡ sets (replicate 38 0) 0 (map controlOf all)
   pub bys : sets by len (map targetOf (gatherFrom near qs k E x)) ≡ sets (replicate 38 0) 0 (map targetOf all)
   pub count : len + length (gatherFrom near qs k E x) ≡ length all
@@ -106,6 +125,8 @@ module _ (near : List ℕ) (Q v x : ℕ) where
         room = omega (arith, order-few near Q v);
         wide = length-sets (replicate 20 0) 0 (orderOf near Q v) ∙ length-replicate {A = ℕ} 20 0;
         few = omega (arith, order-few near Q v);
+        long-to = length-replicate {A = ℕ} 38 0;
+        long-by = length-replicate {A = ℕ} 38 0;
         tos = ap (λ (l : List Gate). sets (replicate 38 0) 0 (map controlOf l)) same;
         bys = ap (λ (l : List Gate). sets (replicate 38 0) 0 (map targetOf l)) same;
         count = ap (λ (l : List Gate). 0 + length l) same ∙ omega arith;
@@ -122,15 +143,16 @@ module _ (near : List ℕ) (Q v x : ℕ) where
   order-some o e = subst (λ (o : Order). 1 ≤ o .len) (sym e) (order-few near Q v .0)
 
 module _ (near qs to by : List ℕ) (len k E x : ℕ) (all : List Gate) (g : Gathered near qs to by len k E x all) where
-  pub gathered-next : (u d n : ℕ) (s : Gathering) → 0 < k → u ≡ getD qs k 0 → d ≡ onlyOf u → n ≡ getD near u 0
-      → s ≡ stepIn to by len (bitAnd n (bitXor E d)) u x → Gathered near qs (s .to) (s .by) (s .len) (k - 1) (bitXor E d) (s .x) all
-  unfolding stepIn
-  gathered-next u d n s p eu ed en es =
-      subst (λ (s : Gathering). Gathered near qs (s .to) (s .by) (s .len) (k - 1) (bitXor E d) (s .x) all) (sym es)
+  pub gathered-next : (u d n : ℕ) (ts bs : List ℕ) (r : Gathering) → 0 < k → u ≡ getD qs k 0 → d ≡ onlyOf u → n ≡ getD near u 0
+      → Stepped to by len (bitAnd n (bitXor E d)) u x ts bs r → Gathered near qs ts bs (r .len) (k - 1) (bitXor E d) (r .x) all
+  gathered-next u d n ts bs r p eu ed en s =
+      rw (s .tos, s .bys, s .count, s .left)
       (record {
         room = omega (arith, g .room, few2);
         wide = g .wide;
         few = omega (arith, g .few);
+        long-to = length-sets to len (map controlOf L) ∙ g .long-to;
+        long-by = length-sets by len (map targetOf L) ∙ g .long-by;
         tos = sym (part controlOf to) ∙ g .tos;
         bys = sym (part targetOf by) ∙ g .bys;
         count = omega (arith, g .count, ap length list, length-append L M);

@@ -116,14 +116,12 @@ movesIn gs = record {
   len = length gs;
 }
 
--- the moves that take u out are added to those that are there
-unfoldable pub stepIn : List ℕ → List ℕ → ℕ → ℕ → ℕ → ℕ → Gathering
-stepIn to by len a u x = record {
-  to = sets to len (map controlOf (movesAt a u x));
-  by = sets by len (map targetOf (movesAt a u x));
-  len = len + length (movesAt a u x);
-  x = leftAt a u x;
-}
+-- the moves that take u out are added to those that are there: ts and bs are the arrays afterwards
+pub record Stepped (to by : List ℕ) (len a u x : ℕ) (ts bs : List ℕ) (r : Gathering) : Type 0 where
+  pub tos : ts ≡ sets to len (map controlOf (movesAt a u x))
+  pub bys : bs ≡ sets by len (map targetOf (movesAt a u x))
+  pub count : r .len ≡ len + length (movesAt a u x)
+  pub left : r .x ≡ leftAt a u x
 
 -- n moves from place k on, as CNOTs
 unfoldable pub cnotsIn : List ℕ → List ℕ → ℕ → ℕ → List Gate

@@ -2,9 +2,9 @@
 use meaning::job::Job;
 ghost use mathlib.Core.Path.{_≡_};
 ghost use Prim.Native.Nat.{_+_, _≤_};
-ghost use lib.ListN.{getD};
+ghost use lib.ListN.{getD, length};
 ghost use Rattle.columns.specs.Order.{layerOf, orderOf, orderIn};
-ghost use Rattle.columns.specs.Gather.{gatherOf, movesIn, stepIn};
+ghost use Rattle.columns.specs.Gather.{gatherOf, movesIn, Stepped};
 
 // Two moves for each qubit of a set but one.
 pub const MOST: usize = 38;
@@ -22,10 +22,8 @@ pub struct Moves {
     pub len: usize,
 }
 
-// The moves so far, and what they left of the set.
+// How many moves there are so far, and what they left of the set.
 struct Gathering {
-    to: [usize; MOST],
-    by: [usize; MOST],
     len: usize,
     x: u32,
 }
@@ -63,48 +61,36 @@ pub fn by_distance(near: [u32; Job::QUBITS], set: u32, v: usize) -> Order
     Order { qubit, len }
 }
 
-// u is taken out of x by a neighbour; `beside` has the neighbours of u that come earlier.
-fn step(
-    to: [usize; MOST],
-    by: [usize; MOST],
-    len: usize,
-    beside: u32,
-    u: usize,
-    x: u32,
-) -> Gathering
-    requires { ⌜ len + 2 ≤ 38 ⌝ }
-    ensures { λ r. ⌜ r ≡ stepIn to by len beside u x ⌝ }
+// u is taken out of x by a neighbour; `beside` has the neighbours of u that come earlier. The moves
+// are stored behind the first `len`.
+fn step(to: &mut [usize], by: &mut [usize], len: usize, beside: u32, u: usize, x: u32) -> Gathering
+    requires { ⌜ (len + 2 ≤ length (now to)) × (len + 2 ≤ length (now by)) ⌝ }
+    ensures { λ r. ⌜ Stepped (now (to .entry)) (now (by .entry)) len beside u x (now (to .exit)) (now (by .exit)) r ⌝ }
 {
     if sets::holds(x, u) {
-        let mut t = to;
-        let mut b = by;
         let inside = beside & x;
         if inside == 0 {
             if beside == 0 {
-                return Gathering { to, by, len, x };
+                return Gathering { len, x };
             }
             let p = sets::lowest(beside);
-            t[len] = p;
-            b[len] = u;
-            t[len + 1] = u;
-            b[len + 1] = p;
+            to[len] = p;
+            by[len] = u;
+            to[len + 1] = u;
+            by[len + 1] = p;
             return Gathering {
-                to: t,
-                by: b,
                 len: len + 2,
                 x: x ^ sets::only(p) ^ sets::only(u),
             };
         }
-        t[len] = u;
-        b[len] = sets::lowest(inside);
+        to[len] = u;
+        by[len] = sets::lowest(inside);
         return Gathering {
-            to: t,
-            by: b,
             len: len + 1,
             x: x ^ sets::only(u),
         };
     }
-    Gathering { to, by, len, x }
+    Gathering { len, x }
 }
 
 fn neighbours(near: [u32; Job::QUBITS], u: usize) -> u32
@@ -128,9 +114,8 @@ pub fn gather(near: [u32; Job::QUBITS], set: u32, v: usize, x: u32) -> Moves
     while 0 < k {
         let u = qubit[k];
         earlier = earlier ^ sets::only(u);
-        let next = step(to, by, len, neighbours(near, u) & earlier, u, left);
-        to = next.to;
-        by = next.by;
+        let beside = neighbours(near, u) & earlier;
+        let next = step(&mut to, &mut by, len, beside, u, left);
         len = next.len;
         left = next.x;
         k -= 1;

@@ -35,6 +35,12 @@ only-requires c κs = search needs
 neighbours-requires : tie.Need-neighbours-requires Inv-loop μ-loop
 neighbours-requires c κs = search needs
 
+slice-aggregate-step : tie.Need-slice-aggregate-step Inv-loop μ-loop
+slice-aggregate-step c = search needs
+
+slice-aggregate-step-2 : tie.Need-slice-aggregate-step-2 Inv-loop μ-loop
+slice-aggregate-step-2 c = search needs
+
 step-requires : tie.Need-step-requires Inv-loop μ-loop
 step-requires c κs = search needs
 
@@ -45,7 +51,7 @@ loop-less : tie.Need-loop-less Inv-loop μ-loop
 loop-less c = search needs
 
 loop-again : tie.Need-loop-again Inv-loop μ-loop
-loop-again c = gathered-next _ _ _ _ _ _ _ _ _ (c .before .before .before .before .before .before .loop .inv) _ _ _ _ (search needs) refl (c .before .before .before .before .only .ensures) (c .before .before .before .neighbours .ensures) (c .before .before .step .ensures)
+loop-again c = gathered-next _ _ _ _ _ _ _ _ _ (c .before .before .before .before .before .before .before .before .loop .inv) _ _ _ _ _ _ (search needs) refl (c .before .before .before .before .before .before .only .ensures) (c .before .before .before .before .before .neighbours .ensures) (c .before .before .step .ensures)
 
 returns : tie.Need-returns Inv-loop μ-loop
 returns c = gathered-end _ _ _ _ _ _ _ _ _ (c .before .loop .inv) (search needs)
@@ -63,6 +69,8 @@ gather-spec =
     array-read-u
     only-requires
     neighbours-requires
+    slice-aggregate-step
+    slice-aggregate-step-2
     step-requires
     sub-k-2
     loop-less

@@ -1,6 +1,7 @@
 -- `columns::gather::step` meets its contract. Assumes nothing.
 use mathlib.Core.Path.{sym, _∙_}
-use Rattle.columns.proofs.GatherCode.{step-out, step-alone, step-two, step-one}
+use denote.Ref.{now}
+use Rattle.columns.proofs.GatherCode.{step-out, step-alone, step-two, step-one, write-next}
 use borrow.Author.Needs.{needs}
 use Rattle.columns.proofs.gather.step.Statement.{statement}
 use Rattle.columns.proofs.gather.step.Tie as tie
@@ -14,38 +15,38 @@ returns c = step-alone _ _ _ _ _ _ (sym (c .before .before .before .holds .ensur
 lowest-requires : tie.Need-lowest-requires
 lowest-requires c κs = search needs
 
-mul-t : tie.Need-mul-t
-mul-t c = search needs
+mul-to : tie.Need-mul-to
+mul-to c = search needs
 
-array-write-t : tie.Need-array-write-t
-array-write-t c = search needs
+slice-write-to : tie.Need-slice-write-to
+slice-write-to c = search needs
 
-mul-b : tie.Need-mul-b
-mul-b c = search needs
+mul-by : tie.Need-mul-by
+mul-by c = search needs
 
-array-write-b : tie.Need-array-write-b
-array-write-b c = search needs
+slice-write-by : tie.Need-slice-write-by
+slice-write-by c = search needs
 
-add-t : tie.Need-add-t
-add-t c = search needs
+add-to : tie.Need-add-to
+add-to c = search needs
 
-mul-t-2 : tie.Need-mul-t-2
-mul-t-2 c = search needs
+mul-to-2 : tie.Need-mul-to-2
+mul-to-2 c = search needs
 
-array-write-t-2 : tie.Need-array-write-t-2
-array-write-t-2 c = search needs
+slice-write-to-2 : tie.Need-slice-write-to-2
+slice-write-to-2 c = let a = c .before .before .before .before .before .before .before .args in write-next (now (a .to)) _ (c .lowest .result) (c .before .before .before .before .before .before .before .pre .0)
 
-add-b : tie.Need-add-b
-add-b c = search needs
+add-by : tie.Need-add-by
+add-by c = search needs
 
-mul-b-2 : tie.Need-mul-b-2
-mul-b-2 c = search needs
+mul-by-2 : tie.Need-mul-by-2
+mul-by-2 c = search needs
 
-array-write-b-2 : tie.Need-array-write-b-2
-array-write-b-2 c = search needs
+slice-write-by-2 : tie.Need-slice-write-by-2
+slice-write-by-2 c = let a = c .before .before .before .before .before .before .before .args in write-next (now (a .by)) _ (a .u) (c .before .before .before .before .before .before .before .pre .1)
 
-add-t14 : tie.Need-add-t14
-add-t14 c = search needs
+add-t12 : tie.Need-add-t12
+add-t12 c = search needs
 
 only-requires : tie.Need-only-requires
 only-requires c κs = search needs
@@ -53,29 +54,41 @@ only-requires c κs = search needs
 only-requires-2 : tie.Need-only-requires-2
 only-requires-2 c κs = search needs
 
+same-length : tie.Need-same-length
+same-length c = search needs
+
+same-length-2 : tie.Need-same-length-2
+same-length-2 c = search needs
+
 returns-2 : tie.Need-returns-2
 returns-2 c = step-two _ _ _ _ _ _ _ _ _ (sym (c .before .before .before .before .before .before .holds .ensures) ∙ c .before .before .before .before .before .if1 .taken) (c .before .before .before .before .if2 .taken) (c .before .before .before .if3 .left) (c .before .before .lowest .ensures) (c .before .only .ensures) (c .only2 .ensures)
 
-mul-t-3 : tie.Need-mul-t-3
-mul-t-3 c = search needs
+mul-to-3 : tie.Need-mul-to-3
+mul-to-3 c = search needs
 
-array-write-t-3 : tie.Need-array-write-t-3
-array-write-t-3 c = search needs
+slice-write-to-3 : tie.Need-slice-write-to-3
+slice-write-to-3 c = search needs
 
 lowest-requires-2 : tie.Need-lowest-requires-2
 lowest-requires-2 c κs = search needs
 
-mul-b-3 : tie.Need-mul-b-3
-mul-b-3 c = search needs
+mul-by-3 : tie.Need-mul-by-3
+mul-by-3 c = search needs
 
-array-write-b-3 : tie.Need-array-write-b-3
-array-write-b-3 c = search needs
+slice-write-by-3 : tie.Need-slice-write-by-3
+slice-write-by-3 c = search needs
 
-add-t30 : tie.Need-add-t30
-add-t30 c = search needs
+add-t22 : tie.Need-add-t22
+add-t22 c = search needs
 
 only-requires-3 : tie.Need-only-requires-3
 only-requires-3 c κs = search needs
+
+same-length-3 : tie.Need-same-length-3
+same-length-3 c = search needs
+
+same-length-4 : tie.Need-same-length-4
+same-length-4 c = search needs
 
 returns-3 : tie.Need-returns-3
 returns-3 c = step-one _ _ _ _ _ _ _ _ (sym (c .before .before .before .before .holds .ensures) ∙ c .before .before .before .if1 .taken) (c .before .before .if2 .left) (c .before .lowest2 .ensures) (c .only3 .ensures)
@@ -90,26 +103,30 @@ step-spec =
     holds-requires
     returns
     lowest-requires
-    mul-t
-    array-write-t
-    mul-b
-    array-write-b
-    add-t
-    mul-t-2
-    array-write-t-2
-    add-b
-    mul-b-2
-    array-write-b-2
-    add-t14
+    mul-to
+    slice-write-to
+    mul-by
+    slice-write-by
+    add-to
+    mul-to-2
+    slice-write-to-2
+    add-by
+    mul-by-2
+    slice-write-by-2
+    add-t12
     only-requires
     only-requires-2
+    same-length
+    same-length-2
     returns-2
-    mul-t-3
-    array-write-t-3
+    mul-to-3
+    slice-write-to-3
     lowest-requires-2
-    mul-b-3
-    array-write-b-3
-    add-t30
+    mul-by-3
+    slice-write-by-3
+    add-t22
     only-requires-3
+    same-length-3
+    same-length-4
     returns-3
     returns-4)
