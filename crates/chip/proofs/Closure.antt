@@ -80,7 +80,8 @@ module _ (near : List ℕ) (Q : ℕ) where
   closure-chain zero S v f = f
   closure-chain (suc k) S v f = closure-chain k (grow near Q S) v (grow-chain S v f)
 
-  closure-still : (k S : ℕ) → grow near Q S ≡ S → closure near Q k S ≡ S
+  -- where a round adds nothing, no later one does
+  pub closure-still : (k S : ℕ) → grow near Q S ≡ S → closure near Q k S ≡ S
   unfolding closure
   closure-still zero S e = refl
   closure-still (suc k) S e = ap (closure near Q k) e ∙ closure-still k S e

@@ -3,7 +3,7 @@ use mathlib.Core.Path.{_≡_, refl, sym, ap, ap₂, _∙_, subst}
 use mathlib.Core.Logic.{_≢_, _⊎_, inl, inr}
 use mathlib.Core.Bool.{Bool, true, false}
 use mathlib.Core.List.{List}
-use Prim.Native.Nat.{ℕ, _+_, _*_, _/_, _%_, _^_, _≤_, _<_}
+use Prim.Native.Nat.{ℕ, zero, suc, _+_, _*_, _/_, _%_, _^_, _≤_, _<_}
 use native.Mathlib.Nat.{lt-of-lt-of-le}
 use native.Mathlib.Omega.{arith}
 use native.Mathlib.Decide.{ℕ-discrete}
@@ -110,6 +110,11 @@ pub after-round : (near : List ℕ) (k : ℕ) (table r : List Bool) → length n
 after-round near k table r len sh d =
     let s = shown-round near len (λ i. closure near everyQubit k (2 ^ i)) table sh r d in
     record { long = s .long; each = λ p h. s .each p h ∙ ap (λ (n : ℕ). has n (p % 20)) (closure-last near everyQubit k (2 ^ (p / 20))) }
+
+-- where a round changes nothing, no later one does
+pub after-still : (near : List ℕ) (d k : ℕ) (table : List Bool) → length near ≡ 20 → After near k table → Round near table table → After near (k + d) table
+after-still near zero k table len a s = subst (λ (n : ℕ). After near n table) (omega arith) a
+after-still near (suc d) k table len a s = subst (λ (n : ℕ). After near n table) (omega arith) (after-still near d (k + 1) table len (after-round near k table table len a s) s)
 
 has-bit : (x y i : ℕ) → has x i ≡ has y i → bit x i ≡ bit y i
 has-bit x y i e = go (has y i) refl

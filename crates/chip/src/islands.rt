@@ -1,6 +1,7 @@
 // The island of each qubit, found on a table of qubit pairs: at i * 20 + j whether i reaches j.
 use meaning::job::Job;
 ghost use mathlib.Core.Path.{_≡_};
+ghost use mathlib.Core.Bool.{true};
 ghost use Prim.Native.Nat.{_<_};
 ghost use Rattle.chip.specs.Islands.{islandsOf};
 ghost use Rattle.chip.specs.Pairs.{AtStart, leadsOf, Round, Row, Rows};
@@ -46,6 +47,18 @@ fn round(near: [u32; Job::QUBITS], table: [bool; PAIRS]) -> [bool; PAIRS]
     next
 }
 
+// The two say the same of every pair.
+fn same(a: [bool; PAIRS], b: [bool; PAIRS]) -> bool
+    ensures { λ r. ⌜ (r ≡ true → a ≡ b) ⌝ }
+{
+    for k in 0..PAIRS {
+        if a[k] != b[k] {
+            return false;
+        }
+    }
+    true
+}
+
 // What i reaches, as a set.
 fn row(table: [bool; PAIRS], i: usize) -> u32
     requires { ⌜ i < 20 ⌝ }
@@ -70,13 +83,17 @@ fn rows(table: [bool; PAIRS]) -> [u32; Job::QUBITS]
     all
 }
 
-// The island of each qubit: all that chains of couplers join to it.
+// The island of each qubit: all that chains of couplers join to it. Where a round changes nothing,
+// no later one does.
 pub fn islands(near: [u32; Job::QUBITS]) -> [u32; Job::QUBITS]
     ensures { λ r. ⌜ r ≡ islandsOf near ⌝ }
 {
     let mut table = start();
     for k in 0..Job::QUBITS {
         let next = round(near, table);
+        if same(next, table) {
+            return rows(table);
+        }
         table = next;
     }
     rows(table)

@@ -25,14 +25,18 @@ pub fn grown(near: [u32; Job::QUBITS], within: u32, set: u32) -> u32
     set | (beside(near, set) & within)
 }
 
-// What chains inside `set` join to its lowest member.
+// What chains inside `set` join to its lowest member. Where a round adds nothing, no later one does.
 fn reach(near: [u32; Job::QUBITS], set: u32) -> u32
     requires { ⌜ 0 < set ⌝ }
     ensures { λ r. ⌜ r ≡ reachOf near set ⌝ }
 {
     let mut reached = sets::only(sets::lowest(set));
     for k in 0..Job::QUBITS {
-        reached = grown(near, set, reached);
+        let next = grown(near, set, reached);
+        if next == reached {
+            return reached;
+        }
+        reached = next;
     }
     reached
 }

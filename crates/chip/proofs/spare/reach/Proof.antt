@@ -4,6 +4,7 @@ use Prim.Native.Nat.{_≤_, _+_, _-_}
 use Rattle.sets.specs.Size.{onlyOf}
 use Rattle.chip.specs.Graph.{closure}
 use Rattle.chip.specs.Spare.{reachOf}
+use Rattle.chip.proofs.Closure.{closure-still}
 use Rattle.chip.proofs.Rounds.{closure-round, closure-done}
 use Rattle.chip.proofs.Seeking.{seed-is}
 use borrow.Author.Needs.{needs}
@@ -32,6 +33,12 @@ loop-holds c =
 grown-requires : tie.Need-grown-requires Inv-loop μ-loop
 grown-requires c κs = search needs
 
+returns : tie.Need-returns Inv-loop μ-loop
+returns c =
+    let at = c .before .before .before .loop in
+    let a = c .before .before .before .before .before .before .args in
+    sym (closure-still (a .near) (a .set) (20 - at .k) (at .reached) (sym (c .before .grown .ensures) ∙ c .if1 .taken)) ∙ at .inv .1
+
 add-k : tie.Need-add-k Inv-loop μ-loop
 add-k c = search needs
 
@@ -40,12 +47,12 @@ loop-less c = search needs
 
 loop-again : tie.Need-loop-again Inv-loop μ-loop
 loop-again c =
-    let at = c .before .before .loop in
-    let a = c .before .before .before .before .before .args in
-    (search needs, ap (closure (a .near) (a .set) (20 - (at .k + 1))) (c .grown .ensures) ∙ sym (closure-round (a .near) (a .set) 20 (at .k) (at .reached) (search needs)) ∙ at .inv .1)
+    let at = c .before .before .before .loop in
+    let a = c .before .before .before .before .before .before .args in
+    (search needs, ap (closure (a .near) (a .set) (20 - (at .k + 1))) (c .before .grown .ensures) ∙ sym (closure-round (a .near) (a .set) 20 (at .k) (at .reached) (search needs)) ∙ at .inv .1)
 
-returns : tie.Need-returns Inv-loop μ-loop
-returns c =
+returns-2 : tie.Need-returns-2 Inv-loop μ-loop
+returns-2 c =
     let at = c .before .loop in
     let a = c .before .before .before .before .args in
     sym (closure-done (a .near) (a .set) 20 (at .k) (at .reached) (search needs)) ∙ at .inv .1
@@ -60,7 +67,8 @@ reach-spec =
     only-requires
     loop-holds
     grown-requires
+    returns
     add-k
     loop-less
     loop-again
-    returns)
+    returns-2)
