@@ -1,19 +1,23 @@
 -- One gate fed to the wires and to a meaning. Assumes nothing.
 use mathlib.Core.Path.{_≡_, refl, sym, ap, _∙_}
-use mathlib.Core.Bool.{false}
+use mathlib.Core.Bool.{Bool, true, false}
 use mathlib.Core.List.{List}
 use Prim.Native.Nat.{ℕ, _≤_, _<_}
 use lib.ListN.{getD}
 use borrow.Author.Tests.{lt-ltb, le-ltb}
+use native.Mathlib.Omega.{arith}
+use Rattle.sets.specs.Pick.{pick}
 use Rattle.sets.specs.Columns.{cnot}
 use Rattle.meaning.specs.declared.gate.Gate.{Gate}
 use Rattle.meaning.specs.declared.gate.Gate.the-variants.{Cnot, Rotation, Bad}
 use Rattle.meaning.specs.declared.wires.Wires.{Wires}
+use Rattle.meaning.specs.declared.sums.Sums.{Sums}
 use Rattle.meaning.specs.declared.told.Meaning.{Meaning}
-use Rattle.meaning.specs.declared.told.Fed.{Fed}
-use Rattle.meaning.specs.declared.sums.Added.{Added}
 use Rattle.meaning.specs.Circuit.{step}
-use Rattle.meaning.specs.Told.{fedWires, addedTo, fedMeaning}
+use Rattle.meaning.specs.Told.{Added, Fed, fedWires, addedTo, fedMeaning}
+use Rattle.meaning.proofs.Ranks.{full-same}
+
+-- ---- the wires
 
 module _ (w : Wires) (g : Gate) where
   pub wires-cnot : (c t : ℕ) (xs : List ℕ) → g ≡ Cnot c t → xs ≡ cnot c t (w .parity) → _≡_ {A = Wires} (record { parity = xs }) (fedWires w g)
@@ -28,6 +32,14 @@ module _ (w : Wires) (g : Gate) where
   unfolding fedWires step
   wires-bad e = ap (fedWires w) (sym e)
 
+-- ---- a meaning
+
+pub fed-cnot : (m : Meaning) (g : Gate) (c t : ℕ) (w : Wires) → g ≡ Cnot c t → w ≡ fedWires (m .wires) g
+    → _≡_ {A = Fed} (record { meaning = record { wires = w; sums = m .sums }; full = false }) (fedMeaning m g)
+unfolding fedMeaning
+fed-cnot m g c t w e h =
+    ap (λ (v : Wires). record { meaning = record { wires = v; sums = m .sums }; full = false }) (h ∙ ap (fedWires (m .wires)) e) ∙ ap (fedMeaning m) (sym e)
+
 pub fed-rotation : (m : Meaning) (g : Gate) (q a x : ℕ) (s : Added) → g ≡ Rotation q a → x ≡ getD (m .wires .parity) q 0 → s ≡ addedTo (m .sums) x a
     → _≡_ {A = Fed} (record { meaning = record { wires = m .wires; sums = s .sums }; full = s .full }) (fedMeaning m g)
 unfolding fedMeaning
@@ -38,3 +50,10 @@ fed-rotation m g q a x s e h d =
 pub fed-bad : (m : Meaning) (g : Gate) → g ≡ Bad → _≡_ {A = Fed} (record { meaning = m; full = false }) (fedMeaning m g)
 unfolding fedMeaning
 fed-bad m g e = ap (fedMeaning m) (sym e)
+
+-- the gate that finds the table full changes nothing
+pub fed-same : (m : Meaning) (g : Gate) → fedMeaning m g .full ≡ true → fedMeaning m g .meaning ≡ m
+unfolding fedMeaning
+fed-same m (Cnot c t) e = absurd (let z : _≡_ {A = ℕ} 0 1 = ap (λ (b : Bool). pick b 1 0) e in omega arith)
+fed-same m (Rotation q a) e = ap (λ (s : Sums). record { wires = m .wires; sums = s }) (full-same (m .sums) (getD (m .wires .parity) q 0) a e)
+fed-same m Bad e = refl

@@ -11,7 +11,7 @@ use borrow.Author.Tests.{lt-ltb, le-ltb, le-leb, lt-leb, eq-eqb, ne-eqb, ltb-tru
 use Rattle.sets.specs.Pick.{pick, both}
 use Rattle.sets.proofs.Finding.{first-before}
 use Rattle.meaning.specs.declared.sums.Sums.{Sums}
-use Rattle.meaning.specs.Told.{stopsAt, rankOf, heldAt, grownAt, newAt, addedAt, addedTo}
+use Rattle.meaning.specs.Told.{Added, stopsAt, rankOf, heldAt, grownAt, newAt, addedAt, addedTo}
 
 -- ---- the tests of the search
 
@@ -74,3 +74,25 @@ module _ (s : Sums) (p a k : ℕ) (few : s .len ≤ 256) (at : k ≡ rankOf (s .
   pub add-full : heldAt s k p ≡ false → 256 ≤ s .len → addedTo s p a ≡ record { sums = s; full = true }
   unfolding addedAt
   add-full e h = add-at ∙ simp (e, le-ltb (s .len) 256 h)
+
+-- a full table stays as it was
+pub full-same : (s : Sums) (p a : ℕ) → addedTo s p a .full ≡ true → addedTo s p a .sums ≡ s
+unfolding addedTo addedAt
+full-same s p a = go (ltb 256 (s .len)) (heldAt s k p) (ltb (s .len) 256)
+  where
+    k : ℕ
+    k = rankOf (s .parity) (s .len) p
+
+    chosen : Bool → Bool → Bool → Added
+    chosen o h b =
+        pick o (record { sums = s; full = true })
+        (pick h (record { sums = grownAt s k a; full = false }) (pick b (record { sums = newAt s k p a; full = false }) (record { sums = s; full = true })))
+
+    never : false ≡ true → ⊥
+    never e = let z : _≡_ {A = ℕ} 0 1 = ap (λ (t : Bool). pick t 1 0) e in omega arith
+
+    go : (o h b : Bool) → chosen o h b .full ≡ true → chosen o h b .sums ≡ s
+    go true h b e = refl
+    go false true b e = absurd (never e)
+    go false false true e = absurd (never e)
+    go false false false e = refl

@@ -17,10 +17,9 @@ use Rattle.sets.proofs.Finding.{first-true, first-before}
 use Rattle.meaning.specs.declared.gate.Gate.{Gate}
 use Rattle.meaning.specs.declared.gate.Gate.the-variants.{Cnot, Rotation, Bad}
 use Rattle.meaning.specs.declared.sums.Sums.{Sums}
-use Rattle.meaning.specs.declared.sums.Added.{Added}
 use Rattle.meaning.specs.Circuit.{run, start, gives, given, sumOf}
 use Rattle.meaning.specs.Borne.{insert, borne, sumsOf, Ascending, Among, padded}
-use Rattle.meaning.specs.Told.{stopsAt, rankOf, putIn, movedIn, heldAt, grownAt, newAt, addedTo, tableOf}
+use Rattle.meaning.specs.Told.{Added, stopsAt, rankOf, putIn, movedIn, heldAt, grownAt, newAt, addedTo, tableOf}
 use Rattle.meaning.proofs.Steps.{gives-borne, gives-other}
 use Rattle.meaning.proofs.Circuits.{given-snoc}
 use Rattle.meaning.proofs.Ranks.{rank-le, held-there, held-not-past, held-not-other, add-held, add-new, add-full}

@@ -7,7 +7,7 @@ use native.Mathlib.Nat.{not-suc-le-zero, le-of-suc-le-suc}
 use native.Mathlib.Omega.{arith}
 use native.Mathlib.Numerals.{add-one}
 use lib.Dec.{ltb}
-use lib.ListN.{length, getD, take, length-map}
+use lib.ListN.{length, getD, take, replicate, length-map}
 use lib.Seq.{take-suc, take-all}
 use borrow.Author.Tests.{lt-ltb, le-ltb, ltb-true, ltb-false}
 use Rattle.sets.specs.Pick.{pick}
@@ -15,20 +15,19 @@ use Rattle.sets.specs.Search.{firstOf}
 use Rattle.sets.proofs.Finding.{first-all, first-here, first-next, first-end}
 use Rattle.meaning.specs.declared.gate.Gate.{Gate}
 use Rattle.meaning.specs.declared.gate.Gate.the-variants.{Cnot, Rotation, Bad}
-use Rattle.meaning.specs.declared.sums.Added.{Added}
 use Rattle.meaning.specs.declared.sums.Sums.{Sums}
 use Rattle.meaning.specs.declared.wires.Wires.{Wires}
 use Rattle.meaning.specs.declared.told.Meaning.{Meaning}
-use Rattle.meaning.specs.declared.told.Fed.{Fed}
 use Rattle.meaning.specs.declared.told.Told.{Told}
 use Rattle.meaning.specs.Layout.{gateOf, gatesOf}
 use Rattle.meaning.specs.Circuit.{step, run, start, given, sumOf}
-use Rattle.meaning.specs.Borne.{bears, borne, borneFrom, sumsOf, overAt}
-use Rattle.meaning.specs.Told.{fedWires, fedMeaning, addedTo, wiresOf, tableOf, meaningOf, toldOf}
+use Rattle.meaning.specs.Borne.{bears, borne, borneFrom, sumsOf, padded, overAt}
+use Rattle.meaning.specs.Told.{Added, Fed, tabled, fedWires, fedMeaning, addedTo, wiresOf, tableOf, meaningOf, toldOf}
 use Rattle.meaning.proofs.Steps.{gives-cnot, gives-bad}
 use Rattle.meaning.proofs.Circuits.{run-snoc, given-snoc}
 use Rattle.meaning.proofs.Bearing.{borne-cnot, borne-bad}
-use Rattle.meaning.proofs.Tables.{added-fits, added-full}
+use Rattle.meaning.proofs.Feeding.{fed-same}
+use Rattle.meaning.proofs.Tables.{padded-length, added-fits, added-full}
 
 -- ---- one gate more
 
@@ -97,9 +96,27 @@ pub record Telling (gs : List Gate) (m : Meaning) (i : ℕ) : Type 0 where
   pub few : length (borne (take i gs)) ≤ 256
   pub still : firstOf (overTest gs) (length gs - i) i ≡ overAt gs
 
-pub telling-none : (gs : List Gate) (m : Meaning) → m ≡ meaningOf [] → Telling gs m 0
-unfolding overAt borne borneFrom
-telling-none gs m e = record { within = omega arith; told = e; few = omega arith; still = first-all (overTest gs) (length gs) }
+-- no gate: each wire bears its own qubit, and the table is empty
+pub telling-none : (gs : List Gate) (w : Wires) → w ≡ wiresOf [] → Telling gs (record { wires = w; sums = tabled (replicate 256 0) (replicate 256 0) 0 }) 0
+unfolding meaningOf tableOf overAt borne borneFrom padded
+telling-none gs w e = record {
+  within = omega arith;
+  told = ap (λ (v : Wires). record { wires = v; sums = tableOf [] }) e;
+  few = omega arith;
+  still = first-all (overTest gs) (length gs);
+}
+
+-- the two lists of the table fill their places
+module _ (gs : List Gate) (m : Meaning) (i : ℕ) (t : Telling gs m i) where
+  pub parity-long : length (m .sums .parity) ≡ 256
+  unfolding meaningOf tableOf
+  parity-long = ap (λ (k : Meaning). length (k .sums .parity)) (t .told) ∙ padded-length 256 (borne (take i gs)) (t .few)
+
+  pub sum-long : length (m .sums .sum) ≡ 256
+  unfolding meaningOf tableOf
+  sum-long =
+      ap (λ (k : Meaning). length (k .sums .sum)) (t .told)
+      ∙ padded-length 256 (sumsOf (take i gs) (borne (take i gs))) (omega (arith, t .few, length-map (borne (take i gs)) (λ r. sumOf r (take i gs))))
 
 take-more : (gs : List Gate) (i : ℕ) → i < length gs → take (i + 1) gs ≡ take i gs ++ getD gs i Bad ∷ []
 take-more gs i h = ap (λ (k : ℕ). take k gs) (add-one i) ∙ take-suc gs i Bad h
@@ -153,9 +170,11 @@ module _ (n : ℕ) (xs : List ℕ) (m : Meaning) (i : ℕ) (t : Telling (gatesOf
     pub tell-next : next .full ≡ false → Telling (gatesOf n xs) (next .meaning) (i + 1)
     tell-next f = telling-next (gatesOf n xs) m i t here next fed-here f
 
-    pub tell-full : next .full ≡ true → _≡_ {A = Told} (record { meaning = m; fed = i }) (toldOf n xs)
+    pub tell-full : next .full ≡ true → _≡_ {A = Told} (record { meaning = next .meaning; fed = i }) (toldOf n xs)
     unfolding toldOf
-    tell-full f = rw (telling-full (gatesOf n xs) m i t here next fed-here f) (ap (λ (k : Meaning). record { meaning = k; fed = i }) (t .told))
+    tell-full f =
+        let same : next .meaning ≡ m = ap (λ (k : Fed). k .meaning) e ∙ fed-same m g (sym (ap (λ (k : Fed). k .full) e) ∙ f) in
+        rw (telling-full (gatesOf n xs) m i t here next fed-here f) (ap (λ (k : Meaning). record { meaning = k; fed = i }) (same ∙ t .told))
 
   pub tell-all : length xs ≤ i → _≡_ {A = Told} (record { meaning = m; fed = length xs }) (toldOf n xs)
   unfolding toldOf

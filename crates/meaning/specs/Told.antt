@@ -10,9 +10,7 @@ use Rattle.meaning.specs.declared.gate.Gate.{Gate}
 use Rattle.meaning.specs.declared.gate.Gate.the-variants.{Cnot, Rotation, Bad}
 use Rattle.meaning.specs.declared.wires.Wires.{Wires}
 use Rattle.meaning.specs.declared.sums.Sums.{Sums}
-use Rattle.meaning.specs.declared.sums.Added.{Added}
 use Rattle.meaning.specs.declared.told.Meaning.{Meaning}
-use Rattle.meaning.specs.declared.told.Fed.{Fed}
 use Rattle.meaning.specs.declared.told.Told.{Told}
 use Rattle.meaning.specs.Limits.{mostParities}
 use Rattle.meaning.specs.Layout.{gatesOf}
@@ -25,6 +23,17 @@ unfoldable pub fedWires : Wires → Gate → Wires
 fedWires w g = record { parity = step g (w .parity) }
 
 -- ---- the table
+
+abbrev pub tabled : List ℕ → List ℕ → ℕ → Sums
+tabled parity sum len = record { parity = parity; sum = sum; len = len }
+
+-- the table after an angle came in; `full` where its parity would be the 257th, and then nothing has changed
+pub record Added : Type 0 where
+  pub sums : Sums
+  pub full : Bool
+
+abbrev pub added : List ℕ → List ℕ → ℕ → Bool → Added
+added parity sum len full = record { sums = tabled parity sum len; full = full }
 
 -- place i is past the first n, or holds p or more
 unfoldable pub stopsAt : List ℕ → ℕ → ℕ → ℕ → Bool
@@ -77,6 +86,11 @@ unfoldable pub termsIn : Sums → Sums
 termsIn s = keptTable (s .parity) (s .sum) (s .len)
 
 -- ---- both
+
+-- the meaning after a gate; `full` where the gate brings the 257th parity, and then nothing has changed
+pub record Fed : Type 0 where
+  pub meaning : Meaning
+  pub full : Bool
 
 -- a rotation goes to the table, any other gate to the wires; a full table leaves all as it was
 unfoldable pub fedMeaning : Meaning → Gate → Fed

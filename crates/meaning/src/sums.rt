@@ -1,9 +1,9 @@
 // The table of the parities that bear a rotation, ascending, each with the sum of its angles.
 use crate::job::Job;
 ghost use mathlib.Core.Path.{_≡_};
-ghost use mathlib.Core.List.{[]};
 ghost use Prim.Native.Nat.{_≤_, _<_};
-ghost use Rattle.meaning.specs.Told.{tableOf, rankOf, movedIn, addedTo, keptTable, termsIn};
+ghost use lib.ListN.{length};
+ghost use Rattle.meaning.specs.Told.{rankOf, movedIn, tabled, added, addedTo, keptTable, termsIn};
 
 pub struct Sums {
     pub parity: [u32; Job::PARITIES],
@@ -11,16 +11,17 @@ pub struct Sums {
     pub len: usize,
 }
 
-// The table after an angle came in; `full` where its parity would be the 257th, and then nothing
-// has changed.
-pub struct Added {
-    pub sums: Sums,
+// What adding an angle comes to: how many entries the table has then; `full` where the parity would
+// be the 257th, and then nothing has changed.
+pub struct Grown {
+    pub len: usize,
     pub full: bool,
 }
 
 // Where p stands, or is to stand, among the first n.
-fn rank(xs: [u32; Job::PARITIES], n: usize, p: u32) -> usize
-    ensures { λ r. ⌜ r ≡ rankOf xs n p ⌝ }
+fn rank(xs: &[u32], n: usize, p: u32) -> usize
+    requires { ⌜ length (now xs) ≡ 256 ⌝ }
+    ensures { λ r. ⌜ r ≡ rankOf (now (xs .entry)) n p ⌝ }
 {
     for i in 0..Job::PARITIES {
         if n <= i {
@@ -33,22 +34,47 @@ fn rank(xs: [u32; Job::PARITIES], n: usize, p: u32) -> usize
     Job::PARITIES
 }
 
-// v moved in at k among the first n.
-fn moved_in(xs: [u32; Job::PARITIES], k: usize, n: usize, v: u32) -> [u32; Job::PARITIES]
-    requires { ⌜ (k ≤ n) × (n < 256) ⌝ }
-    ensures { λ r. ⌜ r ≡ movedIn xs k n v ⌝ }
+// v moves in at k among the first n.
+fn moved_in(xs: &mut [u32], k: usize, n: usize, v: u32)
+    requires { ⌜ (k ≤ n) × (n < length (now xs)) ⌝ }
+    ensures { λ _. ⌜ now (xs .exit) ≡ movedIn (now (xs .entry)) k n v ⌝ }
 {
-    let mut ys = xs;
     let mut carry = v;
     let mut i = k;
     while i < n {
-        let held = ys[i];
-        ys[i] = carry;
+        let held = xs[i];
+        xs[i] = carry;
         carry = held;
         i += 1;
     }
-    ys[n] = carry;
-    ys
+    xs[n] = carry;
+}
+
+// The angle a goes to the sum of parity p. The table is lent and changes in place: to copy its 2 KB
+// for each rotation would cost more than all the rest.
+pub fn add(parity: &mut [u32], sum: &mut [u32], len: usize, p: u32, a: u32) -> Grown
+    requires { ⌜ (length (now parity) ≡ 256) × (length (now sum) ≡ 256) ⌝ }
+    ensures { λ r. ⌜ added (now (parity .exit)) (now (sum .exit)) (r .len) (r .full) ≡ addedTo (tabled (now (parity .entry)) (now (sum .entry)) len) p a ⌝ }
+{
+    if Job::PARITIES < len {
+        return Grown { len, full: true };
+    }
+    let k = rank(parity, len, p);
+    if k < len {
+        if parity[k] == p {
+            sum[k] = (sum[k] % 65536 + a % 65536) % 65536;
+            return Grown { len, full: false };
+        }
+    }
+    if len < Job::PARITIES {
+        moved_in(parity, k, len, p);
+        moved_in(sum, k, len, a % 65536);
+        return Grown {
+            len: len + 1,
+            full: false,
+        };
+    }
+    Grown { len, full: true }
 }
 
 // Those of the first n whose sum is not 0, at the front.
@@ -75,60 +101,6 @@ fn kept(parity: [u32; Job::PARITIES], sum: [u32; Job::PARITIES], n: usize) -> Su
 }
 
 impl Sums {
-    pub fn new() -> Self
-        ensures { λ r. ⌜ r ≡ tableOf [] ⌝ }
-    {
-        Sums {
-            parity: [0u32; 256],
-            sum: [0u32; 256],
-            len: 0,
-        }
-    }
-
-    // The angle a goes to the sum of parity p.
-    pub fn add(self, p: u32, a: u32) -> Added
-        ensures { λ r. ⌜ r ≡ addedTo self p a ⌝ }
-    {
-        let parity = self.parity;
-        let sum = self.sum;
-        let n = self.len;
-        if Job::PARITIES < n {
-            return Added {
-                sums: self,
-                full: true,
-            };
-        }
-        let k = rank(parity, n, p);
-        if k < n {
-            if parity[k] == p {
-                let mut next = sum;
-                next[k] = (sum[k] % 65536 + a % 65536) % 65536;
-                return Added {
-                    sums: Sums {
-                        parity,
-                        sum: next,
-                        len: n,
-                    },
-                    full: false,
-                };
-            }
-        }
-        if n < Job::PARITIES {
-            return Added {
-                sums: Sums {
-                    parity: moved_in(parity, k, n, p),
-                    sum: moved_in(sum, k, n, a % 65536),
-                    len: n + 1,
-                },
-                full: false,
-            };
-        }
-        Added {
-            sums: self,
-            full: true,
-        }
-    }
-
     // The terms: the entries whose sum is not 0.
     pub fn terms(self) -> Sums
         ensures { λ r. ⌜ r ≡ termsIn self ⌝ }

@@ -1,23 +1,16 @@
 // The meaning of a list of gates, told by feeding them one by one.
 use crate::gate;
 use crate::gate::Gate;
+use crate::sums;
 use crate::sums::Sums;
 use crate::wires::Wires;
 use crate::wires::borne_on;
 ghost use mathlib.Core.Path.{_≡_};
-ghost use mathlib.Core.List.{[]};
-ghost use Rattle.meaning.specs.Told.{meaningOf, fedMeaning, toldOf};
+ghost use Rattle.meaning.specs.Told.{toldOf};
 
 pub struct Meaning {
     pub wires: Wires,
     pub sums: Sums,
-}
-
-// The meaning after a gate; `full` where the gate brings the 257th parity, and then nothing has
-// changed.
-pub struct Fed {
-    pub meaning: Meaning,
-    pub full: bool,
 }
 
 // The meaning of the first `fed` gates: of all, or of those before the 257th parity.
@@ -26,65 +19,42 @@ pub struct Told {
     pub fed: usize,
 }
 
-impl Meaning {
-    fn new() -> Self
-        ensures { λ r. ⌜ r ≡ meaningOf [] ⌝ }
-    {
-        Meaning {
-            wires: Wires::new(),
-            sums: Sums::new(),
-        }
-    }
-
-    pub fn feed(self, g: Gate) -> Fed
-        ensures { λ r. ⌜ r ≡ fedMeaning self g ⌝ }
-    {
-        let w = self.wires;
-        let s = self.sums;
+// The wires and the lists of the table are locals of their own, so that a gate changes what it
+// touches and copies nothing else.
+pub fn tell(records: &[u32], n: usize) -> Told
+    ensures { λ r. ⌜ r ≡ toldOf n (now (records .entry)) ⌝ }
+{
+    let mut wires = Wires::new();
+    let mut parity = [0u32; 256];
+    let mut sum = [0u32; 256];
+    let mut len: usize = 0;
+    for i in 0..records.len() {
+        let g = gate::decode(records[i], n);
         match g {
             Gate::Cnot {
                 control: _,
                 target: _,
-            } => Fed {
-                meaning: Meaning {
-                    wires: w.feed(g),
-                    sums: s,
-                },
-                full: false,
-            },
+            } => {
+                wires = wires.feed(g);
+            }
             Gate::Rotation { qubit, angle } => {
-                let parity = w.parity;
-                let added = s.add(borne_on(parity, qubit), angle);
-                let next = added.sums;
-                Fed {
-                    meaning: Meaning {
-                        wires: w,
-                        sums: next,
-                    },
-                    full: added.full,
+                let on = wires.parity;
+                let p = borne_on(on, qubit);
+                let grown = sums::add(&mut parity, &mut sum, len, p, angle);
+                len = grown.len;
+                if grown.full {
+                    let sums = Sums { parity, sum, len };
+                    let meaning = Meaning { wires, sums };
+                    return Told { meaning, fed: i };
                 }
             }
-            Gate::Bad => Fed {
-                meaning: self,
-                full: false,
-            },
+            Gate::Bad => {}
         }
     }
-}
-
-pub fn tell(records: &[u32], n: usize) -> Told
-    ensures { λ r. ⌜ r ≡ toldOf n (now (records .entry)) ⌝ }
-{
-    let mut m = Meaning::new();
-    for i in 0..records.len() {
-        let next = m.feed(gate::decode(records[i], n));
-        if next.full {
-            return Told { meaning: m, fed: i };
-        }
-        m = next.meaning;
-    }
+    let sums = Sums { parity, sum, len };
+    let meaning = Meaning { wires, sums };
     Told {
-        meaning: m,
+        meaning,
         fed: records.len(),
     }
 }

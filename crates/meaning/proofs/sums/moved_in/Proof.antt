@@ -10,26 +10,26 @@ use Rattle.meaning.proofs.sums.moved_in.Statement.{statement}
 use Rattle.meaning.proofs.sums.moved_in.Tie as tie
 
 abbrev Inv-loop : tie.InvT-loop
-Inv-loop k n v ys₀ carry₀ i₀ ys carry i =
-    (k ≤ i) × (i ≤ n) × (length ys ≡ 256) × (putIn i carry ys ≡ putIn k v ys₀) × (drop i ys ≡ drop i ys₀)
+Inv-loop xs₀ k n v carry₀ i₀ xs carry i =
+    (k ≤ i) × (i ≤ n) × (length xs ≡ length xs₀) × (putIn i carry xs ≡ putIn k v xs₀) × (drop i xs ≡ drop i xs₀)
 
 abbrev μ-loop : tie.MeasureT-loop
-μ-loop k n v ys₀ carry₀ i₀ ys carry i = n - i
+μ-loop xs₀ k n v carry₀ i₀ xs carry i = n - i
 
 loop-holds : tie.Need-loop-holds Inv-loop μ-loop
-loop-holds c = (search needs, search needs, omega (arith, c .good .0), refl, refl)
+loop-holds c = (search needs, search needs, refl, refl, refl)
 
 mul-held : tie.Need-mul-held Inv-loop μ-loop
 mul-held c = search needs
 
-array-read-held : tie.Need-array-read-held Inv-loop μ-loop
-array-read-held c = search needs
+slice-read-held : tie.Need-slice-read-held Inv-loop μ-loop
+slice-read-held c = search needs
 
-mul-ys : tie.Need-mul-ys Inv-loop μ-loop
-mul-ys c = search needs
+mul-xs : tie.Need-mul-xs Inv-loop μ-loop
+mul-xs c = search needs
 
-array-write-ys : tie.Need-array-write-ys Inv-loop μ-loop
-array-write-ys c = search needs
+slice-write-xs : tie.Need-slice-write-xs Inv-loop μ-loop
+slice-write-xs c = search needs
 
 add-i : tie.Need-add-i Inv-loop μ-loop
 add-i c = search needs
@@ -39,26 +39,29 @@ loop-less c = search needs
 
 loop-again : tie.Need-loop-again Inv-loop μ-loop
 loop-again c =
-    let at = c .before .loop in (
+    let at = c .before .before .loop in (
       search needs,
       search needs,
       simp length-set (at .inv .2),
-      put-step (at .i) (at .carry) (at .ys) (search needs) ∙ at .inv .3,
-      drop-step (at .i) (at .carry) (at .ys) _ (at .inv .4),
+      put-step (at .i) (at .carry) (at .xs) (search needs) ∙ at .inv .3,
+      drop-step (at .i) (at .carry) (at .xs) _ (at .inv .4),
     )
 
-mul-ys-2 : tie.Need-mul-ys-2 Inv-loop μ-loop
-mul-ys-2 c = search needs
+mul-xs-2 : tie.Need-mul-xs-2 Inv-loop μ-loop
+mul-xs-2 c = search needs
 
-array-write-ys-2 : tie.Need-array-write-ys-2 Inv-loop μ-loop
-array-write-ys-2 c = search needs
+slice-write-xs-2 : tie.Need-slice-write-xs-2 Inv-loop μ-loop
+slice-write-xs-2 c = search needs
+
+same-length : tie.Need-same-length Inv-loop μ-loop
+same-length c = search needs
 
 returns : tie.Need-returns Inv-loop μ-loop
 returns c =
     let at = c .before .loop in
     let n = c .before .before .args .n in
     let e : at .i ≡ n = omega arith in
-    put-end _ n _ (at .carry) _ (at .ys) (search needs) (rw e at (at .inv .3)) (rw e at (at .inv .4))
+    put-end _ n _ (at .carry) _ (at .xs) (search needs) (rw e at (at .inv .3)) (rw e at (at .inv .4))
 
 pub moved-in-spec : {M : Type 1} → statement M
 moved-in-spec =
@@ -68,12 +71,13 @@ moved-in-spec =
     μ-loop
     loop-holds
     mul-held
-    array-read-held
-    mul-ys
-    array-write-ys
+    slice-read-held
+    mul-xs
+    slice-write-xs
     add-i
     loop-less
     loop-again
-    mul-ys-2
-    array-write-ys-2
+    mul-xs-2
+    slice-write-xs-2
+    same-length
     returns)

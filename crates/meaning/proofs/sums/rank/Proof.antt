@@ -11,10 +11,10 @@ use Rattle.meaning.proofs.sums.rank.Statement.{statement}
 use Rattle.meaning.proofs.sums.rank.Tie as tie
 
 abbrev Inv-loop : tie.InvT-loop
-Inv-loop n p xs i₀ i = (i ≤ 256) × (firstOf (stopsAt xs n p) (256 - i) i ≡ rankOf xs n p)
+Inv-loop xs n p i₀ i = (i ≤ 256) × (firstOf (stopsAt xs n p) (256 - i) i ≡ rankOf xs n p)
 
 abbrev μ-loop : tie.MeasureT-loop
-μ-loop n p xs i₀ i = 256 - i
+μ-loop xs n p i₀ i = 256 - i
 
 loop-holds : tie.Need-loop-holds Inv-loop μ-loop
 unfolding rankOf
@@ -28,13 +28,13 @@ returns c =
 mul-if2 : tie.Need-mul-if2 Inv-loop μ-loop
 mul-if2 c = search needs
 
-array-read-if2 : tie.Need-array-read-if2 Inv-loop μ-loop
-array-read-if2 c = search needs
+shared-slice-read-if2 : tie.Need-shared-slice-read-if2 Inv-loop μ-loop
+shared-slice-read-if2 c = search needs
 
 returns-2 : tie.Need-returns-2 Inv-loop μ-loop
 returns-2 c =
-    let at = c .before .before .before .loop in
-    sym (first-here _ 256 (at .i) (search needs) (stop-found _ _ _ _ (c .before .if1 .left) (c .if2 .taken))) ∙ at .inv .1
+    let at = c .before .before .before .before .loop in
+    sym (first-here _ 256 (at .i) (search needs) (stop-found _ _ _ _ (c .before .before .if1 .left) (c .if2 .taken))) ∙ at .inv .1
 
 add-i : tie.Need-add-i Inv-loop μ-loop
 add-i c = search needs
@@ -44,8 +44,8 @@ loop-less c = search needs
 
 loop-again : tie.Need-loop-again Inv-loop μ-loop
 loop-again c =
-    let at = c .before .before .before .loop in
-    (search needs, sym (first-next _ 256 (at .i) (search needs) (stop-not _ _ _ _ (c .before .if1 .left) (c .if2 .left))) ∙ at .inv .1)
+    let at = c .before .before .before .before .loop in
+    (search needs, sym (first-next _ 256 (at .i) (search needs) (stop-not _ _ _ _ (c .before .before .if1 .left) (c .if2 .left))) ∙ at .inv .1)
 
 returns-3 : tie.Need-returns-3 Inv-loop μ-loop
 returns-3 c =
@@ -62,7 +62,7 @@ rank-spec =
     loop-holds
     returns
     mul-if2
-    array-read-if2
+    shared-slice-read-if2
     returns-2
     add-i
     loop-less

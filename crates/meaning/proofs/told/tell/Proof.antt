@@ -1,17 +1,22 @@
 -- `meaning::told::tell` meets its contract: the gates before the loop's place are told, and none of them brings the 257th parity. Assumes nothing.
-use Prim.Native.Nat.{_-_}
+use mathlib.Core.Path.{refl, sym}
+use mathlib.Core.Logic.{⊎-elim}
+use Prim.Native.Nat.{_-_, _<_}
 use lib.ListN.{length}
+use Rattle.meaning.specs.declared.told.Meaning.{Meaning}
 use Rattle.meaning.specs.Layout.{gatesOf}
-use Rattle.meaning.proofs.Telling.{Telling, telling-none, tell-next, tell-full, tell-all}
+use Rattle.meaning.specs.Told.{tabled}
+use Rattle.meaning.proofs.Feeding.{fed-cnot, fed-rotation, fed-bad}
+use Rattle.meaning.proofs.Telling.{Telling, telling-none, parity-long, sum-long, tell-next, tell-full, tell-all}
 use borrow.Author.Needs.{needs}
 use Rattle.meaning.proofs.told.tell.Statement.{statement}
 use Rattle.meaning.proofs.told.tell.Tie as tie
 
 abbrev Inv-loop : tie.InvT-loop
-Inv-loop records n m₀ i₀ i-end m i = Telling (gatesOf n records) m i
+Inv-loop records n wires₀ parity₀ sum₀ len₀ i₀ i-end wires parity sum len i = Telling (gatesOf n records) (record { wires = wires; sums = tabled parity sum len }) i
 
 abbrev μ-loop : tie.MeasureT-loop
-μ-loop records n m₀ i₀ i-end m i = length records - i
+μ-loop records n wires₀ parity₀ sum₀ len₀ i₀ i-end wires parity sum len i = length records - i
 
 new-requires : tie.Need-new-requires Inv-loop μ-loop
 new-requires c κs = search needs
@@ -28,13 +33,36 @@ shared-slice-read-decode c = search needs
 decode-requires : tie.Need-decode-requires Inv-loop μ-loop
 decode-requires c κs = search needs
 
+enum-told : tie.Need-enum-told Inv-loop μ-loop
+enum-told c = search needs
+
 feed-requires : tie.Need-feed-requires Inv-loop μ-loop
 feed-requires c κs = search needs
 
+enum-known-g : tie.Need-enum-known-g Inv-loop μ-loop
+enum-known-g c = search needs
+
+borne-on-requires : tie.Need-borne-on-requires Inv-loop μ-loop
+borne-on-requires c κs = search needs
+
+slice-aggregate-add : tie.Need-slice-aggregate-add Inv-loop μ-loop
+slice-aggregate-add c = sym (parity-long _ _ _ (c .before .before .before .before .before .before .before .before .before .loop .inv))
+
+slice-aggregate-add-2 : tie.Need-slice-aggregate-add-2 Inv-loop μ-loop
+slice-aggregate-add-2 c = sym (sum-long _ _ _ (c .before .before .before .before .before .before .before .before .before .before .loop .inv))
+
+add-requires : tie.Need-add-requires Inv-loop μ-loop
+add-requires c κs = (parity-long _ _ _ (c .before .before .before .before .before .before .before .before .before .before .loop .inv), sum-long _ _ _ (c .before .before .before .before .before .before .before .before .before .before .loop .inv))
+
 returns : tie.Need-returns Inv-loop μ-loop
 returns c =
-    let at = c .before .before .before .before .before .loop in
-    tell-full _ _ (at .m) (at .i) (at .inv) (search needs) _ (c .before .before .decode .ensures) (c .before .feed .result) (c .before .feed .ensures) (c .if1 .taken)
+    let at = c .before .before .before .before .before .before .before .before .before .before .before .before .before .before .loop in
+    let m : Meaning = record { wires = at .wires; sums = tabled (at .parity) (at .sum) (at .len) } in
+    tell-full _ _ m (at .i) (at .inv) (search needs) _ (c .before .before .before .before .before .before .before .before .before .before .before .decode .ensures) _
+    (fed-rotation m _ _ _ _ _ (c .before .before .before .before .before .before .before .before .before .g .given .1) (c .before .before .before .before .before .before .borne-on .ensures) (c .before .before .before .add .ensures)) (c .if1 .taken)
+
+enum-told-2 : tie.Need-enum-told-2 Inv-loop μ-loop
+enum-told-2 c = search needs
 
 add-i : tie.Need-add-i Inv-loop μ-loop
 add-i c = search needs
@@ -44,13 +72,20 @@ loop-less c = search needs
 
 loop-again : tie.Need-loop-again Inv-loop μ-loop
 loop-again c =
-    let at = c .before .before .before .before .before .before .loop in
-    tell-next _ (c .before .before .before .before .before .before .before .before .before .args .records .now) (at .m) (at .i) (at .inv) (search needs) _ (c .before .before .before .decode .ensures) (c .before .before .feed .result) (c .before .before .feed .ensures) (c .before .if1 .left)
+    let at = c .before .before .before .before .loop in
+    let m : Meaning = record { wires = at .wires; sums = tabled (at .parity) (at .sum) (at .len) } in
+    let xs = c .before .before .before .before .before .before .before .args .records .now in
+    let here : at .i < length xs = search needs in
+    let d = c .before .decode .ensures in
+    ⊎-elim
+    (λ w. rw (w .3, w .4, w .5, w .6) (tell-next _ xs m (at .i) (at .inv) here _ d _ (fed-cnot m _ _ _ _ (w .1 .given .1) (w .2 .ensures)) refl))
+    (⊎-elim
+    (λ w. rw (w .11, w .12, w .13, w .14) (tell-next _ xs m (at .i) (at .inv) here _ d _ (fed-rotation m _ _ _ _ _ (w .1 .given .1) (w .4 .ensures) (w .7 .ensures)) (w .10 .left)))
+    (λ w. rw (w .2, w .3, w .4, w .5) (tell-next _ xs m (at .i) (at .inv) here _ d _ (fed-bad m _ (w .1 .given .1)) refl)))
+    (c .match .came)
 
 returns-2 : tie.Need-returns-2 Inv-loop μ-loop
-returns-2 c =
-    let at = c .before .loop in
-    tell-all _ _ (at .m) (at .i) (at .inv) (search needs)
+returns-2 c = tell-all _ _ _ (c .before .loop .i) (c .before .loop .inv) (search needs)
 
 pub tell-spec : {M : Type 1} → statement M
 tell-spec =
@@ -63,8 +98,15 @@ tell-spec =
     mul-decode
     shared-slice-read-decode
     decode-requires
+    enum-told
     feed-requires
+    enum-known-g
+    borne-on-requires
+    slice-aggregate-add
+    slice-aggregate-add-2
+    add-requires
     returns
+    enum-told-2
     add-i
     loop-less
     loop-again
