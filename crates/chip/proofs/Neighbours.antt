@@ -18,13 +18,13 @@ use Rattle.sets.specs.Search.{firstOf}
 use Rattle.sets.proofs.Bits.{bit-of-zero, bit-pow-same}
 use Rattle.sets.proofs.Members.{in-or, or-left, or-right, in-pow}
 use Rattle.sets.proofs.Finding.{first-before}
-use Rattle.meaning.specs.Layout.{packed, kindIn, aIn, bIn, couplerOf, isWrong}
-use Rattle.meaning.specs.Same.{Listed}
-use Rattle.meaning.specs.Verdicts.{judgedCouplers, wrongAt, firstFailing}
-use Rattle.meaning.specs.declared.coupler.Coupler.{Coupler}
-use Rattle.meaning.specs.declared.coupler.Coupler.the-variants.{Ends, Wrong}
-use Rattle.meaning.specs.declared.verdict.Verdict.the-variants.{Accepted, ManyCouplers, WrongCoupler}
-use Rattle.meaning.proofs.Records.{kind-packed, a-packed, b-packed}
+use Rattle.gates.specs.Layout.{packed, kindIn, aIn, bIn, couplerOf, isWrong}
+use Rattle.gates.specs.Listed.{Listed}
+use Rattle.verdicts.specs.Verdicts.{judgedCouplers, wrongAt, firstFailing}
+use Rattle.gates.specs.declared.coupler.Coupler.{Coupler}
+use Rattle.gates.specs.declared.coupler.Coupler.the-variants.{Ends, Wrong}
+use Rattle.verdicts.specs.declared.verdict.Verdict.the-variants.{Accepted, ManyCouplers, WrongCoupler}
+use Rattle.gates.proofs.Records.{kind-packed, a-packed, b-packed}
 use Rattle.chip.specs.Graph.{Near, Symm}
 use Rattle.chip.specs.Couplers.{linkOf, addOf, addAll, nearOf, Chip}
 use Rattle.chip.proofs.Tests.{never}

@@ -9,7 +9,7 @@ use Rattle.sets.specs.Pick.{both, either}
 use Rattle.sets.specs.Bit.{has}
 use Rattle.sets.specs.Size.{lowestOf}
 use Rattle.sets.specs.Search.{firstOf, someOf}
-use Rattle.meaning.specs.Limits.{mostQubits}
+use Rattle.gates.specs.Limits.{mostQubits}
 use Rattle.chip.specs.Graph.{closure}
 
 -- what chains inside S join to its lowest member: 20 rounds reach all there is

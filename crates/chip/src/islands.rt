@@ -1,5 +1,5 @@
 // The island of each qubit, found on a table of qubit pairs: at i * 20 + j whether i reaches j.
-use meaning::job::Job;
+use gates::job::Job;
 ghost use mathlib.Core.Path.{_≡_};
 ghost use Prim.Native.Nat.{_<_};
 ghost use Rattle.chip.specs.Islands.{islandsOf};

@@ -1,5 +1,5 @@
 // Connected sets, the qubits that can be spared from them, and neighbours in them.
-use meaning::job::Job;
+use gates::job::Job;
 ghost use mathlib.Core.Path.{_≡_};
 ghost use Prim.Native.Nat.{_<_};
 ghost use Rattle.chip.specs.Graph.{nbrs, grow};

@@ -6,8 +6,8 @@ use lib.Dec.{eqb}
 use lib.ListN.{length, getD, set}
 use Rattle.sets.specs.Pick.{pick, both}
 use Rattle.sets.specs.Size.{singleOf, lowestOf}
-use Rattle.meaning.specs.Limits.{mostQubits}
-use Rattle.meaning.specs.declared.gate.Gate.the-variants.{Rotation}
+use Rattle.gates.specs.Limits.{mostQubits}
+use Rattle.gates.specs.declared.gate.Gate.the-variants.{Rotation}
 use Rattle.columns.specs.Pieces.{Piece, piece, idle, andThen}
 
 -- the column x is the qubit q alone

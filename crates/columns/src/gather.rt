@@ -1,5 +1,5 @@
 // Gathering a set at one of its qubits by moves along couplers, the farthest qubits first.
-use meaning::job::Job;
+use gates::job::Job;
 ghost use mathlib.Core.Path.{_≡_};
 ghost use Prim.Native.Nat.{_+_, _≤_};
 ghost use lib.ListN.{getD};

@@ -9,9 +9,9 @@ use lib.ListN.{length, take, drop, length-append}
 use lib.Seq.{take-append-seam, length-take-le}
 use borrow.Author.Tests.{eqb-true, eqb-false}
 use Rattle.sets.specs.Pick.{pick}
-use Rattle.meaning.specs.declared.job.Job.{Job}
-use Rattle.meaning.specs.declared.verdict.Verdict.{Verdict}
-use Rattle.meaning.specs.Verdicts.{numberOf}
+use Rattle.gates.specs.declared.job.Job.{Job}
+use Rattle.verdicts.specs.declared.verdict.Verdict.{Verdict}
+use Rattle.verdicts.specs.Verdicts.{numberOf}
 use Rattle.text.specs.Parsing.{Parsed, misfit, job, parsed}
 use Rattle.text.specs.Places.{onto}
 use Rattle.text.specs.Readings.{couplersIn, gatesIn, jobIn, judgedReading, readingOf, listAfter}

@@ -10,15 +10,15 @@ use lib.ListN.{length, getD, length-append, length-map}
 use borrow.Author.Tests.{ltb-true, ltb-false, le-ltb, le-leb, eqb-true, eqb-false}
 use Rattle.sets.specs.Pick.{pick}
 use Rattle.sets.proofs.Finding.{first-is}
-use Rattle.meaning.specs.declared.gate.Gate.{Gate}
-use Rattle.meaning.specs.declared.gate.Gate.the-variants.{Cnot, Rotation, Bad}
-use Rattle.meaning.specs.declared.verdict.Verdict.{Verdict}
-use Rattle.meaning.specs.declared.verdict.Verdict.the-variants.{Accepted, ManyCouplers, WrongCoupler, BadGate, Room}
-use Rattle.meaning.specs.Layout.{packed, gateOf, isBad, recordOf, Good, couplerOf, isWrong}
-use Rattle.meaning.specs.Same.{All}
-use Rattle.meaning.specs.Verdicts.{numberOf, firstFailing, judgedQubits, wrongAt, judgedCouplers, badAt, judgedGates}
-use Rattle.meaning.proofs.Records.{gate-record}
-use Rattle.meaning.proofs.Judged.{then-zero}
+use Rattle.gates.specs.declared.gate.Gate.{Gate}
+use Rattle.gates.specs.declared.gate.Gate.the-variants.{Cnot, Rotation, Bad}
+use Rattle.verdicts.specs.declared.verdict.Verdict.{Verdict}
+use Rattle.verdicts.specs.declared.verdict.Verdict.the-variants.{Accepted, ManyCouplers, WrongCoupler, BadGate, Room}
+use Rattle.gates.specs.Layout.{packed, gateOf, isBad, recordOf, Good, couplerOf, isWrong}
+use Rattle.gates.specs.All.{All}
+use Rattle.verdicts.specs.Verdicts.{numberOf, firstFailing, judgedQubits, wrongAt, judgedCouplers, badAt, judgedGates}
+use Rattle.gates.proofs.Records.{gate-record}
+use Rattle.verdicts.proofs.Judged.{then-zero}
 use Rattle.chip.specs.Graph.{Near}
 use Rattle.chip.specs.Couplers.{nearOf}
 use Rattle.chip.specs.Ordered.{orderedList}

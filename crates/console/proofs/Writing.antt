@@ -9,8 +9,8 @@ use lib.ListN.{length, take, length-take}
 use lib.Seq.{length-take-le}
 use borrow.Author.Tests.{eqb-true, eqb-false, ne-eqb, le-leb}
 use Rattle.sets.specs.Pick.{pick}
-use Rattle.meaning.specs.declared.verdict.Verdict.{Verdict}
-use Rattle.meaning.specs.Verdicts.{numberOf}
+use Rattle.verdicts.specs.declared.verdict.Verdict.{Verdict}
+use Rattle.verdicts.specs.Verdicts.{numberOf}
 use Rattle.chip.specs.declared.couplers.Ordered.{Ordered}
 use Rattle.chip.specs.Couplers.{nearOf}
 use Rattle.chip.specs.Ordered.{orderedOf, orderedList}

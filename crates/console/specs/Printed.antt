@@ -3,10 +3,10 @@ use mathlib.Core.List.{List, map}
 use Prim.Native.Nat.{ℕ}
 use lib.Dec.{eqb}
 use Rattle.sets.specs.Pick.{pick}
-use Rattle.meaning.specs.declared.verdict.Verdict.{Verdict}
-use Rattle.meaning.specs.Layout.{recordOf}
-use Rattle.meaning.specs.Tally.{cnotsOf, rotationsOf, depthOf}
-use Rattle.meaning.specs.Verdicts.{numberOf, placeOf}
+use Rattle.verdicts.specs.declared.verdict.Verdict.{Verdict}
+use Rattle.gates.specs.Layout.{recordOf}
+use Rattle.tallies.specs.Tally.{cnotsOf, rotationsOf, depthOf}
+use Rattle.verdicts.specs.Verdicts.{numberOf, placeOf}
 use Rattle.chip.specs.Couplers.{nearOf}
 use Rattle.chip.specs.Ordered.{orderedList}
 use Rattle.laying.specs.Verdict.{verdictOf, circuitOf}

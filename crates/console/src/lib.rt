@@ -3,13 +3,13 @@
 use chip::couplers;
 use laying::lay;
 use laying::lay::Answer;
-use meaning::verdict;
-use meaning::verdict::Verdict;
 use text::print;
 use text::read;
 use text::read::Reading;
 use text::write;
 use text::write::Writing;
+use verdicts::verdict;
+use verdicts::verdict::Verdict;
 ghost use mathlib.Core.Path.{_≡_};
 ghost use lib.ListN.{length};
 ghost use Rattle.text.specs.Writings.{lineLength, lineAfter};

@@ -2,7 +2,7 @@
 use crate::rows;
 use columns::gather;
 use columns::gather::Moves;
-use meaning::job::Job;
+use gates::job::Job;
 ghost use mathlib.Core.Path.{_≡_};
 ghost use Prim.Native.Nat.{_<_};
 ghost use lib.ListN.{length};

@@ -8,12 +8,12 @@ use lib.Dec.{eqb}
 use lib.ListN.{length, take, drop, replicate}
 use borrow.Author.Tests.{eq-eqb, ne-eqb}
 use Rattle.sets.specs.Pick.{pick}
-use Rattle.meaning.specs.declared.gate.Gate.{Gate}
-use Rattle.meaning.specs.declared.verdict.Verdict.{Verdict}
-use Rattle.meaning.specs.declared.verdict.Verdict.the-variants.{Accepted}
-use Rattle.meaning.specs.Layout.{gatesOf, recordOf}
-use Rattle.meaning.specs.Verdicts.{numberOf}
-use Rattle.meaning.proofs.Judged.{then-stop}
+use Rattle.gates.specs.declared.gate.Gate.{Gate}
+use Rattle.verdicts.specs.declared.verdict.Verdict.{Verdict}
+use Rattle.verdicts.specs.declared.verdict.Verdict.the-variants.{Accepted}
+use Rattle.gates.specs.Layout.{gatesOf, recordOf}
+use Rattle.verdicts.specs.Verdicts.{numberOf}
+use Rattle.verdicts.proofs.Judged.{then-stop}
 use Rattle.chip.specs.Couplers.{nearOf}
 use Rattle.columns.specs.Emit.{emit, emitAt}
 use Rattle.columns.proofs.Emitting.{emit-room}

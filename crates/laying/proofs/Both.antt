@@ -10,14 +10,16 @@ use lib.ListN.{length, getD}
 use lib.Count.{ones, ones-le}
 use Rattle.sets.specs.Pick.{pick}
 use Rattle.sets.specs.Bit.{Sub}
-use Rattle.meaning.specs.declared.gate.Gate.{Gate}
-use Rattle.meaning.specs.Layout.{gatesOf, Good}
-use Rattle.meaning.specs.Circuit.{run, start, finalOf}
+use Rattle.gates.specs.declared.gate.Gate.{Gate}
+use Rattle.gates.specs.Layout.{gatesOf, Good}
+use Rattle.circuit.specs.Circuit.{run, start, finalOf}
 use Rattle.meaning.specs.Borne.{Among, borne, terms, sumsOf}
-use Rattle.meaning.specs.Same.{All, OnCoupler, SameMeaning, Reachable}
-use Rattle.meaning.specs.Tally.{cnotsOf, rotationsOf}
+use Rattle.gates.specs.All.{All}
+use Rattle.gates.specs.Listed.{OnCoupler}
+use Rattle.meaning.specs.Same.{SameMeaning, Reachable}
+use Rattle.tallies.specs.Tally.{cnotsOf, rotationsOf}
 use Rattle.meaning.proofs.Lists.{among-at}
-use Rattle.meaning.proofs.Tallies.{product-le}
+use Rattle.tallies.proofs.Tallies.{product-le}
 use Rattle.meaning.proofs.Bearing.{terms-few}
 use Rattle.chip.specs.Couplers.{nearOf}
 use Rattle.chip.specs.Islands.{islandOf}

@@ -12,22 +12,25 @@ use borrow.Author.Tests.{lt-ltb, le-ltb, ltb-false, leb-true, leb-false}
 use Rattle.sets.specs.Pick.{pick, both}
 use Rattle.sets.specs.Search.{firstOf}
 use Rattle.sets.proofs.Finding.{first-le, first-before}
-use Rattle.meaning.specs.declared.gate.Gate.{Gate}
-use Rattle.meaning.specs.declared.sums.Sums.{Sums}
+use Rattle.gates.specs.declared.gate.Gate.{Gate}
+use Rattle.table.specs.declared.sums.Sums.{Sums}
 use Rattle.meaning.specs.declared.told.Told.{Told}
 use Rattle.meaning.specs.declared.told.Meaning.{Meaning}
-use Rattle.meaning.specs.declared.verdict.Verdict.{Verdict}
-use Rattle.meaning.specs.declared.verdict.Verdict.the-variants.{Accepted, Qubits, ManyGates, ManyParities, Unreachable, Room}
-use Rattle.meaning.specs.Layout.{gateOf, gatesOf}
-use Rattle.meaning.specs.Circuit.{run, start}
-use Rattle.meaning.specs.Borne.{borne, borneFrom, overAt, terms, sumsOf, padded}
-use Rattle.meaning.specs.Told.{toldOf, meaningOf, wiresOf, tableOf, termsIn, termTable}
-use Rattle.meaning.specs.Tally.{boundOf}
-use Rattle.meaning.specs.Verdicts.{numberOf, judgedQubits, judgedCouplers, judgedGates}
-use Rattle.meaning.specs.InOrder.{andThen}
-use Rattle.meaning.proofs.Judged.{then-on, then-stop}
+use Rattle.verdicts.specs.declared.verdict.Verdict.{Verdict}
+use Rattle.verdicts.specs.declared.verdict.Verdict.the-variants.{Accepted, Qubits, ManyGates, ManyParities, Unreachable, Room}
+use Rattle.gates.specs.Layout.{gateOf, gatesOf}
+use Rattle.circuit.specs.Circuit.{run, start}
+use Rattle.meaning.specs.Borne.{borne, borneFrom, overAt, terms, sumsOf}
+use Rattle.table.specs.Table.{padded, termsIn}
+use Rattle.meaning.specs.Told.{toldOf, meaningOf, tableOf, termTable}
+use Rattle.circuit.specs.State.{wiresOf}
+use Rattle.tallies.specs.Tally.{boundOf}
+use Rattle.verdicts.specs.Verdicts.{numberOf, judgedQubits, judgedCouplers, judgedGates}
+use Rattle.verdicts.specs.InOrder.{andThen}
+use Rattle.verdicts.proofs.Judged.{then-on, then-stop}
 use Rattle.meaning.proofs.Bearing.{terms-few}
-use Rattle.meaning.proofs.Keeping.{terms-table, take-padded}
+use Rattle.meaning.proofs.Terms.{terms-table}
+use Rattle.table.proofs.Keeping.{take-padded}
 use Rattle.chip.specs.Couplers.{nearOf}
 use Rattle.chip.specs.Islands.{islandsOf}
 use Rattle.laying.specs.Verdict.{judgedCount, judgedParities, strayAt, scattered, judgedReach, judgedRoom, judgedMeaning, judgedJob}

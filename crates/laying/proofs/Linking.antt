@@ -5,9 +5,9 @@ use Prim.Native.Nat.{ℕ, _≤_, _<_}
 use native.Mathlib.Omega.{arith}
 use Rattle.sets.specs.Bit.{In}
 use Rattle.sets.proofs.Members.{sub-eq}
-use Rattle.meaning.specs.declared.verdict.Verdict.the-variants.{Accepted}
-use Rattle.meaning.specs.Same.{Listed}
-use Rattle.meaning.specs.Verdicts.{judgedCouplers}
+use Rattle.verdicts.specs.declared.verdict.Verdict.the-variants.{Accepted}
+use Rattle.gates.specs.Listed.{Listed}
+use Rattle.verdicts.specs.Verdicts.{judgedCouplers}
 use Rattle.chip.specs.Graph.{Near, Chain, here, next}
 use Rattle.chip.specs.Couplers.{nearOf}
 use Rattle.chip.specs.Islands.{everyQubit, islandOf}

@@ -7,10 +7,10 @@ use native.Mathlib.Omega.{arith}
 use native.Mathlib.Numerals.{add-one}
 use lib.ListN.{length, getD, take, drop, replicate, length-map, length-replicate}
 use lib.Seq.{take-suc, take-all, take-append-seam}
-use Rattle.meaning.specs.declared.gate.Gate.{Gate}
-use Rattle.meaning.specs.Layout.{gateOf, gatesOf, recordOf, Good}
-use Rattle.meaning.specs.Same.{All}
-use Rattle.meaning.proofs.Alls.{records-gates}
+use Rattle.gates.specs.declared.gate.Gate.{Gate}
+use Rattle.gates.specs.Layout.{gateOf, gatesOf, recordOf, Good}
+use Rattle.gates.specs.All.{All}
+use Rattle.gates.proofs.Alls.{records-gates}
 use Rattle.columns.specs.Emit.{emit, emitAt}
 use Rattle.columns.proofs.Emitting.{emit-none, emit-at-none, emit-append, emit-at-append, emit-at-room, emit-room}
 use Rattle.laying.specs.Memory.{Fine}

@@ -9,13 +9,14 @@ use lib.ListN.{length, getD, take, length-map, length-take}
 use lib.Seq.{ext-getD, getD-take, length-take-le}
 use borrow.Author.Tests.{eqb-true, eqb-false}
 use Rattle.sets.specs.Pick.{pick}
-use Rattle.meaning.specs.declared.gate.Gate.{Gate}
-use Rattle.meaning.specs.declared.sums.Sums.{Sums}
-use Rattle.meaning.specs.Circuit.{run, start, sumOf}
-use Rattle.meaning.specs.Borne.{borne, kept, sumsOf, terms, padded}
-use Rattle.meaning.specs.Told.{keptTable, termsIn, tableOf}
+use Rattle.gates.specs.declared.gate.Gate.{Gate}
+use Rattle.table.specs.declared.sums.Sums.{Sums}
+use Rattle.circuit.specs.Circuit.{run, start, sumOf}
+use Rattle.meaning.specs.Borne.{borne, sumsOf, terms}
+use Rattle.table.specs.Table.{kept, padded, keptTable, termsIn}
+use Rattle.meaning.specs.Told.{tableOf}
 use Rattle.meaning.proofs.Tables.{map-at, padded-at, padded-length}
-use Rattle.meaning.proofs.Keeping.{kept-map, take-padded}
+use Rattle.table.proofs.Keeping.{kept-map, take-padded}
 use Rattle.meaning.proofs.Lists.{kept-drop, kept-take, kept-nil}
 use Rattle.columns.specs.Tables.{tab}
 use Rattle.columns.proofs.Tabling.{tab-at, tab-length}

@@ -9,14 +9,15 @@ use lib.Bits.{bitAnd}
 use lib.ListN.{getD}
 use Rattle.sets.specs.Bit.{In, Sub}
 use Rattle.sets.specs.Size.{lowestOf}
-use Rattle.meaning.specs.declared.gate.Gate.{Gate}
-use Rattle.meaning.specs.declared.verdict.Verdict.the-variants.{Accepted}
-use Rattle.meaning.specs.Layout.{gatesOf, Good}
-use Rattle.meaning.specs.Circuit.{run, start, finalOf, sumOf, Term}
+use Rattle.gates.specs.declared.gate.Gate.{Gate}
+use Rattle.verdicts.specs.declared.verdict.Verdict.the-variants.{Accepted}
+use Rattle.gates.specs.Layout.{gatesOf, Good}
+use Rattle.circuit.specs.Circuit.{run, start, finalOf, sumOf, Term}
 use Rattle.meaning.specs.Borne.{Among, terms, sumsOf}
-use Rattle.meaning.specs.Same.{All, Listed}
-use Rattle.meaning.specs.Verdicts.{judgedCouplers}
-use Rattle.meaning.proofs.Circuits.{final-is}
+use Rattle.gates.specs.All.{All}
+use Rattle.gates.specs.Listed.{Listed}
+use Rattle.verdicts.specs.Verdicts.{judgedCouplers}
+use Rattle.circuit.proofs.Circuits.{final-is}
 use Rattle.meaning.proofs.Bearing.{terms-up, term-among, among-term}
 use Rattle.meaning.proofs.Lists.{among-first, among-rest}
 use Rattle.chip.specs.Graph.{Near}

@@ -11,14 +11,15 @@ use lib.Dec.{eqb}
 use borrow.Author.Tests.{eq-eqb, ne-eqb}
 use Rattle.sets.specs.Pick.{pick}
 use Rattle.sets.specs.Size.{lowestOf}
-use Rattle.meaning.specs.declared.gate.Gate.{Gate}
-use Rattle.meaning.specs.declared.sums.Sums.{Sums}
+use Rattle.gates.specs.declared.gate.Gate.{Gate}
+use Rattle.table.specs.declared.sums.Sums.{Sums}
 use Rattle.meaning.specs.declared.told.Told.{Told}
 use Rattle.meaning.specs.declared.told.Meaning.{Meaning}
-use Rattle.meaning.specs.Layout.{gatesOf}
-use Rattle.meaning.specs.Circuit.{run, start}
+use Rattle.gates.specs.Layout.{gatesOf}
+use Rattle.circuit.specs.Circuit.{run, start}
 use Rattle.meaning.specs.Borne.{overAt}
-use Rattle.meaning.specs.Told.{toldOf, meaningOf, wiresOf, tableOf}
+use Rattle.meaning.specs.Told.{toldOf, meaningOf, tableOf}
+use Rattle.circuit.specs.State.{wiresOf}
 use Rattle.chip.specs.Couplers.{nearOf}
 use Rattle.chip.specs.Islands.{islandOf, islandsOf}
 use Rattle.chip.proofs.Isles.{getD-islands}

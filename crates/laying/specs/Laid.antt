@@ -6,8 +6,8 @@ use lib.Dec.{ltb}
 use lib.ListN.{length}
 use Rattle.sets.specs.Pick.{pick, both}
 use Rattle.sets.specs.Search.{someOf}
-use Rattle.meaning.specs.declared.gate.Gate.{Gate}
-use Rattle.meaning.specs.Circuit.{run, start}
+use Rattle.gates.specs.declared.gate.Gate.{Gate}
+use Rattle.circuit.specs.Circuit.{run, start}
 use Rattle.meaning.specs.Borne.{terms, sumsOf}
 use Rattle.chip.specs.Islands.{islandOf}
 use Rattle.columns.specs.Pieces.{Piece, piece}

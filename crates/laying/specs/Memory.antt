@@ -4,9 +4,9 @@ use mathlib.Core.List.{List, _++_}
 use Prim.Native.Nat.{ℕ, _≤_}
 use lib.ListN.{length, take}
 use Rattle.sets.specs.Pick.{pick}
-use Rattle.meaning.specs.declared.gate.Gate.{Gate}
-use Rattle.meaning.specs.Layout.{Good}
-use Rattle.meaning.specs.Same.{All}
+use Rattle.gates.specs.declared.gate.Gate.{Gate}
+use Rattle.gates.specs.Layout.{Good}
+use Rattle.gates.specs.All.{All}
 use Rattle.columns.specs.Emit.{emit, emitAt}
 use Rattle.columns.specs.Pieces.{Piece}
 use Rattle.steps.specs.Steps.{stepsFor}

@@ -7,7 +7,7 @@ use lib.Dec.{eqb}
 use lib.ListN.{getD}
 use Rattle.sets.specs.Pick.{pick}
 use Rattle.sets.specs.Bit.{has}
-use Rattle.meaning.specs.Limits.{mostQubits}
+use Rattle.gates.specs.Limits.{mostQubits}
 use Rattle.columns.specs.Tables.{tab}
 
 -- "A parity is inside an island when all its qubits are" (document 01, "Islands")

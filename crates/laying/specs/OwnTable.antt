@@ -5,9 +5,9 @@ use Prim.Native.Nat.{ℕ}
 use lib.Bits.{bitAnd}
 use lib.ListN.{getD}
 use Rattle.sets.specs.Pick.{pick}
-use Rattle.meaning.specs.Limits.{mostParities}
-use Rattle.meaning.specs.Told.{termsIn}
-use Rattle.meaning.specs.declared.sums.Sums.{Sums}
+use Rattle.gates.specs.Limits.{mostParities}
+use Rattle.table.specs.Table.{termsIn}
+use Rattle.table.specs.declared.sums.Sums.{Sums}
 use Rattle.columns.specs.Tables.{tab}
 use Rattle.laying.specs.Own.{insideOf, ownSets}
 use Rattle.laying.specs.declared.own.Own.{Own}

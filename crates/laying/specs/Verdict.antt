@@ -7,16 +7,16 @@ use lib.ListN.{length, getD, drop}
 use Rattle.sets.specs.Pick.{pick}
 use Rattle.sets.specs.Size.{lowestOf}
 use Rattle.sets.specs.Search.{firstOf, someOf}
-use Rattle.meaning.specs.declared.gate.Gate.{Gate}
-use Rattle.meaning.specs.declared.verdict.Verdict.{Verdict}
-use Rattle.meaning.specs.declared.verdict.Verdict.the-variants.{Accepted, ManyGates, ManyParities, Unreachable, Room, Stuck}
-use Rattle.meaning.specs.Limits.{mostGates}
-use Rattle.meaning.specs.Layout.{gatesOf, recordOf}
-use Rattle.meaning.specs.Circuit.{run, start}
+use Rattle.gates.specs.declared.gate.Gate.{Gate}
+use Rattle.verdicts.specs.declared.verdict.Verdict.{Verdict}
+use Rattle.verdicts.specs.declared.verdict.Verdict.the-variants.{Accepted, ManyGates, ManyParities, Unreachable, Room, Stuck}
+use Rattle.gates.specs.Limits.{mostGates}
+use Rattle.gates.specs.Layout.{gatesOf, recordOf}
+use Rattle.circuit.specs.Circuit.{run, start}
 use Rattle.meaning.specs.Borne.{overAt, terms}
-use Rattle.meaning.specs.Tally.{cnotsOf, rotationsOf, depthOf, boundOf}
-use Rattle.meaning.specs.Verdicts.{numberOf, placeOf, judgedQubits, judgedCouplers, judgedGates}
-use Rattle.meaning.specs.InOrder.{andThen}
+use Rattle.tallies.specs.Tally.{cnotsOf, rotationsOf, depthOf, boundOf}
+use Rattle.verdicts.specs.Verdicts.{numberOf, placeOf, judgedQubits, judgedCouplers, judgedGates}
+use Rattle.verdicts.specs.InOrder.{andThen}
 use Rattle.chip.specs.Couplers.{nearOf}
 use Rattle.chip.specs.Islands.{islandsOf}
 use Rattle.laying.specs.Own.{insideOf}

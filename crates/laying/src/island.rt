@@ -2,12 +2,12 @@
 use crate::own::Own;
 use columns::emit;
 use ending::closing;
-use meaning::gate;
-use meaning::job::Job;
+use gates::gate;
+use gates::job::Job;
 use steps::Laid;
 ghost use mathlib.Core.Path.{_≡_};
 ghost use lib.ListN.{length};
-ghost use Rattle.meaning.specs.Layout.{gatesOf};
+ghost use Rattle.gates.specs.Layout.{gatesOf};
 ghost use Rattle.columns.specs.Emit.{emit, emitAt};
 ghost use Rattle.laying.specs.Memory.{Fine, closedBy, stepsOwn, nearestOwn, pieceOwn, answerAt, memoryAt};
 

@@ -2,14 +2,14 @@
 use crate::reach;
 use chip::couplers;
 use chip::islands;
-use meaning::job::Job;
-use meaning::tally;
+use gates::job::Job;
 use meaning::told;
-use meaning::verdict;
-use meaning::verdict::Verdict;
+use tallies::tally;
+use verdicts::verdict;
+use verdicts::verdict::Verdict;
 ghost use mathlib.Core.Path.{_≡_};
 ghost use Prim.Native.Nat.{_≤_};
-ghost use Rattle.meaning.specs.Layout.{gatesOf};
+ghost use Rattle.gates.specs.Layout.{gatesOf};
 ghost use Rattle.laying.specs.Verdict.{judgedMeaning, judgedJob};
 
 // Tests 6, 7 and 8.

@@ -1,6 +1,6 @@
 // What belongs to one island: it is handed nothing else, so nothing else can change its gates.
-use meaning::job::Job;
-use meaning::sums::Sums;
+use gates::job::Job;
+use table::sums::Sums;
 ghost use mathlib.Core.Path.{_≡_};
 ghost use Rattle.laying.specs.Own.{mine, ownSets, insideOf};
 ghost use Rattle.laying.specs.OwnTable.{maskedSum, maskedSums, ownTable, ownOf};

@@ -1,6 +1,6 @@
 // Test 7: whether the meaning stays inside the islands.
 use crate::own;
-use meaning::job::Job;
+use gates::job::Job;
 ghost use mathlib.Core.Path.{_≡_};
 ghost use Prim.Native.Nat.{_≤_, _<_};
 ghost use lib.ListN.{getD, take};

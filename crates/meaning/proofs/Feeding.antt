@@ -1,32 +1,15 @@
--- One gate fed to the wires and to a meaning. Assumes nothing.
-use mathlib.Core.Path.{_≡_, refl, sym, ap, _∙_}
+-- One gate fed to a meaning. Assumes nothing.
+use mathlib.Core.Path.{_≡_, sym, ap, _∙_}
 use mathlib.Core.Bool.{false}
-use mathlib.Core.List.{List}
-use Prim.Native.Nat.{ℕ, _≤_, _<_}
+use Prim.Native.Nat.{ℕ}
 use lib.ListN.{getD}
-use borrow.Author.Tests.{lt-ltb, le-ltb}
-use Rattle.sets.specs.Columns.{cnot}
-use Rattle.meaning.specs.declared.gate.Gate.{Gate}
-use Rattle.meaning.specs.declared.gate.Gate.the-variants.{Cnot, Rotation, Bad}
-use Rattle.meaning.specs.declared.wires.Wires.{Wires}
+use Rattle.gates.specs.declared.gate.Gate.{Gate}
+use Rattle.gates.specs.declared.gate.Gate.the-variants.{Rotation, Bad}
 use Rattle.meaning.specs.declared.told.Meaning.{Meaning}
 use Rattle.meaning.specs.declared.told.Fed.{Fed}
-use Rattle.meaning.specs.declared.sums.Added.{Added}
-use Rattle.meaning.specs.Circuit.{step}
-use Rattle.meaning.specs.Told.{fedWires, addedTo, fedMeaning}
-
-module _ (w : Wires) (g : Gate) where
-  pub wires-cnot : (c t : ℕ) (xs : List ℕ) → g ≡ Cnot c t → xs ≡ cnot c t (w .parity) → _≡_ {A = Wires} (record { parity = xs }) (fedWires w g)
-  unfolding fedWires step
-  wires-cnot c t xs e h = ap (λ (ys : List ℕ). record { parity = ys }) h ∙ ap (fedWires w) (sym e)
-
-  pub wires-rotation : (q a : ℕ) → g ≡ Rotation q a → w ≡ fedWires w g
-  unfolding fedWires step
-  wires-rotation q a e = ap (fedWires w) (sym e)
-
-  pub wires-bad : g ≡ Bad → w ≡ fedWires w g
-  unfolding fedWires step
-  wires-bad e = ap (fedWires w) (sym e)
+use Rattle.table.specs.declared.sums.Added.{Added}
+use Rattle.table.specs.Table.{addedTo}
+use Rattle.meaning.specs.Told.{fedMeaning}
 
 pub fed-rotation : (m : Meaning) (g : Gate) (q a x : ℕ) (s : Added) → g ≡ Rotation q a → x ≡ getD (m .wires .parity) q 0 → s ≡ addedTo (m .sums) x a
     → _≡_ {A = Fed} (record { meaning = record { wires = m .wires; sums = s .sums }; full = s .full }) (fedMeaning m g)

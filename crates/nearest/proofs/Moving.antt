@@ -10,8 +10,8 @@ use borrow.Author.Tests.{ltb-false}
 use Rattle.sets.specs.Size.{singleOf}
 use Rattle.sets.specs.Search.{firstOf, someOf}
 use Rattle.sets.proofs.Finding.{first-here, first-end, first-before, some-yes, some-no}
-use Rattle.meaning.specs.declared.gate.Gate.{Gate}
-use Rattle.meaning.specs.declared.gate.Gate.the-variants.{Cnot}
+use Rattle.gates.specs.declared.gate.Gate.{Gate}
+use Rattle.gates.specs.declared.gate.Gate.the-variants.{Cnot}
 use Rattle.columns.specs.Pieces.{Piece, idle, andThen, Memory, held, wrote}
 use Rattle.columns.specs.Turning.{layCnot}
 use Rattle.columns.specs.Striking.{strikeOne, strikeRow, strikeFrom, strikeOff}

@@ -1,6 +1,6 @@
 // Nearest first, the second way: from an island's terms to CNOTs and rotations.
 use columns::striking;
-use meaning::job::Job;
+use gates::job::Job;
 ghost use mathlib.Core.Path.{_≡_};
 ghost use mathlib.Core.Bool.{false};
 ghost use lib.ListN.{take};

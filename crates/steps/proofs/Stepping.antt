@@ -9,7 +9,7 @@ use native.Mathlib.Decide.{ℕ-discrete}
 use lib.ListN.{getD}
 use lib.Count.{ones}
 use Rattle.sets.specs.Bit.{In}
-use Rattle.meaning.specs.Tally.{cnotsOf}
+use Rattle.tallies.specs.Tally.{cnotsOf}
 use Rattle.chip.specs.Graph.{Symm, Joined}
 use Rattle.chip.specs.Spare.{spareOf}
 use Rattle.chip.proofs.Spares.{spare-in, spare-joined}

@@ -6,7 +6,7 @@ use lib.Dec.{eqb, ltb}
 use lib.ListN.{getD}
 use Rattle.sets.specs.Pick.{pick}
 use Rattle.sets.specs.Size.{sizeOf}
-use Rattle.meaning.specs.Limits.{mostQubits, mostParities}
+use Rattle.gates.specs.Limits.{mostQubits, mostParities}
 use Rattle.columns.specs.Tables.{tab}
 use Rattle.columns.specs.Emit.{emitAt}
 use Rattle.columns.specs.Pieces.{Piece, idle, halted, andThen, Memory, held}

@@ -1,6 +1,6 @@
 // Selected columns: a set of places, handed down by value.
 use columns::turning;
-use meaning::job::Job;
+use gates::job::Job;
 ghost use mathlib.Core.Path.{_≡_};
 ghost use Rattle.steps.specs.Selection.{countOf, zeroAt, oneAt, zerosOf, onesOf, liveOf, rowOf};
 

@@ -10,13 +10,13 @@ use lib.ListN.{length, getD}
 use borrow.Author.Tests.{ltb-false, leb-true, eqb-true}
 use Rattle.sets.specs.Pick.{pick, both}
 use Rattle.sets.proofs.Finding.{first-before}
-use Rattle.meaning.specs.Limits.{mostQubits, mostCouplers}
-use Rattle.meaning.specs.Layout.{kindIn, aIn, bIn, gateOf, isBad, cnotOf, rotationOf, couplerOf, isWrong}
-use Rattle.meaning.specs.declared.gate.Gate.the-variants.{Bad}
-use Rattle.meaning.specs.declared.coupler.Coupler.{Coupler}
-use Rattle.meaning.specs.declared.coupler.Coupler.the-variants.{Wrong}
-use Rattle.meaning.specs.Verdicts.{numberOf, firstFailing, judgedQubits, wrongAt, judgedCouplers, badAt, judgedGates}
-use Rattle.meaning.specs.declared.verdict.Verdict.the-variants.{Accepted, Qubits, ManyCouplers, WrongCoupler, BadGate}
+use Rattle.gates.specs.Limits.{mostQubits, mostCouplers}
+use Rattle.gates.specs.Layout.{kindIn, aIn, bIn, gateOf, isBad, cnotOf, rotationOf, couplerOf, isWrong}
+use Rattle.gates.specs.declared.gate.Gate.the-variants.{Bad}
+use Rattle.gates.specs.declared.coupler.Coupler.{Coupler}
+use Rattle.gates.specs.declared.coupler.Coupler.the-variants.{Wrong}
+use Rattle.verdicts.specs.Verdicts.{numberOf, firstFailing, judgedQubits, wrongAt, judgedCouplers, badAt, judgedGates}
+use Rattle.verdicts.specs.declared.verdict.Verdict.the-variants.{Accepted, Qubits, ManyCouplers, WrongCoupler, BadGate}
 use Rattle.text.specs.Limits.{mostFirst}
 use Rattle.text.specs.Misfit.{Fit, AllFit}
 

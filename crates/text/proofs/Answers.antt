@@ -7,7 +7,7 @@ use Prim.Native.Nat.{ℕ, _+_, _≤_, _<_}
 use native.Mathlib.Omega.{arith}
 use lib.ListN.{length, length-append}
 use borrow.Author.Tests.{le-leb, lt-leb}
-use Rattle.meaning.specs.declared.verdict.Verdict.the-variants.{Room, Line, LongText}
+use Rattle.verdicts.specs.declared.verdict.Verdict.the-variants.{Room, Line, LongText}
 use Rattle.text.specs.Limits.{mostBytes}
 use Rattle.text.specs.Lines.{lineText, recordText, recordsText}
 use Rattle.text.specs.Parsing.{runOf, headOf, misfit, job, endOf, bodyOf, parsed}

@@ -2,7 +2,7 @@
 use mathlib.Core.Path.{_≡_, refl}
 use mathlib.Core.List.{List, [], _∷_, _++_}
 use Prim.Native.Nat.{ℕ}
-use Rattle.meaning.specs.Layout.{packed, kindIn, aIn, bIn}
+use Rattle.gates.specs.Layout.{packed, kindIn, aIn, bIn}
 use Rattle.text.specs.Lines.{digitsIn, digits, fieldsText, lineText, letter, recordText, recordsText, textOf, refusalText, countsText}
 use Rattle.text.specs.Parsing.{misfit, job, parsed, bodyOf, endOf, headOf, runOf, runIn, oneOf, orElse, lineOf, readNumber, numberIn, moreOf, digitOf, skipped}
 

@@ -10,7 +10,7 @@ use lib.ListN.{length, take}
 use lib.Seq.{take-all}
 use borrow.Author.Tests.{ne-eqb, ltb-true, ltb-false}
 use Rattle.sets.specs.Pick.{pick}
-use Rattle.meaning.specs.Layout.{kindIn, aIn, bIn}
+use Rattle.gates.specs.Layout.{kindIn, aIn, bIn}
 use Rattle.text.specs.Lines.{digits, fieldsText, lineText, letter, recordText, recordsText, textOf}
 use Rattle.text.specs.Misfit.{AllFit, JobText, front, NoLf}
 use Rattle.text.specs.Parsing.{oneOf, headOf}

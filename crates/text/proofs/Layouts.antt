@@ -2,7 +2,7 @@
 use mathlib.Core.Path.{_≡_, refl}
 use Prim.Native.Nat.{ℕ, _+_, _*_, _/_, _%_, _<_}
 use native.Mathlib.Omega.{arith}
-use Rattle.meaning.specs.Layout.{packed, kindIn, aIn, bIn}
+use Rattle.gates.specs.Layout.{packed, kindIn, aIn, bIn}
 
 pub packed-is : (k a b : ℕ) → k * 16777216 + a * 65536 + b ≡ packed k a b
 unfolding packed

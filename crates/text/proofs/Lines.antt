@@ -8,8 +8,8 @@ use Prim.Native.Nat.{ℕ, _+_, _*_, _≤_, _<_}
 use native.Mathlib.Omega.{arith}
 use lib.ListN.{length, length-append}
 use borrow.Author.Tests.{ne-eqb}
-use Rattle.meaning.specs.Layout.{packed, kindIn, aIn, bIn}
-use Rattle.meaning.proofs.Records.{kind-packed, a-packed, b-packed, packed-back}
+use Rattle.gates.specs.Layout.{packed, kindIn, aIn, bIn}
+use Rattle.gates.proofs.Records.{kind-packed, a-packed, b-packed, packed-back}
 use Rattle.text.specs.Limits.{mostFirst, mostSecond}
 use Rattle.text.specs.Lines.{digits, fieldsText, lineText, letter, recordText}
 use Rattle.text.specs.Misfit.{Fit}

@@ -8,11 +8,11 @@ use lib.Dec.{leb, eqb}
 use lib.ListN.{length, take}
 use lib.Seq.{take-append-seam}
 use Rattle.sets.specs.Pick.{pick, both}
-use Rattle.meaning.specs.declared.job.Job.{Job}
-use Rattle.meaning.specs.declared.verdict.Verdict.{Verdict}
-use Rattle.meaning.specs.declared.verdict.Verdict.the-variants.{Accepted, Room, Line, LongText}
-use Rattle.meaning.specs.Verdicts.{numberOf}
-use Rattle.meaning.specs.InOrder.{andThen}
+use Rattle.gates.specs.declared.job.Job.{Job}
+use Rattle.verdicts.specs.declared.verdict.Verdict.{Verdict}
+use Rattle.verdicts.specs.declared.verdict.Verdict.the-variants.{Accepted, Room, Line, LongText}
+use Rattle.verdicts.specs.Verdicts.{numberOf}
+use Rattle.verdicts.specs.InOrder.{andThen}
 use Rattle.text.specs.Limits.{mostBytes}
 use Rattle.text.specs.Lines.{textOf}
 use Rattle.text.specs.Misfit.{JobText, NoLf, Misfit}

@@ -8,10 +8,10 @@ use lib.Dec.{eqb}
 use lib.ListN.{length}
 use borrow.Author.Tests.{eqb-true}
 use Rattle.sets.specs.Pick.{pick}
-use Rattle.meaning.specs.declared.verdict.Verdict.{Verdict}
-use Rattle.meaning.specs.declared.verdict.Verdict.the-variants.{Accepted, Qubits, ManyCouplers, WrongCoupler, ManyGates, BadGate, ManyParities, Unreachable, Room, Stuck, Line, LongText}
-use Rattle.meaning.specs.Verdicts.{numberOf}
-use Rattle.meaning.proofs.Judged.{zero-accepted}
+use Rattle.verdicts.specs.declared.verdict.Verdict.{Verdict}
+use Rattle.verdicts.specs.declared.verdict.Verdict.the-variants.{Accepted, Qubits, ManyCouplers, WrongCoupler, ManyGates, BadGate, ManyParities, Unreachable, Room, Stuck, Line, LongText}
+use Rattle.verdicts.specs.Verdicts.{numberOf}
+use Rattle.verdicts.proofs.Judged.{zero-accepted}
 use Rattle.text.specs.Lines.{textOf}
 use Rattle.text.specs.Parsing.{parsed}
 use Rattle.text.specs.Readings.{readVerdict, readJob, jobIn, judgedReading, readingOf}

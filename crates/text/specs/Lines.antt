@@ -3,7 +3,7 @@ use Prim.Native.Nat.{ℕ, zero, suc, _+_, _/_, _%_}
 use mathlib.Core.List.{List, [], _∷_, _++_}
 use lib.Dec.{ltb}
 use Rattle.sets.specs.Pick.{pick}
-use Rattle.meaning.specs.Layout.{kindIn, aIn, bIn}
+use Rattle.gates.specs.Layout.{kindIn, aIn, bIn}
 
 -- the decimal digits of v, at most f of them
 unfoldable pub digitsIn : ℕ → ℕ → List ℕ

@@ -6,7 +6,7 @@ use mathlib.Core.List.{List, [], _∷_}
 use Prim.Native.Nat.{ℕ, zero, suc, _≤_, _<_}
 use lib.Dec.{eqb}
 use Rattle.sets.specs.Pick.{pick}
-use Rattle.meaning.specs.Layout.{kindIn}
+use Rattle.gates.specs.Layout.{kindIn}
 use Rattle.text.specs.Limits.{mostFirst}
 use Rattle.text.specs.Lines.{textOf}
 

@@ -6,7 +6,7 @@ use mathlib.Core.Option.{Option, none, some}
 use lib.ListN.{length, getD, drop}
 use lib.Dec.{eqb, leb, ltb}
 use Rattle.sets.specs.Pick.{pick}
-use Rattle.meaning.specs.Layout.{packed}
+use Rattle.gates.specs.Layout.{packed}
 use Rattle.text.specs.Limits.{mostFirst, mostSecond}
 use Rattle.text.specs.Lines.{letter}
 

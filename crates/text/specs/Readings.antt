@@ -4,11 +4,11 @@ use mathlib.Core.List.{List, []}
 use lib.ListN.{length}
 use lib.Dec.{leb, eqb}
 use Rattle.sets.specs.Pick.{pick, both}
-use Rattle.meaning.specs.declared.job.Job.{Job}
-use Rattle.meaning.specs.declared.verdict.Verdict.{Verdict}
-use Rattle.meaning.specs.declared.verdict.Verdict.the-variants.{Accepted, Room, Line, LongText}
-use Rattle.meaning.specs.Verdicts.{numberOf}
-use Rattle.meaning.specs.InOrder.{andThen}
+use Rattle.gates.specs.declared.job.Job.{Job}
+use Rattle.verdicts.specs.declared.verdict.Verdict.{Verdict}
+use Rattle.verdicts.specs.declared.verdict.Verdict.the-variants.{Accepted, Room, Line, LongText}
+use Rattle.verdicts.specs.Verdicts.{numberOf}
+use Rattle.verdicts.specs.InOrder.{andThen}
 use Rattle.text.specs.Limits.{mostBytes}
 use Rattle.text.specs.Parsing.{Parsed, misfit, job, parsed}
 use Rattle.text.specs.Places.{onto}

@@ -2,8 +2,8 @@
 use crate::line;
 use crate::run;
 use crate::spot::Spot;
-use meaning::job::Job;
-use meaning::verdict::Verdict;
+use gates::job::Job;
+use verdicts::verdict::Verdict;
 ghost use mathlib.Core.Path.{_≡_};
 ghost use lib.ListN.{length};
 ghost use Rattle.text.specs.Parsing.{parsed};

@@ -1,7 +1,7 @@
 -- `laying::island::by_nearest` meets its contract: what was laid is read back as it is closed. Assumes nothing.
 use mathlib.Core.Path.{ap, _∙_}
 use mathlib.Core.List.{List}
-use Rattle.meaning.specs.declared.gate.Gate.{Gate}
+use Rattle.gates.specs.declared.gate.Gate.{Gate}
 use Rattle.columns.specs.Emit.{emit, emitAt}
 use Rattle.laying.specs.Memory.{parities, angles, nearestOwn, closedBy}
 use Rattle.laying.proofs.Owned.{part-fits, part-long, part-gates}

@@ -1,6 +1,6 @@
 -- `laying::judge::judge` meets its contract: the first refusal decides. Assumes nothing.
 use mathlib.Core.Path.{_∙_}
-use Rattle.meaning.proofs.Judged.{passed, refused}
+use Rattle.verdicts.proofs.Judged.{passed, refused}
 use Rattle.laying.proofs.Judging.{qubits-few, job-qubits, job-couplers, job-count, job-gates, job-meaning}
 use borrow.Author.Needs.{needs}
 use Rattle.laying.proofs.judge.judge.Statement.{statement}

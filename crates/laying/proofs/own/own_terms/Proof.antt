@@ -2,8 +2,8 @@
 use mathlib.Core.Path.{ap, _∙_}
 use mathlib.Core.List.{List}
 use Prim.Native.Nat.{ℕ}
-use Rattle.meaning.specs.declared.sums.Sums.{Sums}
-use Rattle.meaning.specs.Told.{termsIn}
+use Rattle.table.specs.declared.sums.Sums.{Sums}
+use Rattle.table.specs.Table.{termsIn}
 use Rattle.laying.specs.OwnTable.{ownTable}
 use borrow.Author.Needs.{needs}
 use Rattle.laying.proofs.own.own_terms.Statement.{statement}

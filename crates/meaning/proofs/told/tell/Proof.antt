@@ -1,7 +1,7 @@
 -- `meaning::told::tell` meets its contract: the gates before the loop's place are told, and none of them brings the 257th parity. Assumes nothing.
 use Prim.Native.Nat.{_-_}
 use lib.ListN.{length}
-use Rattle.meaning.specs.Layout.{gatesOf}
+use Rattle.gates.specs.Layout.{gatesOf}
 use Rattle.meaning.proofs.Telling.{Telling, telling-none, tell-next, tell-full, tell-all}
 use borrow.Author.Needs.{needs}
 use Rattle.meaning.proofs.told.tell.Statement.{statement}
