@@ -29,7 +29,7 @@ use Rattle.chip.specs.Graph.{Near, Symm}
 use Rattle.chip.specs.Couplers.{linkOf, addOf, addAll, nearOf, Chip}
 use Rattle.chip.proofs.Tests.{never}
 
--- ---- what a record of `meaning` says
+-- ---- what a record says
 
 -- a record that is a coupler has different ends below n, and is the record of its ends
 pub coupler-ends : (n x a b : ℕ) → couplerOf n x ≡ Ends a b → (a < n) × (b < n) × (a ≢ b) × (x ≡ packed 0 a b)

@@ -35,7 +35,7 @@ fn layer(near: [u32; Job::QUBITS], set: u32, done: u32, left: u32) -> u32
     ensures { λ r. ⌜ r ≡ layerOf near set done left ⌝ }
 {
     if left == 0 {
-        return chip::spare::grown(near, set, done) ^ done;
+        return spares::spare::grown(near, set, done) ^ done;
     }
     left
 }

@@ -17,7 +17,7 @@ use Rattle.verdicts.specs.Verdicts.{numberOf}
 use Rattle.laying.specs.Verdict.{verdictOf, circuitOf, countsOf, answered, outputOf}
 use Rattle.laying.specs.declared.lay.Answer.{Answer}
 use Rattle.laying.specs.declared.lay.Answer.the-variants.{Laid, Refused}
-use Rattle.text.specs.Lines.{countsText}
+use Rattle.lines.specs.Lines.{countsText}
 use Rattle.console.specs.Printed.{largest, refusalOf, jobText, laidJob, countedJob}
 use Rattle.console.proofs.Choosing.{unless-passed, unless-refused}
 

@@ -12,11 +12,11 @@ use Rattle.sets.specs.Pick.{pick}
 use Rattle.gates.specs.declared.job.Job.{Job}
 use Rattle.verdicts.specs.declared.verdict.Verdict.{Verdict}
 use Rattle.verdicts.specs.Verdicts.{numberOf}
-use Rattle.text.specs.Parsing.{Parsed, misfit, job, parsed}
-use Rattle.text.specs.Places.{onto}
-use Rattle.text.specs.Readings.{couplersIn, gatesIn, jobIn, judgedReading, readingOf, listAfter}
-use Rattle.text.specs.declared.read.Reading.{Reading}
-use Rattle.text.specs.declared.read.Reading.the-variants.{Read, Refused}
+use Rattle.reading.specs.Parsing.{Parsed, misfit, job, parsed}
+use Rattle.lines.specs.Lent.{onto}
+use Rattle.reading.specs.Readings.{couplersIn, gatesIn, jobIn, judgedReading, readingOf, listAfter}
+use Rattle.reading.specs.declared.read.Reading.{Reading}
+use Rattle.reading.specs.declared.read.Reading.the-variants.{Read, Refused}
 use Rattle.console.specs.Printed.{mostLines, refusalOf, laidJob, countedJob, laidText, countedText}
 use Rattle.console.proofs.Choosing.{unless-passed, unless-refused}
 

@@ -28,12 +28,12 @@ use Rattle.laying.specs.Layable.{Layable}
 use Rattle.laying.specs.Verdict.{judgedJob, verdictOf, circuitOf}
 use Rattle.laying.proofs.Accepting.{job-layable}
 use Rattle.laying.proofs.Accepted.{circuit-good, circuit-fine}
-use Rattle.text.specs.Lines.{digits, fieldsText, lineText, recordText, recordsText, textOf}
-use Rattle.text.specs.Parsing.{parsed}
-use Rattle.text.specs.Readings.{couplersIn, gatesIn, jobIn, judgedReading}
+use Rattle.lines.specs.Lines.{digits, fieldsText, lineText, recordText, recordsText, textOf}
+use Rattle.reading.specs.Parsing.{parsed}
+use Rattle.reading.specs.Readings.{couplersIn, gatesIn, jobIn, judgedReading}
 use Rattle.text.specs.Writings.{judgedRoom, judgedText}
 use Rattle.text.proofs.Judging.{judged-room}
-use Rattle.text.proofs.Writes.{width-small, width-big, line-length, record-length, text-length}
+use Rattle.lines.proofs.Writes.{width-small, width-big, line-length, record-length, text-length}
 use Rattle.console.specs.Printed.{mostLines, largest, mostPrinted, refusalOf, unless, jobText, laidJob, laidText, wholeJob, wholeText}
 use Rattle.console.proofs.Choosing.{unless-passed, unless-refused}
 

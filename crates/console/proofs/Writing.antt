@@ -15,9 +15,9 @@ use Rattle.chip.specs.declared.couplers.Ordered.{Ordered}
 use Rattle.chip.specs.Couplers.{nearOf}
 use Rattle.chip.specs.Ordered.{orderedOf, orderedList}
 use Rattle.chip.proofs.Order.{ordered-take, ordered-len}
-use Rattle.text.specs.Lines.{textOf}
-use Rattle.text.specs.Places.{onto}
-use Rattle.text.specs.Writings.{judgedText, writingOf, textAfter, lineLength, lineAfter}
+use Rattle.lines.specs.Lines.{textOf}
+use Rattle.lines.specs.Lent.{onto, lineLength, lineAfter}
+use Rattle.text.specs.Writings.{judgedText, writingOf, textAfter}
 use Rattle.text.specs.declared.write.Writing.{Writing}
 use Rattle.text.specs.declared.write.Writing.the-variants.{Written, Refused}
 use Rattle.text.proofs.Judging.{Accepts, written}

@@ -10,9 +10,9 @@ use Rattle.verdicts.specs.Verdicts.{numberOf, placeOf}
 use Rattle.chip.specs.Couplers.{nearOf}
 use Rattle.chip.specs.Ordered.{orderedList}
 use Rattle.laying.specs.Verdict.{verdictOf, circuitOf}
-use Rattle.text.specs.Lines.{textOf, refusalText, countsText}
-use Rattle.text.specs.Parsing.{parsed}
-use Rattle.text.specs.Readings.{couplersIn, gatesIn, jobIn, judgedReading}
+use Rattle.lines.specs.Lines.{textOf, refusalText, countsText}
+use Rattle.reading.specs.Parsing.{parsed}
+use Rattle.reading.specs.Readings.{couplersIn, gatesIn, jobIn, judgedReading}
 use Rattle.text.specs.Writings.{judgedText}
 
 -- "it lends the reader 10,922 records for each list"

@@ -118,7 +118,7 @@ fn better(
     requires { ⌜ k < 40 ⌝ }
     ensures { λ r. ⌜ r ≡ betterOf near set asked mirror k best least ⌝ }
 {
-    if chip::spare::spare(near, set, k / 2) {
+    if spares::spare::spare(near, set, k / 2) {
         let n = cost(near, set, asked, mirror, k);
         if n < least {
             return Best { k, cost: n };

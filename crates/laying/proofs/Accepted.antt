@@ -24,7 +24,7 @@ use Rattle.meaning.proofs.Bearing.{terms-few}
 use Rattle.tallies.proofs.Tallies.{product-le}
 use Rattle.circuit.proofs.Wiring.{good-up}
 use Rattle.chip.specs.Couplers.{nearOf}
-use Rattle.chip.specs.Islands.{islandOf}
+use Rattle.isles.specs.Islands.{islandOf}
 use Rattle.laying.specs.Islands.{leads}
 use Rattle.laying.specs.Laid.{onIsland, laidOf, stuckOn}
 use Rattle.laying.specs.Layable.{Layable}

@@ -32,8 +32,8 @@ use Rattle.meaning.proofs.Bearing.{borne-not-empty, borne-below, term-among, am
 use Rattle.meaning.proofs.Lists.{among-at, at-among}
 use Rattle.verdicts.proofs.Passing.{accepted-good}
 use Rattle.chip.specs.Couplers.{nearOf}
-use Rattle.chip.specs.Islands.{islandOf, islandsOf}
-use Rattle.chip.proofs.Isles.{getD-islands}
+use Rattle.isles.specs.Islands.{islandOf, islandsOf}
+use Rattle.isles.proofs.Isles.{getD-islands}
 use Rattle.laying.specs.Own.{insideOf}
 use Rattle.laying.specs.Reach.{Within}
 use Rattle.laying.specs.Layable.{Layable}

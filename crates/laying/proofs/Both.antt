@@ -22,8 +22,8 @@ use Rattle.meaning.proofs.Lists.{among-at}
 use Rattle.tallies.proofs.Tallies.{product-le}
 use Rattle.meaning.proofs.Bearing.{terms-few}
 use Rattle.chip.specs.Couplers.{nearOf}
-use Rattle.chip.specs.Islands.{islandOf}
-use Rattle.chip.proofs.Isles.{island-lt}
+use Rattle.isles.specs.Islands.{islandOf}
+use Rattle.isles.proofs.Isles.{island-lt}
 use Rattle.columns.specs.Terms.{LaysTerms, totalOf}
 use Rattle.columns.proofs.Inside.{inside-length, inside-good}
 use Rattle.steps.specs.Steps.{stepsFor}

@@ -19,7 +19,7 @@ use Rattle.meaning.proofs.Examples.{meaning-examples}
 use Rattle.gates.proofs.Examples.{true-append}
 use Rattle.chip.specs.Graph.{nbrs, grow, closure}
 use Rattle.chip.specs.Couplers.{linkOf, addOf, addAll, nearOf}
-use Rattle.chip.specs.Islands.{islandOf, islandsFrom, islandsOf}
+use Rattle.isles.specs.Islands.{islandOf, islandsFrom, islandsOf}
 use Rattle.chip.specs.Examples.{chipExamples}
 use Rattle.chip.proofs.Examples.{chip-examples}
 use Rattle.laying.specs.Own.{insideOf}

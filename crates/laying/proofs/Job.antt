@@ -34,10 +34,10 @@ use Rattle.gates.proofs.Alls.{all-map}
 use Rattle.meaning.proofs.Lists.{Up}
 use Rattle.meaning.proofs.Tables.{map-at}
 use Rattle.chip.specs.Graph.{Near, Symm, Joined}
-use Rattle.chip.specs.Islands.{islandOf}
+use Rattle.isles.specs.Islands.{islandOf}
 use Rattle.chip.specs.Couplers.{nearOf}
 use Rattle.chip.proofs.Neighbours.{near-symm, near-below, near-listed, accepted-near}
-use Rattle.chip.proofs.Isles.{island-self, island-same, island-below, island-fits, island-low, island-lt, island-joined, island-near}
+use Rattle.isles.proofs.Isles.{island-self, island-same, island-below, island-fits, island-low, island-lt, island-joined, island-near}
 use Rattle.columns.specs.Pieces.{Piece}
 use Rattle.columns.specs.Terms.{Inside, Small, LaysTerms, totalOf}
 use Rattle.ending.specs.Ends.{Ready}

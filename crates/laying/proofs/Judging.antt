@@ -32,7 +32,7 @@ use Rattle.meaning.proofs.Bearing.{terms-few}
 use Rattle.meaning.proofs.Terms.{terms-table}
 use Rattle.table.proofs.Keeping.{take-padded}
 use Rattle.chip.specs.Couplers.{nearOf}
-use Rattle.chip.specs.Islands.{islandsOf}
+use Rattle.isles.specs.Islands.{islandsOf}
 use Rattle.laying.specs.Verdict.{judgedCount, judgedParities, strayAt, scattered, judgedReach, judgedRoom, judgedMeaning, judgedJob}
 
 -- ---- 6

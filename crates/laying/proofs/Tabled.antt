@@ -20,7 +20,7 @@ use Rattle.table.proofs.Keeping.{kept-map, take-padded}
 use Rattle.meaning.proofs.Lists.{kept-drop, kept-take, kept-nil}
 use Rattle.columns.specs.Tables.{tab}
 use Rattle.columns.proofs.Tabling.{tab-at, tab-length}
-use Rattle.chip.specs.Islands.{islandOf}
+use Rattle.isles.specs.Islands.{islandOf}
 use Rattle.ending.specs.Mirror.{mirrorsOf}
 use Rattle.laying.specs.declared.own.Own.{Own}
 use Rattle.laying.specs.Own.{insideOf, ownSets, ownTerms}

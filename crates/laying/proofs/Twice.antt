@@ -22,9 +22,9 @@ use Rattle.meaning.proofs.Bearing.{terms-up, term-among, among-term}
 use Rattle.meaning.proofs.Lists.{among-first, among-rest}
 use Rattle.chip.specs.Graph.{Near}
 use Rattle.chip.specs.Couplers.{nearOf}
-use Rattle.chip.specs.Islands.{islandOf}
+use Rattle.isles.specs.Islands.{islandOf}
 use Rattle.chip.proofs.Neighbours.{near-listed, accepted-near}
-use Rattle.chip.proofs.Isles.{island-lt}
+use Rattle.isles.proofs.Isles.{island-lt}
 use Rattle.columns.specs.Pieces.{Piece}
 use Rattle.ending.specs.Mirror.{mirrorsOf, mirrorOf, Bordered}
 use Rattle.ending.proofs.Mirrors.{mirror-same-inside}

@@ -21,8 +21,8 @@ use Rattle.meaning.specs.Borne.{overAt}
 use Rattle.meaning.specs.Told.{toldOf, meaningOf, tableOf}
 use Rattle.circuit.specs.State.{wiresOf}
 use Rattle.chip.specs.Couplers.{nearOf}
-use Rattle.chip.specs.Islands.{islandOf, islandsOf}
-use Rattle.chip.proofs.Isles.{getD-islands}
+use Rattle.isles.specs.Islands.{islandOf, islandsOf}
+use Rattle.isles.proofs.Isles.{getD-islands}
 use Rattle.columns.specs.Emit.{emit, emitAt}
 use Rattle.columns.specs.Pieces.{Piece}
 use Rattle.columns.proofs.Emitting.{emit-none, emit-at-none, emit-length, emit-append, emit-at-append}

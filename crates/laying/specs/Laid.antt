@@ -9,7 +9,7 @@ use Rattle.sets.specs.Search.{someOf}
 use Rattle.gates.specs.declared.gate.Gate.{Gate}
 use Rattle.circuit.specs.Circuit.{run, start}
 use Rattle.meaning.specs.Borne.{terms, sumsOf}
-use Rattle.chip.specs.Islands.{islandOf}
+use Rattle.isles.specs.Islands.{islandOf}
 use Rattle.columns.specs.Pieces.{Piece, piece}
 use Rattle.steps.specs.Steps.{stepsFor}
 use Rattle.nearest.specs.Nearest.{nearestFor}

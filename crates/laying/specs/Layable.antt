@@ -7,7 +7,7 @@ use Rattle.gates.specs.Layout.{gatesOf, Good}
 use Rattle.meaning.specs.Borne.{borne, overAt}
 use Rattle.gates.specs.All.{All}
 use Rattle.chip.specs.Couplers.{nearOf}
-use Rattle.chip.specs.Islands.{islandOf}
+use Rattle.isles.specs.Islands.{islandOf}
 use Rattle.laying.specs.Reach.{Within}
 
 pub record Layable (n : ℕ) (couplers gates : List ℕ) : Type 0 where

@@ -18,7 +18,7 @@ use Rattle.tallies.specs.Tally.{cnotsOf, rotationsOf, depthOf, boundOf}
 use Rattle.verdicts.specs.Verdicts.{numberOf, placeOf, judgedQubits, judgedCouplers, judgedGates}
 use Rattle.verdicts.specs.InOrder.{andThen}
 use Rattle.chip.specs.Couplers.{nearOf}
-use Rattle.chip.specs.Islands.{islandsOf}
+use Rattle.isles.specs.Islands.{islandsOf}
 use Rattle.laying.specs.Own.{insideOf}
 use Rattle.laying.specs.Laid.{laidOf, stuckOn}
 use Rattle.laying.specs.declared.lay.Answer.{Answer}

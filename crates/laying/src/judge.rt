@@ -1,8 +1,8 @@
 // Tests 1 to 8 in document 01's order. (Test 9 is laying itself.)
 use crate::reach;
 use chip::couplers;
-use chip::islands;
 use gates::job::Job;
+use isles::islands;
 use meaning::told;
 use tallies::tally;
 use verdicts::verdict;

@@ -1,4 +1,4 @@
--- What the writer accepts fits a text: laws of `meaning`'s tests. Assumes nothing.
+-- What the writer accepts fits a text: laws of the tests of a job. Assumes nothing.
 use mathlib.Core.Path.{_≡_, refl}
 use mathlib.Core.Logic.{_⊎_, inl, inr}
 use mathlib.Core.Bool.{Bool, true, false}
@@ -17,8 +17,8 @@ use Rattle.gates.specs.declared.coupler.Coupler.{Coupler}
 use Rattle.gates.specs.declared.coupler.Coupler.the-variants.{Wrong}
 use Rattle.verdicts.specs.Verdicts.{numberOf, firstFailing, judgedQubits, wrongAt, judgedCouplers, badAt, judgedGates}
 use Rattle.verdicts.specs.declared.verdict.Verdict.the-variants.{Accepted, Qubits, ManyCouplers, WrongCoupler, BadGate}
-use Rattle.text.specs.Limits.{mostFirst}
-use Rattle.text.specs.Misfit.{Fit, AllFit}
+use Rattle.reading.specs.Limits.{mostFirst}
+use Rattle.reading.specs.Misfit.{Fit, AllFit}
 
 two : {B : Type 0} → true ≡ false → B
 two e = let z : _≡_ {A = ℕ} 0 1 = cc e in absurd (omega arith)

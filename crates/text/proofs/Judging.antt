@@ -13,7 +13,7 @@ use Rattle.verdicts.specs.declared.verdict.Verdict.{Verdict}
 use Rattle.verdicts.specs.declared.verdict.Verdict.the-variants.{Accepted, Room}
 use Rattle.verdicts.specs.InOrder.{andThen}
 use Rattle.verdicts.proofs.Judged.{then-on, then-stop, then-zero}
-use Rattle.text.specs.Lines.{textOf}
+use Rattle.lines.specs.Lines.{textOf}
 use Rattle.text.specs.Writings.{judgedRoom, judgedText, writingOf}
 use Rattle.text.specs.declared.write.Writing.the-variants.{Written, Refused}
 

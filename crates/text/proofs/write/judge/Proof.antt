@@ -4,7 +4,7 @@ use denote.Ref.{now}
 use lib.ListN.{length}
 use Rattle.sets.specs.Pick.{pick}
 use Rattle.verdicts.specs.declared.verdict.Verdict.the-variants.{Accepted, Room}
-use Rattle.text.specs.Lines.{textOf}
+use Rattle.lines.specs.Lines.{textOf}
 use Rattle.text.specs.Writings.{judgedRoom, judgedText}
 use Rattle.verdicts.proofs.Judged.{passed, refused}
 use Rattle.text.proofs.Judging.{judged-qubits, judged-couplers, judged-gates, judged-room}
