@@ -25,7 +25,8 @@ use Rattle.chip.specs.Ordered.{orderedList}
 use Rattle.chip.proofs.Order.{ordered-sound, ordered-few}
 use Rattle.chip.proofs.Neighbours.{coupler-packed, near-below}
 use Rattle.laying.specs.Layable.{Layable}
-use Rattle.laying.specs.Verdict.{judgedJob, verdictOf, circuitOf}
+use Rattle.judging.specs.Tests.{judgedJob}
+use Rattle.laying.specs.Verdict.{verdictOf, circuitOf}
 use Rattle.laying.proofs.Accepting.{job-layable}
 use Rattle.laying.proofs.Accepted.{circuit-good, circuit-fine}
 use Rattle.lines.specs.Lines.{digits, fieldsText, lineText, recordText, recordsText, textOf}

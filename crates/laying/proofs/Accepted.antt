@@ -28,8 +28,9 @@ use Rattle.isles.specs.Islands.{islandOf}
 use Rattle.laying.specs.Islands.{leads}
 use Rattle.laying.specs.Laid.{onIsland, laidOf, stuckOn}
 use Rattle.laying.specs.Layable.{Layable}
-use Rattle.laying.specs.Memory.{Fine}
-use Rattle.laying.specs.Verdict.{judgedJob, judgedStuck, verdictOf, circuitOf}
+use Rattle.ways.specs.Memory.{Fine}
+use Rattle.judging.specs.Tests.{judgedJob}
+use Rattle.laying.specs.Verdict.{judgedStuck, verdictOf, circuitOf}
 use Rattle.laying.proofs.Job.{laid-same, laid-good, laid-coupled, laid-reaches, laid-rotations, laid-cnots}
 use Rattle.laying.proofs.Both.{island-lays, island-placed, never-stuck}
 use Rattle.laying.proofs.Accepting.{job-layable}

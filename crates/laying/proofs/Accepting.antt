@@ -34,13 +34,13 @@ use Rattle.verdicts.proofs.Passing.{accepted-good}
 use Rattle.chip.specs.Couplers.{nearOf}
 use Rattle.isles.specs.Islands.{islandOf, islandsOf}
 use Rattle.isles.proofs.Isles.{getD-islands}
-use Rattle.laying.specs.Own.{insideOf}
+use Rattle.share.specs.Own.{insideOf}
 use Rattle.laying.specs.Reach.{Within}
 use Rattle.laying.specs.Layable.{Layable}
-use Rattle.laying.specs.Verdict.{judgedCount, judgedParities, leavesAt, strayAt, scatters, scattered, judgedReach, judgedRoom, judgedMeaning, judgedJob}
+use Rattle.judging.specs.Tests.{judgedCount, judgedParities, leavesAt, strayAt, scatters, scattered, judgedReach, judgedRoom, judgedMeaning, judgedJob}
 use Rattle.laying.proofs.Parting.{Parts, inside-sub, sub-inside}
 use Rattle.laying.proofs.Job.{parts}
-use Rattle.laying.proofs.Judging.{over-le, over-few, reach-pass, qubits-few}
+use Rattle.judging.proofs.Judging.{over-le, over-few, reach-pass, qubits-few}
 
 not-false : (b : Bool) → not b ≡ false → b ≡ true
 not-false true e = refl

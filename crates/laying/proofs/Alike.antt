@@ -23,7 +23,7 @@ use Rattle.meaning.specs.Borne.{Among, sumsOf}
 use Rattle.meaning.proofs.Lists.{Up, ascending-same}
 use Rattle.chip.specs.Graph.{Near, Symm, Chain, here, next}
 use Rattle.columns.specs.Terms.{Inside}
-use Rattle.laying.specs.Own.{ownSets, ownTerms}
+use Rattle.share.specs.Own.{ownSets, ownTerms}
 use Rattle.laying.specs.Islands.{leads, laidTo}
 use Rattle.laying.specs.Demands.{isOn, gatesOn}
 use Rattle.laying.proofs.Parting.{Parts, on-led, leads-is}

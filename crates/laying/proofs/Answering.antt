@@ -22,8 +22,9 @@ use Rattle.steps.specs.declared.Laid.the-variants.{On, Stuck}
 use Rattle.laying.specs.declared.lay.Answer.{Answer}
 use Rattle.laying.specs.declared.lay.Answer.the-variants.{Refused}
 use Rattle.laying.specs.Layable.{Layable}
-use Rattle.laying.specs.Verdict.{judgedJob, judgedStuck, verdictOf, circuitOf, countsOf, answered, outputOf}
-use Rattle.laying.proofs.Replaying.{gates-read, gates-back}
+use Rattle.judging.specs.Tests.{judgedJob}
+use Rattle.laying.specs.Verdict.{judgedStuck, verdictOf, circuitOf, countsOf, answered, outputOf}
+use Rattle.ways.proofs.Replaying.{gates-read, gates-back}
 use Rattle.laying.proofs.Accepting.{job-layable, job-room}
 use Rattle.laying.proofs.Accepted.{circuit-good, circuit-fine, circuit-bounded, job-accepted}
 

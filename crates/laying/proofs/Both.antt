@@ -31,10 +31,11 @@ use Rattle.steps.proofs.Terms.{steps-on, steps-lay}
 use Rattle.nearest.specs.Nearest.{nearestFor}
 use Rattle.nearest.proofs.Lays.{nearest-lays}
 use Rattle.ending.specs.Mirror.{mirrorsOf}
-use Rattle.laying.specs.Own.{ownSets, ownTerms}
-use Rattle.laying.specs.Laid.{withClosing, shorter, islandLaid, onIsland}
+use Rattle.share.specs.Own.{ownSets, ownTerms}
+use Rattle.ways.specs.Ways.{withClosing, shorter, islandLaid}
+use Rattle.laying.specs.Laid.{onIsland}
 use Rattle.laying.specs.Layable.{Layable}
-use Rattle.laying.specs.Memory.{Fine}
+use Rattle.ways.specs.Memory.{Fine}
 use Rattle.laying.proofs.Composing.{Lays}
 use Rattle.laying.proofs.Islanding.{Placed}
 use Rattle.laying.proofs.Owning.{own-few}

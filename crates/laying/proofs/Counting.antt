@@ -20,7 +20,7 @@ use Rattle.meaning.proofs.Lists.{among-first, among-rest}
 use Rattle.tallies.proofs.Tallies.{tally-append, tally-none}
 use Rattle.columns.specs.Tables.{sumTo, one}
 use Rattle.columns.proofs.Tabling.{sum-ext, sum-none, sum-le}
-use Rattle.laying.specs.Own.{insideOf, ownTerms}
+use Rattle.share.specs.Own.{insideOf, ownTerms}
 use Rattle.laying.specs.Islands.{leads, laidTo}
 use Rattle.laying.proofs.Adding.{sum-one, sum-plus, sum-times, sum-swap, sum-units, ones-bits}
 use Rattle.laying.proofs.Parting.{Parts, leader-in, leader-below, leader-same, leader-leads, on-led, led-on, inside-one, inside-sub, sub-inside, not-inside}

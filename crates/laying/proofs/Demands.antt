@@ -27,10 +27,11 @@ use Rattle.isles.specs.Islands.{islandOf, islandsOf}
 use Rattle.laying.specs.declared.lay.Answer.{Answer}
 use Rattle.laying.specs.declared.lay.Answer.the-variants.{Laid, Refused}
 use Rattle.laying.specs.Layable.{Layable}
-use Rattle.laying.specs.Verdict.{judgedCount, judgedParities, judgedReach, judgedRoom, judgedMeaning, judgedJob, judgedStuck, verdictOf, circuitOf, countsOf, answered, outputOf, verdictIn, numberIn, placeIn, recordsIn, cnotsIn, rotationsIn, depthIn}
+use Rattle.judging.specs.Tests.{judgedCount, judgedParities, judgedReach, judgedRoom, judgedMeaning, judgedJob}
+use Rattle.laying.specs.Verdict.{judgedStuck, verdictOf, circuitOf, countsOf, answered, outputOf, verdictIn, numberIn, placeIn, recordsIn, cnotsIn, rotationsIn, depthIn}
 use Rattle.laying.specs.Demands.{Island, gatesOn, Faithful, judgedSix, Stays, Strays, Agree}
 use Rattle.laying.proofs.Job.{only-inside}
-use Rattle.laying.proofs.Judging.{qubits-few, over-few}
+use Rattle.judging.proofs.Judging.{qubits-few, over-few}
 use Rattle.laying.proofs.Accepting.{reach-within, within-reach, reach-number, reach-place, parities-whole, job-layable, job-room, job-listed, job-not-stuck, room-number}
 use Rattle.laying.proofs.Accepted.{circuit-same, circuit-good, circuit-coupled, circuit-rotations, circuit-cnots, circuit-bounded, circuit-reaches, stuck-passed, job-accepted}
 use Rattle.laying.proofs.Linking.{linked-in, in-linked}

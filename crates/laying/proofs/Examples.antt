@@ -22,8 +22,9 @@ use Rattle.chip.specs.Couplers.{linkOf, addOf, addAll, nearOf}
 use Rattle.isles.specs.Islands.{islandOf, islandsFrom, islandsOf}
 use Rattle.chip.specs.Examples.{chipExamples}
 use Rattle.chip.proofs.Examples.{chip-examples}
-use Rattle.laying.specs.Own.{insideOf}
-use Rattle.laying.specs.Verdict.{judgedCount, judgedParities, leavesAt, strayAt, scatters, scattered, judgedReach, judgedRoom, judgedMeaning, judgedJob, verdictOf}
+use Rattle.share.specs.Own.{insideOf}
+use Rattle.judging.specs.Tests.{judgedCount, judgedParities, leavesAt, strayAt, scatters, scattered, judgedReach, judgedRoom, judgedMeaning, judgedJob}
+use Rattle.laying.specs.Verdict.{verdictOf}
 use Rattle.laying.specs.Examples.{couplers4, once4, twice4, gates9, layingExamples, provedExamples}
 use Rattle.laying.proofs.Accepting.{job-layable}
 use Rattle.laying.proofs.Accepted.{circuit-reaches, job-accepted}

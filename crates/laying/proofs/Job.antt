@@ -44,9 +44,9 @@ use Rattle.ending.specs.Ends.{Ready}
 use Rattle.ending.specs.Mirror.{mirrorsOf, mirrorOf, Bordered}
 use Rattle.ending.specs.Closing.{closingOf}
 use Rattle.ending.proofs.Mirrors.{bordered-ready, mirror-inside}
-use Rattle.laying.specs.Own.{ownSets, ownTerms}
+use Rattle.share.specs.Own.{ownSets, ownTerms}
 use Rattle.laying.specs.Islands.{leads, laidTo}
-use Rattle.laying.specs.Laid.{withClosing}
+use Rattle.ways.specs.Ways.{withClosing}
 use Rattle.laying.specs.Reach.{Within}
 use Rattle.laying.proofs.Parting.{Parts, leader-below, leader-leads, leader-same, inside-one}
 use Rattle.laying.proofs.Restricting.{own-whole, own-in, own-symm, own-joined, own-near}

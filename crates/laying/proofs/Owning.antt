@@ -20,7 +20,7 @@ use Rattle.meaning.proofs.Tables.{map-at}
 use Rattle.columns.specs.Tables.{sumTo, one}
 use Rattle.columns.specs.Terms.{totalOf}
 use Rattle.columns.proofs.Tabling.{sum-none, one-le}
-use Rattle.laying.specs.Own.{insideOf, ownTerms}
+use Rattle.share.specs.Own.{insideOf, ownTerms}
 use Rattle.laying.proofs.Adding.{sum-one}
 use Rattle.laying.proofs.Parting.{inside-sub, sub-inside}
 

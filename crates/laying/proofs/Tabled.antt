@@ -22,11 +22,12 @@ use Rattle.columns.specs.Tables.{tab}
 use Rattle.columns.proofs.Tabling.{tab-at, tab-length}
 use Rattle.isles.specs.Islands.{islandOf}
 use Rattle.ending.specs.Mirror.{mirrorsOf}
-use Rattle.laying.specs.declared.own.Own.{Own}
-use Rattle.laying.specs.Own.{insideOf, ownSets, ownTerms}
-use Rattle.laying.specs.OwnTable.{maskedSum, maskedSums, ownTable, ownOf}
-use Rattle.laying.specs.Laid.{onIsland, islandLaid}
-use Rattle.laying.specs.Memory.{parities, angles, pieceOwn}
+use Rattle.share.specs.declared.own.Own.{Own}
+use Rattle.share.specs.Own.{insideOf, ownSets, ownTerms}
+use Rattle.share.specs.OwnTable.{maskedSum, maskedSums, ownTable, ownOf}
+use Rattle.laying.specs.Laid.{onIsland}
+use Rattle.ways.specs.Ways.{islandLaid}
+use Rattle.ways.specs.Memory.{parities, angles, pieceOwn}
 use Rattle.laying.proofs.Owning.{own-none, own-taken, own-left}
 
 module _ (Q : ℕ) (f : ℕ → ℕ) where

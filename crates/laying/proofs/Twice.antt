@@ -28,8 +28,9 @@ use Rattle.isles.proofs.Isles.{island-lt}
 use Rattle.columns.specs.Pieces.{Piece}
 use Rattle.ending.specs.Mirror.{mirrorsOf, mirrorOf, Bordered}
 use Rattle.ending.proofs.Mirrors.{mirror-same-inside}
-use Rattle.laying.specs.Own.{ownSets, ownTerms}
-use Rattle.laying.specs.Laid.{islandLaid, onIsland, laidOf}
+use Rattle.share.specs.Own.{ownSets, ownTerms}
+use Rattle.ways.specs.Ways.{islandLaid}
+use Rattle.laying.specs.Laid.{onIsland, laidOf}
 use Rattle.laying.specs.Layable.{Layable}
 use Rattle.laying.specs.Verdict.{circuitOf}
 use Rattle.laying.specs.Demands.{Island, gatesOn, Agree}

@@ -29,12 +29,13 @@ use Rattle.columns.proofs.Emitting.{emit-none, emit-at-none, emit-length, emit-
 use Rattle.steps.specs.declared.Laid.{Laid}
 use Rattle.steps.specs.declared.Laid.the-variants.{On, Stuck}
 use Rattle.ending.specs.Mirror.{mirrorsOf}
-use Rattle.laying.specs.declared.own.Own.{Own}
-use Rattle.laying.specs.OwnTable.{ownOf}
+use Rattle.share.specs.declared.own.Own.{Own}
+use Rattle.share.specs.OwnTable.{ownOf}
 use Rattle.laying.specs.Islands.{leads, laidTo}
-use Rattle.laying.specs.Laid.{onIsland, laidOf, withClosing}
+use Rattle.laying.specs.Laid.{onIsland, laidOf}
+use Rattle.ways.specs.Ways.{withClosing}
 use Rattle.laying.specs.Layable.{Layable}
-use Rattle.laying.specs.Memory.{Fine, stepsOwn, nearestOwn, closedBy, pieceOwn, memoryAt, answerAt}
+use Rattle.ways.specs.Memory.{Fine, stepsOwn, nearestOwn, closedBy, pieceOwn, memoryAt, answerAt}
 use Rattle.laying.specs.Verdict.{circuitOf}
 use Rattle.laying.proofs.Job.{parts}
 use Rattle.laying.proofs.Composing.{laid-led, laid-not}

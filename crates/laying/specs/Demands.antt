@@ -19,7 +19,7 @@ use Rattle.meaning.specs.Same.{SameMeaning}
 use Rattle.tallies.specs.Tally.{cnotsOf, rotationsOf, boundOf}
 use Rattle.verdicts.specs.Verdicts.{judgedQubits, judgedCouplers, judgedGates}
 use Rattle.verdicts.specs.InOrder.{andThen}
-use Rattle.laying.specs.Verdict.{judgedCount, judgedParities}
+use Rattle.judging.specs.Tests.{judgedCount, judgedParities}
 
 -- "a chain of couplers joins them" (document 01, "Islands")
 pub data Linked (couplers : List ℕ) (n u : ℕ) : ℕ → Type 0 where

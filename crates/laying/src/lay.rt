@@ -1,16 +1,16 @@
 // The entry point: any numbers, any records, any room.
-use crate::island;
-use crate::judge;
-use crate::own;
 use chip::couplers;
 use ending::mirror;
 use isles::islands;
+use judging::judge;
 use meaning::told;
+use share::own;
 use steps::Laid;
 use tallies::depth;
 use tallies::tally;
 use verdicts::verdict;
 use verdicts::verdict::Verdict;
+use ways::island;
 ghost use mathlib.Core.Path.{_≡_};
 ghost use lib.ListN.{length};
 ghost use Rattle.gates.specs.Layout.{gatesOf};

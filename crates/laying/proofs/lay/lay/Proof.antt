@@ -2,7 +2,7 @@
 use mathlib.Core.Path.{sym, ap, _∙_}
 use Rattle.verdicts.specs.Verdicts.{numberOf}
 use Rattle.laying.proofs.Accepting.{job-layable}
-use Rattle.laying.proofs.Owned.{part-fits, part-long}
+use Rattle.ways.proofs.Owned.{part-fits, part-long}
 use Rattle.laying.proofs.Answering.{refused, copied, on-same, on-not-stuck}
 use borrow.Author.Needs.{needs}
 use Rattle.laying.proofs.lay.lay.Statement.{statement}
