@@ -6,12 +6,12 @@ use Prim.Native.Nat.{ℕ}
 use lib.Dec.{ltb}
 use Rattle.sets.specs.Pick.{pick}
 use Rattle.sets.specs.Search.{firstOf}
-use Rattle.meaning.specs.Layout.{packed, kindIn, aIn, bIn, couplerOf}
-use Rattle.meaning.specs.Verdicts.{numberOf, placeOf, judgedQubits, judgedCouplers, wrongAt, firstFailing}
-use Rattle.meaning.specs.declared.coupler.Coupler.{Coupler}
-use Rattle.meaning.specs.declared.coupler.Coupler.the-variants.{Wrong}
-use Rattle.meaning.specs.declared.verdict.Verdict.the-variants.{WrongCoupler}
-use Rattle.meaning.specs.Examples.{True}
+use Rattle.gates.specs.Layout.{packed, kindIn, aIn, bIn, couplerOf}
+use Rattle.verdicts.specs.Verdicts.{numberOf, placeOf, judgedQubits, judgedCouplers, wrongAt, firstFailing}
+use Rattle.gates.specs.declared.coupler.Coupler.{Coupler}
+use Rattle.gates.specs.declared.coupler.Coupler.the-variants.{Wrong}
+use Rattle.verdicts.specs.declared.verdict.Verdict.the-variants.{WrongCoupler}
+use Rattle.gates.specs.Example.{True}
 use Rattle.chip.specs.Examples.{chipExamples}
 
 -- whatever n is, the record of 0-0 is wrong

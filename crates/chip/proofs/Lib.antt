@@ -1,13 +1,8 @@
 pub mod Chains
 pub mod Growth
 pub mod Closure
-pub mod Spares
 pub mod Tests
 pub mod Rounds
-pub mod Seeking
-pub mod Firsts
-pub mod Isles
-pub mod Tables
 pub mod Neighbours
 pub mod Order
 pub mod Examples

@@ -18,18 +18,18 @@ use Rattle.sets.specs.Search.{firstOf}
 use Rattle.sets.proofs.Bits.{bit-of-zero, bit-pow-same}
 use Rattle.sets.proofs.Members.{in-or, or-left, or-right, in-pow}
 use Rattle.sets.proofs.Finding.{first-before}
-use Rattle.meaning.specs.Layout.{packed, kindIn, aIn, bIn, couplerOf, isWrong}
-use Rattle.meaning.specs.Same.{Listed}
-use Rattle.meaning.specs.Verdicts.{judgedCouplers, wrongAt, firstFailing}
-use Rattle.meaning.specs.declared.coupler.Coupler.{Coupler}
-use Rattle.meaning.specs.declared.coupler.Coupler.the-variants.{Ends, Wrong}
-use Rattle.meaning.specs.declared.verdict.Verdict.the-variants.{Accepted, ManyCouplers, WrongCoupler}
-use Rattle.meaning.proofs.Records.{kind-packed, a-packed, b-packed}
+use Rattle.gates.specs.Layout.{packed, kindIn, aIn, bIn, couplerOf, isWrong}
+use Rattle.gates.specs.Listed.{Listed}
+use Rattle.verdicts.specs.Verdicts.{judgedCouplers, wrongAt, firstFailing}
+use Rattle.gates.specs.declared.coupler.Coupler.{Coupler}
+use Rattle.gates.specs.declared.coupler.Coupler.the-variants.{Ends, Wrong}
+use Rattle.verdicts.specs.declared.verdict.Verdict.the-variants.{Accepted, ManyCouplers, WrongCoupler}
+use Rattle.gates.proofs.Records.{kind-packed, a-packed, b-packed}
 use Rattle.chip.specs.Graph.{Near, Symm}
 use Rattle.chip.specs.Couplers.{linkOf, addOf, addAll, nearOf, Chip}
 use Rattle.chip.proofs.Tests.{never}
 
--- ---- what a record of `meaning` says
+-- ---- what a record says
 
 -- a record that is a coupler has different ends below n, and is the record of its ends
 pub coupler-ends : (n x a b : ℕ) → couplerOf n x ≡ Ends a b → (a < n) × (b < n) × (a ≢ b) × (x ≡ packed 0 a b)

@@ -13,7 +13,7 @@ use borrow.Author.Tests.{lt-ltb, ltb-true, ltb-false}
 use Rattle.sets.specs.Pick.{pick, both}
 use Rattle.sets.specs.Bit.{bit, has}
 use Rattle.sets.proofs.Words.{has-true, in-has}
-use Rattle.meaning.specs.Layout.{packed}
+use Rattle.gates.specs.Layout.{packed}
 use Rattle.chip.specs.declared.couplers.Ordered.{Ordered}
 use Rattle.chip.specs.Graph.{Near}
 use Rattle.chip.specs.Ordered.{pairOf, pairAt, orderedFrom, orderedList, orderedOf}

@@ -8,10 +8,10 @@ use lib.ListN.{length, getD, set, replicate}
 use lib.Bits.{bitOr}
 use Rattle.sets.specs.Pick.{pick}
 use Rattle.chip.specs.Graph.{Near, Symm}
-use Rattle.meaning.specs.Limits.{mostQubits}
-use Rattle.meaning.specs.Layout.{couplerOf}
-use Rattle.meaning.specs.declared.coupler.Coupler.{Coupler}
-use Rattle.meaning.specs.declared.coupler.Coupler.the-variants.{Ends, Wrong}
+use Rattle.gates.specs.Limits.{mostQubits}
+use Rattle.gates.specs.Layout.{couplerOf}
+use Rattle.gates.specs.declared.coupler.Coupler.{Coupler}
+use Rattle.gates.specs.declared.coupler.Coupler.the-variants.{Ends, Wrong}
 
 -- "Couplers have no direction": each end becomes a neighbour of the other; past the 20 qubits there is none
 unfoldable pub linkOf : ℕ → ℕ → List ℕ → List ℕ

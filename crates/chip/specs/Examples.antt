@@ -2,9 +2,9 @@
 use mathlib.Core.Path.{_≡_}
 use mathlib.Core.List.{List, [], _∷_}
 use Prim.Native.Nat.{ℕ}
-use Rattle.meaning.specs.Layout.{packed}
-use Rattle.meaning.specs.Examples.{Example}
-use Rattle.meaning.specs.Verdicts.{numberOf, placeOf, judgedQubits, judgedCouplers}
+use Rattle.gates.specs.Layout.{packed}
+use Rattle.gates.specs.Example.{Example}
+use Rattle.verdicts.specs.Verdicts.{numberOf, placeOf, judgedQubits, judgedCouplers}
 
 -- "n=0 and n=21: 1. n=1 and 20 pass that test."
 abbrev pub seventh : Example

@@ -6,8 +6,8 @@ use lib.Dec.{ltb}
 use lib.ListN.{getD, length, replicate}
 use Rattle.sets.specs.Pick.{pick, both}
 use Rattle.sets.specs.Bit.{has}
-use Rattle.meaning.specs.Layout.{packed}
-use Rattle.meaning.specs.Limits.{mostQubits, mostCouplers}
+use Rattle.gates.specs.Layout.{packed}
+use Rattle.gates.specs.Limits.{mostQubits, mostCouplers}
 use Rattle.chip.specs.declared.couplers.Ordered.{Ordered}
 
 -- "lower end first": a is the lower end, and b is among its neighbours

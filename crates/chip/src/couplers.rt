@@ -1,7 +1,7 @@
 // The neighbours that coupler records give to each qubit, and the couplers in order.
-use meaning::coupler;
-use meaning::coupler::Coupler;
-use meaning::job::Job;
+use gates::coupler;
+use gates::coupler::Coupler;
+use gates::job::Job;
 ghost use mathlib.Core.Path.{_≡_};
 ghost use Rattle.chip.specs.Couplers.{linkOf, addOf, nearOf};
 ghost use Rattle.chip.specs.Ordered.{pairOf, orderedOf};

@@ -1,4 +1,2 @@
-// The chip: couplers, islands, connected sets. It knows numbers and sets, and no gates.
+// The chip: couplers and the graph that they make. It knows numbers and sets, and no gates.
 pub mod couplers;
-pub mod islands;
-pub mod spare;

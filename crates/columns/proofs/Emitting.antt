@@ -9,8 +9,8 @@ use lib.ListN.{length, set, take, drop, length-append, length-map}
 use lib.Seq.{sets, length-sets, sets-eq, set-out}
 use borrow.Author.Tests.{ltb-true, ltb-false}
 use Rattle.sets.specs.Pick.{pick}
-use Rattle.meaning.specs.Layout.{recordOf}
-use Rattle.meaning.specs.declared.gate.Gate.{Gate}
+use Rattle.gates.specs.Layout.{recordOf}
+use Rattle.gates.specs.declared.gate.Gate.{Gate}
 use Rattle.columns.specs.Emit.{nextAt, emit, emitAt}
 
 -- past the end nothing is stored

@@ -3,10 +3,10 @@ use mathlib.Core.Path.{_≡_, refl}
 use mathlib.Core.List.{List, [], _∷_, _++_}
 use Prim.Native.Nat.{ℕ, _+_}
 use native.Mathlib.Omega.{arith}
-use Rattle.meaning.specs.declared.gate.Gate.{Gate}
-use Rattle.meaning.specs.declared.gate.Gate.the-variants.{Cnot, Rotation}
-use Rattle.meaning.specs.Same.{All}
-use Rattle.meaning.specs.Tally.{tally, oneCnot, oneRotation, cnotsOf, rotationsOf}
+use Rattle.gates.specs.declared.gate.Gate.{Gate}
+use Rattle.gates.specs.declared.gate.Gate.the-variants.{Cnot, Rotation}
+use Rattle.gates.specs.All.{All}
+use Rattle.tallies.specs.Tally.{tally, oneCnot, oneRotation, cnotsOf, rotationsOf}
 
 pub all-none : (P : Gate → Type 0) → All P []
 unfolding All

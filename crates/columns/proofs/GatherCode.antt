@@ -14,8 +14,8 @@ use borrow.Author.Tests.{eq-eqb, ne-eqb}
 use Rattle.sets.specs.Pick.{pick}
 use Rattle.sets.specs.Bit.{has}
 use Rattle.sets.specs.Size.{lowestOf, onlyOf}
-use Rattle.meaning.specs.declared.gate.Gate.{Gate}
-use Rattle.meaning.specs.declared.gate.Gate.the-variants.{Cnot, Rotation, Bad}
+use Rattle.gates.specs.declared.gate.Gate.{Gate}
+use Rattle.gates.specs.declared.gate.Gate.the-variants.{Cnot, Rotation, Bad}
 use Rattle.columns.specs.declared.gather.Order.{Order}
 use Rattle.columns.specs.declared.gather.Moves.{Moves}
 use Rattle.columns.specs.declared.gather.Gathering.{Gathering}

@@ -24,8 +24,8 @@ use Rattle.sets.proofs.Ones.{ones-pow, ones-put, drop-same}
 use Rattle.sets.proofs.Turn.{turn-on, turn-off, turn-other, turn-sub}
 use Rattle.sets.proofs.Words.{has-true, has-false, in-has, out-has, lowest-in, only-is}
 use Rattle.chip.specs.Graph.{Near, Symm, Joined}
-use Rattle.meaning.specs.declared.gate.Gate.{Gate}
-use Rattle.meaning.specs.declared.gate.Gate.the-variants.{Cnot, Rotation, Bad}
+use Rattle.gates.specs.declared.gate.Gate.{Gate}
+use Rattle.gates.specs.declared.gate.Gate.the-variants.{Cnot, Rotation, Bad}
 use Rattle.columns.specs.Order.{orderOf, Along, root, then}
 use Rattle.columns.specs.Gather.{turns, flip, On, Coupled, Within, Spares, movesAt, leftAt, gatherFrom, gatherOf, Gathers}
 use Rattle.columns.proofs.OrderParts.{sub-lt}

@@ -6,14 +6,14 @@ use native.Mathlib.Omega.{arith}
 use lib.ListN.{length, getD}
 use Rattle.sets.specs.Bit.{bit, In}
 use Rattle.sets.proofs.Members.{in-lt}
-use Rattle.meaning.specs.declared.gate.Gate.{Gate}
-use Rattle.meaning.specs.declared.gate.Gate.the-variants.{Cnot, Rotation, Bad}
-use Rattle.meaning.specs.Layout.{Good}
-use Rattle.meaning.specs.Circuit.{step, run}
-use Rattle.meaning.specs.Same.{All}
-use Rattle.meaning.specs.Tally.{tally, cnotsOf, rotationsOf}
-use Rattle.meaning.proofs.Steps.{step-cnot, step-rotation, cnot-other}
-use Rattle.meaning.proofs.Circuits.{run-none, run-cons}
+use Rattle.gates.specs.declared.gate.Gate.{Gate}
+use Rattle.gates.specs.declared.gate.Gate.the-variants.{Cnot, Rotation, Bad}
+use Rattle.gates.specs.Layout.{Good}
+use Rattle.circuit.specs.Circuit.{step, run}
+use Rattle.gates.specs.All.{All}
+use Rattle.tallies.specs.Tally.{tally, cnotsOf, rotationsOf}
+use Rattle.circuit.proofs.Steps.{step-cnot, step-rotation, cnot-other}
+use Rattle.circuit.proofs.Circuits.{run-none, run-cons}
 use Rattle.columns.specs.Terms.{Inside, Small, Bears}
 
 -- no bad gate: the list is as long as its CNOTs and rotations are many

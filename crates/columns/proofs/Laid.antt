@@ -16,9 +16,9 @@ use Rattle.sets.specs.Columns.{comb, units}
 use Rattle.sets.proofs.Bits.{bit-of-zero, bit-zero, bit-suc, by-bit}
 use Rattle.sets.proofs.Members.{in-lt, sub-eq}
 use Rattle.sets.proofs.Comb.{comb-units, getD-units, length-units}
-use Rattle.meaning.specs.declared.gate.Gate.{Gate}
-use Rattle.meaning.specs.Circuit.{run}
-use Rattle.meaning.specs.Tally.{cnotsOf}
+use Rattle.gates.specs.declared.gate.Gate.{Gate}
+use Rattle.circuit.specs.Circuit.{run}
+use Rattle.tallies.specs.Tally.{cnotsOf}
 use Rattle.columns.specs.Terms.{Bears, totalOf, LaysTerms, due, left, liveOne, live, Laying}
 use Rattle.columns.proofs.Tabling.{sum-ext, sum-none, sum-same}
 use Rattle.columns.proofs.Layings.{due-struck, due-is, live-one, live-none}

@@ -17,11 +17,11 @@ use Rattle.sets.specs.Columns.{comb, cnot}
 use Rattle.sets.proofs.Members.{in-lt}
 use Rattle.sets.proofs.Turn.{turn-zero}
 use Rattle.sets.proofs.Comb.{comb-turn, comb-pow}
-use Rattle.meaning.specs.declared.gate.Gate.{Gate}
-use Rattle.meaning.specs.declared.gate.Gate.the-variants.{Cnot, Rotation, Bad}
-use Rattle.meaning.specs.Circuit.{step, run, gives, given}
-use Rattle.meaning.proofs.Steps.{step-cnot, step-rotation, gives-cnot, gives-borne, gives-other}
-use Rattle.meaning.proofs.Circuits.{run-none, run-cons, run-append, run-length, given-none, given-cons, given-append}
+use Rattle.gates.specs.declared.gate.Gate.{Gate}
+use Rattle.gates.specs.declared.gate.Gate.the-variants.{Cnot, Rotation, Bad}
+use Rattle.circuit.specs.Circuit.{step, run, gives, given}
+use Rattle.circuit.proofs.Steps.{step-cnot, step-rotation, gives-cnot, gives-borne, gives-other}
+use Rattle.circuit.proofs.Circuits.{run-none, run-cons, run-append, run-length, given-none, given-cons, given-append}
 use Rattle.chip.specs.Graph.{Near}
 use Rattle.columns.specs.Tables.{sumTo}
 use Rattle.columns.specs.Turning.{turnedBy, turnAll}

@@ -10,7 +10,7 @@ use borrow.Author.Tests.{eq-eqb, ne-eqb}
 use Rattle.sets.specs.Pick.{pick, both}
 use Rattle.sets.specs.Size.{singleOf, lowestOf}
 use Rattle.sets.proofs.Ones.{ones-of-zero}
-use Rattle.meaning.specs.declared.gate.Gate.the-variants.{Rotation}
+use Rattle.gates.specs.declared.gate.Gate.the-variants.{Rotation}
 use Rattle.columns.specs.Emit.{emit, emitAt}
 use Rattle.columns.specs.Pieces.{piece, idle, andThen, held, wrote}
 use Rattle.columns.specs.Striking.{loneAt, strikeOne, strikeRow, strikeFrom}

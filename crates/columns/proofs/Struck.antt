@@ -15,7 +15,7 @@ use Rattle.sets.specs.Bit.{In, Sub}
 use Rattle.sets.specs.Size.{singleOf, lowestOf}
 use Rattle.sets.proofs.Bits.{bit-pow-same}
 use Rattle.sets.proofs.Words.{single-is}
-use Rattle.meaning.specs.Tally.{cnotsOf}
+use Rattle.tallies.specs.Tally.{cnotsOf}
 use Rattle.columns.specs.Pieces.{Piece, idle, andThen}
 use Rattle.columns.specs.Striking.{loneAt, strikeOne, strikeRow, strikeFrom, strikeOff}
 use Rattle.columns.specs.Terms.{Laying}

@@ -12,7 +12,7 @@ use Rattle.sets.specs.Size.{onlyOf}
 use Rattle.sets.specs.Columns.{turn}
 use Rattle.sets.proofs.Bits.{bit-of-zero}
 use Rattle.sets.proofs.Words.{only-is, has-true, has-false}
-use Rattle.meaning.specs.declared.gate.Gate.the-variants.{Cnot}
+use Rattle.gates.specs.declared.gate.Gate.the-variants.{Cnot}
 use Rattle.columns.specs.Emit.{emit, emitAt}
 use Rattle.columns.specs.Pieces.{piece, held, wrote}
 use Rattle.columns.specs.Turning.{turnedBy, turnAll, layCnot}

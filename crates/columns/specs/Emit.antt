@@ -5,8 +5,8 @@ use lib.Dec.{ltb}
 use lib.ListN.{length}
 use lib.Seq.{sets}
 use Rattle.sets.specs.Pick.{pick}
-use Rattle.meaning.specs.Layout.{recordOf}
-use Rattle.meaning.specs.declared.gate.Gate.{Gate}
+use Rattle.gates.specs.Layout.{recordOf}
+use Rattle.gates.specs.declared.gate.Gate.{Gate}
 
 -- the place behind one record more, where there is room for it
 unfoldable pub nextAt : List ℕ → ℕ → ℕ

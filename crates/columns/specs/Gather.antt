@@ -14,8 +14,8 @@ use Rattle.sets.specs.Bit.{bit, has, In}
 use Rattle.sets.specs.Size.{lowestOf, onlyOf}
 use Rattle.sets.specs.Columns.{turn}
 use Rattle.chip.specs.Graph.{Near}
-use Rattle.meaning.specs.declared.gate.Gate.{Gate}
-use Rattle.meaning.specs.declared.gate.Gate.the-variants.{Cnot, Rotation, Bad}
+use Rattle.gates.specs.declared.gate.Gate.{Gate}
+use Rattle.gates.specs.declared.gate.Gate.the-variants.{Cnot, Rotation, Bad}
 use Rattle.columns.specs.declared.gather.Moves.{Moves}
 use Rattle.columns.specs.declared.gather.Gathering.{Gathering}
 use Rattle.columns.specs.Order.{orderOf}

@@ -7,8 +7,8 @@ use lib.ListN.{length, getD, set}
 use Rattle.sets.specs.Pick.{pick, both}
 use Rattle.sets.specs.Size.{singleOf, lowestOf}
 use Rattle.sets.specs.Search.{someOf}
-use Rattle.meaning.specs.Limits.{mostQubits}
-use Rattle.meaning.specs.declared.gate.Gate.the-variants.{Rotation}
+use Rattle.gates.specs.Limits.{mostQubits}
+use Rattle.gates.specs.declared.gate.Gate.the-variants.{Rotation}
 use Rattle.columns.specs.Pieces.{Piece, piece, idle, andThen}
 
 -- the column x is the qubit q alone

@@ -9,11 +9,11 @@ use lib.Count.{ones}
 use Rattle.sets.specs.Pick.{pick}
 use Rattle.sets.specs.Bit.{In}
 use Rattle.sets.specs.Columns.{comb}
-use Rattle.meaning.specs.declared.gate.Gate.{Gate}
-use Rattle.meaning.specs.declared.gate.Gate.the-variants.{Cnot, Rotation, Bad}
-use Rattle.meaning.specs.Circuit.{run, given}
-use Rattle.meaning.specs.Same.{All}
-use Rattle.meaning.specs.Tally.{cnotsOf, rotationsOf}
+use Rattle.gates.specs.declared.gate.Gate.{Gate}
+use Rattle.gates.specs.declared.gate.Gate.the-variants.{Cnot, Rotation, Bad}
+use Rattle.circuit.specs.Circuit.{run, given}
+use Rattle.gates.specs.All.{All}
+use Rattle.tallies.specs.Tally.{cnotsOf, rotationsOf}
 use Rattle.chip.specs.Graph.{Near}
 use Rattle.columns.specs.Tables.{sumTo}
 

@@ -5,7 +5,7 @@ use Prim.Native.Nat.{ℕ}
 use lib.Bits.{bitXor}
 use Rattle.sets.specs.Bit.{bit, when}
 use Rattle.sets.specs.Size.{onlyOf}
-use Rattle.meaning.specs.declared.gate.Gate.the-variants.{Cnot}
+use Rattle.gates.specs.declared.gate.Gate.the-variants.{Cnot}
 use Rattle.columns.specs.Pieces.{Piece, piece}
 
 -- one column after CNOT c,t, as a number of 32 digits: sets' `turn` for qubits below 32

@@ -1,10 +1,10 @@
 // Laid gates go one behind another into a lent list of records, as many as there is room for.
-use meaning::gate;
-use meaning::gate::Gate;
+use gates::gate;
+use gates::gate::Gate;
 ghost use mathlib.Core.Path.{_≡_};
 ghost use mathlib.Core.List.{[], _∷_};
 ghost use lib.ListN.{set};
-ghost use Rattle.meaning.specs.declared.gate.Gate.the-variants.{Cnot, Rotation};
+ghost use Rattle.gates.specs.declared.gate.Gate.the-variants.{Cnot, Rotation};
 ghost use Rattle.columns.specs.Emit.{nextAt, emit, emitAt};
 
 // One record more, and the next place; nothing changes where there is no room.

@@ -1,5 +1,5 @@
 // Gathering a set at one of its qubits by moves along couplers, the farthest qubits first.
-use meaning::job::Job;
+use gates::job::Job;
 ghost use mathlib.Core.Path.{_≡_};
 ghost use Prim.Native.Nat.{_+_, _≤_};
 ghost use lib.ListN.{getD, length};
@@ -33,7 +33,7 @@ fn layer(near: [u32; Job::QUBITS], set: u32, done: u32, left: u32) -> u32
     ensures { λ r. ⌜ r ≡ layerOf near set done left ⌝ }
 {
     if left == 0 {
-        return chip::spare::grown(near, set, done) ^ done;
+        return spares::spare::grown(near, set, done) ^ done;
     }
     left
 }

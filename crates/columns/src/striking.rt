@@ -1,7 +1,7 @@
 // Columns of one qubit are laid as rotations and struck off.
 use crate::emit;
 use crate::turning;
-use meaning::job::Job;
+use gates::job::Job;
 ghost use mathlib.Core.Path.{_≡_};
 ghost use mathlib.Core.Bool.{false};
 ghost use lib.ListN.{length};

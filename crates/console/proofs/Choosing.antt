@@ -9,10 +9,9 @@ use lib.ListN.{length, take, drop, length-append}
 use lib.Seq.{length-take-le}
 use borrow.Author.Tests.{eq-eqb, ne-eqb}
 use Rattle.sets.specs.Pick.{pick}
-use Rattle.meaning.specs.declared.verdict.Verdict.{Verdict}
-use Rattle.meaning.specs.Verdicts.{numberOf}
-use Rattle.text.specs.Places.{onto}
-use Rattle.text.specs.Writings.{lineLength, lineAfter}
+use Rattle.verdicts.specs.declared.verdict.Verdict.{Verdict}
+use Rattle.verdicts.specs.Verdicts.{numberOf}
+use Rattle.lines.specs.Lent.{onto, lineLength, lineAfter}
 use Rattle.console.specs.Printed.{refusalOf, unless}
 
 module _ (v : Verdict) (s : List ℕ) where

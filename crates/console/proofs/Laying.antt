@@ -9,15 +9,15 @@ use lib.ListN.{length, take, drop, length-append, length-map}
 use lib.Seq.{take-append-seam, length-take-le}
 use borrow.Author.Tests.{eqb-true, eqb-false, eq-eqb}
 use Rattle.sets.specs.Pick.{pick}
-use Rattle.meaning.specs.declared.gate.Gate.{Gate}
-use Rattle.meaning.specs.declared.verdict.Verdict.{Verdict}
-use Rattle.meaning.specs.Layout.{recordOf}
-use Rattle.meaning.specs.Tally.{cnotsOf, rotationsOf, depthOf}
-use Rattle.meaning.specs.Verdicts.{numberOf}
+use Rattle.gates.specs.declared.gate.Gate.{Gate}
+use Rattle.verdicts.specs.declared.verdict.Verdict.{Verdict}
+use Rattle.gates.specs.Layout.{recordOf}
+use Rattle.tallies.specs.Tally.{cnotsOf, rotationsOf, depthOf}
+use Rattle.verdicts.specs.Verdicts.{numberOf}
 use Rattle.laying.specs.Verdict.{verdictOf, circuitOf, countsOf, answered, outputOf}
 use Rattle.laying.specs.declared.lay.Answer.{Answer}
 use Rattle.laying.specs.declared.lay.Answer.the-variants.{Laid, Refused}
-use Rattle.text.specs.Lines.{countsText}
+use Rattle.lines.specs.Lines.{countsText}
 use Rattle.console.specs.Printed.{largest, refusalOf, jobText, laidJob, countedJob}
 use Rattle.console.proofs.Choosing.{unless-passed, unless-refused}
 

@@ -9,14 +9,14 @@ use lib.ListN.{length, take, drop, length-append}
 use lib.Seq.{take-append-seam, length-take-le}
 use borrow.Author.Tests.{eqb-true, eqb-false}
 use Rattle.sets.specs.Pick.{pick}
-use Rattle.meaning.specs.declared.job.Job.{Job}
-use Rattle.meaning.specs.declared.verdict.Verdict.{Verdict}
-use Rattle.meaning.specs.Verdicts.{numberOf}
-use Rattle.text.specs.Parsing.{Parsed, misfit, job, parsed}
-use Rattle.text.specs.Places.{onto}
-use Rattle.text.specs.Readings.{couplersIn, gatesIn, jobIn, judgedReading, readingOf, listAfter}
-use Rattle.text.specs.declared.read.Reading.{Reading}
-use Rattle.text.specs.declared.read.Reading.the-variants.{Read, Refused}
+use Rattle.gates.specs.declared.job.Job.{Job}
+use Rattle.verdicts.specs.declared.verdict.Verdict.{Verdict}
+use Rattle.verdicts.specs.Verdicts.{numberOf}
+use Rattle.reading.specs.Parsing.{Parsed, misfit, job, parsed}
+use Rattle.lines.specs.Lent.{onto}
+use Rattle.reading.specs.Readings.{couplersIn, gatesIn, jobIn, judgedReading, readingOf, listAfter}
+use Rattle.reading.specs.declared.read.Reading.{Reading}
+use Rattle.reading.specs.declared.read.Reading.the-variants.{Read, Refused}
 use Rattle.console.specs.Printed.{mostLines, refusalOf, laidJob, countedJob, laidText, countedText}
 use Rattle.console.proofs.Choosing.{unless-passed, unless-refused}
 

@@ -10,30 +10,31 @@ use lib.ListN.{length, getD, length-append, length-map}
 use borrow.Author.Tests.{ltb-true, ltb-false, le-ltb, le-leb, eqb-true, eqb-false}
 use Rattle.sets.specs.Pick.{pick}
 use Rattle.sets.proofs.Finding.{first-is}
-use Rattle.meaning.specs.declared.gate.Gate.{Gate}
-use Rattle.meaning.specs.declared.gate.Gate.the-variants.{Cnot, Rotation, Bad}
-use Rattle.meaning.specs.declared.verdict.Verdict.{Verdict}
-use Rattle.meaning.specs.declared.verdict.Verdict.the-variants.{Accepted, ManyCouplers, WrongCoupler, BadGate, Room}
-use Rattle.meaning.specs.Layout.{packed, gateOf, isBad, recordOf, Good, couplerOf, isWrong}
-use Rattle.meaning.specs.Same.{All}
-use Rattle.meaning.specs.Verdicts.{numberOf, firstFailing, judgedQubits, wrongAt, judgedCouplers, badAt, judgedGates}
-use Rattle.meaning.proofs.Records.{gate-record}
-use Rattle.meaning.proofs.Judged.{then-zero}
+use Rattle.gates.specs.declared.gate.Gate.{Gate}
+use Rattle.gates.specs.declared.gate.Gate.the-variants.{Cnot, Rotation, Bad}
+use Rattle.verdicts.specs.declared.verdict.Verdict.{Verdict}
+use Rattle.verdicts.specs.declared.verdict.Verdict.the-variants.{Accepted, ManyCouplers, WrongCoupler, BadGate, Room}
+use Rattle.gates.specs.Layout.{packed, gateOf, isBad, recordOf, Good, couplerOf, isWrong}
+use Rattle.gates.specs.All.{All}
+use Rattle.verdicts.specs.Verdicts.{numberOf, firstFailing, judgedQubits, wrongAt, judgedCouplers, badAt, judgedGates}
+use Rattle.gates.proofs.Records.{gate-record}
+use Rattle.verdicts.proofs.Judged.{then-zero}
 use Rattle.chip.specs.Graph.{Near}
 use Rattle.chip.specs.Couplers.{nearOf}
 use Rattle.chip.specs.Ordered.{orderedList}
 use Rattle.chip.proofs.Order.{ordered-sound, ordered-few}
 use Rattle.chip.proofs.Neighbours.{coupler-packed, near-below}
 use Rattle.laying.specs.Layable.{Layable}
-use Rattle.laying.specs.Verdict.{judgedJob, verdictOf, circuitOf}
+use Rattle.judging.specs.Tests.{judgedJob}
+use Rattle.laying.specs.Verdict.{verdictOf, circuitOf}
 use Rattle.laying.proofs.Accepting.{job-layable}
 use Rattle.laying.proofs.Accepted.{circuit-good, circuit-fine}
-use Rattle.text.specs.Lines.{digits, fieldsText, lineText, recordText, recordsText, textOf}
-use Rattle.text.specs.Parsing.{parsed}
-use Rattle.text.specs.Readings.{couplersIn, gatesIn, jobIn, judgedReading}
+use Rattle.lines.specs.Lines.{digits, fieldsText, lineText, recordText, recordsText, textOf}
+use Rattle.reading.specs.Parsing.{parsed}
+use Rattle.reading.specs.Readings.{couplersIn, gatesIn, jobIn, judgedReading}
 use Rattle.text.specs.Writings.{judgedRoom, judgedText}
 use Rattle.text.proofs.Judging.{judged-room}
-use Rattle.text.proofs.Writes.{width-small, width-big, line-length, record-length, text-length}
+use Rattle.lines.proofs.Writes.{width-small, width-big, line-length, record-length, text-length}
 use Rattle.console.specs.Printed.{mostLines, largest, mostPrinted, refusalOf, unless, jobText, laidJob, laidText, wholeJob, wholeText}
 use Rattle.console.proofs.Choosing.{unless-passed, unless-refused}
 

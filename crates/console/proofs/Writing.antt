@@ -9,15 +9,15 @@ use lib.ListN.{length, take, length-take}
 use lib.Seq.{length-take-le}
 use borrow.Author.Tests.{eqb-true, eqb-false, ne-eqb, le-leb}
 use Rattle.sets.specs.Pick.{pick}
-use Rattle.meaning.specs.declared.verdict.Verdict.{Verdict}
-use Rattle.meaning.specs.Verdicts.{numberOf}
+use Rattle.verdicts.specs.declared.verdict.Verdict.{Verdict}
+use Rattle.verdicts.specs.Verdicts.{numberOf}
 use Rattle.chip.specs.declared.couplers.Ordered.{Ordered}
 use Rattle.chip.specs.Couplers.{nearOf}
 use Rattle.chip.specs.Ordered.{orderedOf, orderedList}
 use Rattle.chip.proofs.Order.{ordered-take, ordered-len}
-use Rattle.text.specs.Lines.{textOf}
-use Rattle.text.specs.Places.{onto}
-use Rattle.text.specs.Writings.{judgedText, writingOf, textAfter, lineLength, lineAfter}
+use Rattle.lines.specs.Lines.{textOf}
+use Rattle.lines.specs.Lent.{onto, lineLength, lineAfter}
+use Rattle.text.specs.Writings.{judgedText, writingOf, textAfter}
 use Rattle.text.specs.declared.write.Writing.{Writing}
 use Rattle.text.specs.declared.write.Writing.the-variants.{Written, Refused}
 use Rattle.text.proofs.Judging.{Accepts, written}

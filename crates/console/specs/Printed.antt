@@ -3,16 +3,16 @@ use mathlib.Core.List.{List, map}
 use Prim.Native.Nat.{ℕ}
 use lib.Dec.{eqb}
 use Rattle.sets.specs.Pick.{pick}
-use Rattle.meaning.specs.declared.verdict.Verdict.{Verdict}
-use Rattle.meaning.specs.Layout.{recordOf}
-use Rattle.meaning.specs.Tally.{cnotsOf, rotationsOf, depthOf}
-use Rattle.meaning.specs.Verdicts.{numberOf, placeOf}
+use Rattle.verdicts.specs.declared.verdict.Verdict.{Verdict}
+use Rattle.gates.specs.Layout.{recordOf}
+use Rattle.tallies.specs.Tally.{cnotsOf, rotationsOf, depthOf}
+use Rattle.verdicts.specs.Verdicts.{numberOf, placeOf}
 use Rattle.chip.specs.Couplers.{nearOf}
 use Rattle.chip.specs.Ordered.{orderedList}
 use Rattle.laying.specs.Verdict.{verdictOf, circuitOf}
-use Rattle.text.specs.Lines.{textOf, refusalText, countsText}
-use Rattle.text.specs.Parsing.{parsed}
-use Rattle.text.specs.Readings.{couplersIn, gatesIn, jobIn, judgedReading}
+use Rattle.lines.specs.Lines.{textOf, refusalText, countsText}
+use Rattle.reading.specs.Parsing.{parsed}
+use Rattle.reading.specs.Readings.{couplersIn, gatesIn, jobIn, judgedReading}
 use Rattle.text.specs.Writings.{judgedText}
 
 -- "it lends the reader 10,922 records for each list"

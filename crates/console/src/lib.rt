@@ -3,16 +3,16 @@
 use chip::couplers;
 use laying::lay;
 use laying::lay::Answer;
-use meaning::verdict;
-use meaning::verdict::Verdict;
-use text::print;
-use text::read;
-use text::read::Reading;
+use lines::print;
+use reading::read;
+use reading::read::Reading;
 use text::write;
 use text::write::Writing;
+use verdicts::verdict;
+use verdicts::verdict::Verdict;
 ghost use mathlib.Core.Path.{_≡_};
 ghost use lib.ListN.{length};
-ghost use Rattle.text.specs.Writings.{lineLength, lineAfter};
+ghost use Rattle.lines.specs.Lent.{lineLength, lineAfter};
 ghost use Rattle.console.specs.Printed.{refusalOf, jobText, laidJob, countedJob, laidText, countedText};
 
 // Read of standard input: one byte more than a job's text may have, so that the reader sees a longer one.

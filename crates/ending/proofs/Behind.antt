@@ -3,12 +3,12 @@ use mathlib.Core.Path.{_≡_, refl, sym, ap, _∙_}
 use mathlib.Core.List.{List, [], _∷_, _++_}
 use Prim.Native.Nat.{ℕ, _+_}
 use native.Mathlib.Omega.{arith}
-use Rattle.meaning.specs.declared.gate.Gate.{Gate}
-use Rattle.meaning.specs.declared.gate.Gate.the-variants.{Cnot, Rotation, Bad}
-use Rattle.meaning.specs.Circuit.{step, run, given}
-use Rattle.meaning.specs.Same.{All}
-use Rattle.meaning.proofs.Steps.{gives-cnot}
-use Rattle.meaning.proofs.Circuits.{given-none, given-cons, given-append}
+use Rattle.gates.specs.declared.gate.Gate.{Gate}
+use Rattle.gates.specs.declared.gate.Gate.the-variants.{Cnot, Rotation, Bad}
+use Rattle.circuit.specs.Circuit.{step, run, given}
+use Rattle.gates.specs.All.{All}
+use Rattle.circuit.proofs.Steps.{gives-cnot}
+use Rattle.circuit.proofs.Circuits.{given-none, given-cons, given-append}
 use Rattle.columns.specs.Terms.{Inside}
 use Rattle.columns.specs.Gather.{Coupled, Within}
 

@@ -19,9 +19,9 @@ use Rattle.sets.proofs.Members.{in-lt, some-bit}
 use Rattle.sets.proofs.Ones.{ones-drop, ones-of-zero}
 use Rattle.sets.proofs.Words.{only-is}
 use Rattle.chip.specs.Graph.{Symm, Joined}
-use Rattle.chip.specs.Spare.{spareOf}
-use Rattle.chip.proofs.Spares.{spare-in, spare-joined, spare-other}
-use Rattle.meaning.specs.declared.gate.Gate.{Gate}
+use Rattle.spares.specs.Spare.{spareOf}
+use Rattle.spares.proofs.Spares.{spare-in, spare-joined, spare-other}
+use Rattle.gates.specs.declared.gate.Gate.{Gate}
 use Rattle.columns.specs.Gather.{turns, flip, Coupled, Within, gatherOf}
 use Rattle.columns.proofs.GatherWorks.{coupled-within, gather-few}
 use Rattle.ending.specs.Rows.{played}

@@ -10,9 +10,9 @@ use lib.ListN.{getD, length, length-append, replicate}
 use lib.Seq.{sets}
 use borrow.Author.Tests.{eq-eqb, ne-eqb, lt-ltb, le-ltb}
 use Rattle.sets.specs.Pick.{pick, both}
-use Rattle.chip.specs.Spare.{spareOf}
-use Rattle.meaning.specs.declared.gate.Gate.{Gate}
-use Rattle.meaning.specs.declared.gate.Gate.the-variants.{Cnot, Rotation, Bad}
+use Rattle.spares.specs.Spare.{spareOf}
+use Rattle.gates.specs.declared.gate.Gate.{Gate}
+use Rattle.gates.specs.declared.gate.Gate.the-variants.{Cnot, Rotation, Bad}
 use Rattle.columns.specs.declared.gather.Moves.{Moves}
 use Rattle.columns.specs.Gather.{flip, gatherOf, controlOf, targetOf, movesIn, cnotsIn, Plain}
 use Rattle.columns.proofs.GatherWorks.{gather-few}

@@ -22,12 +22,12 @@ use Rattle.sets.proofs.Turn.{turn-on, turn-off, turn-other}
 use Rattle.sets.proofs.Members.{in-lt, sub-eq, xor-sub, in-pow}
 use Rattle.chip.specs.Graph.{Symm, Joined}
 use Rattle.chip.proofs.Growth.{pow-sub}
-use Rattle.meaning.specs.declared.gate.Gate.{Gate}
-use Rattle.meaning.specs.declared.gate.Gate.the-variants.{Cnot, Rotation, Bad}
-use Rattle.meaning.specs.Layout.{Good}
-use Rattle.meaning.specs.Circuit.{run}
-use Rattle.meaning.specs.Same.{All}
-use Rattle.meaning.specs.Tally.{tally, oneCnot, oneRotation, cnotsOf, rotationsOf}
+use Rattle.gates.specs.declared.gate.Gate.{Gate}
+use Rattle.gates.specs.declared.gate.Gate.the-variants.{Cnot, Rotation, Bad}
+use Rattle.gates.specs.Layout.{Good}
+use Rattle.circuit.specs.Circuit.{run}
+use Rattle.gates.specs.All.{All}
+use Rattle.tallies.specs.Tally.{tally, oneCnot, oneRotation, cnotsOf, rotationsOf}
 use Rattle.columns.specs.Gather.{turns, flip, Coupled, Within}
 use Rattle.columns.proofs.GatherWorks.{turns-append, coupled-append, coupled-within}
 use Rattle.columns.proofs.OrderParts.{sub-lt}

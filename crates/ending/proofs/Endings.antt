@@ -17,8 +17,8 @@ use Rattle.sets.proofs.Dot.{dot-comm, dot-pow}
 use Rattle.sets.proofs.Members.{put-other, sub-drop, sub-eq, single-sub, in-pow}
 use Rattle.sets.proofs.Ones.{ones-drop, ones-zero, drop-same}
 use Rattle.chip.specs.Graph.{Symm, Joined}
-use Rattle.meaning.specs.declared.gate.Gate.{Gate}
-use Rattle.meaning.specs.Circuit.{run}
+use Rattle.gates.specs.declared.gate.Gate.{Gate}
+use Rattle.circuit.specs.Circuit.{run}
 use Rattle.columns.specs.Gather.{turns, flip, Coupled, Within}
 use Rattle.columns.proofs.GatherWorks.{turns-append, coupled-append, coupled-up, coupled-within}
 use Rattle.ending.specs.Ends.{Ready, TakesOut, Ends, last, out, spent, Ended}

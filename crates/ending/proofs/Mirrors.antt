@@ -17,13 +17,13 @@ use Rattle.sets.proofs.Comb.{comb-turn, comb-pow, getD-units}
 use Rattle.sets.proofs.Dot.{dot-xor, dot-comm, dot-pow, dot-lt, dot-zero, dot-when}
 use Rattle.sets.proofs.Members.{in-lt, in-and, xor-sub, in-pow}
 use Rattle.sets.proofs.Ones.{ones-of-zero}
-use Rattle.meaning.specs.declared.gate.Gate.{Gate}
-use Rattle.meaning.specs.declared.gate.Gate.the-variants.{Cnot, Rotation, Bad}
-use Rattle.meaning.specs.Layout.{Good}
-use Rattle.meaning.specs.Circuit.{step, run, start, finalOf}
-use Rattle.meaning.specs.Same.{All}
-use Rattle.meaning.proofs.Steps.{cnot-past-target, cnot-target, cnot-other, step-cnot, step-rotation, step-bad, step-length}
-use Rattle.meaning.proofs.Circuits.{run-none, run-cons, run-length, start-length, final-is}
+use Rattle.gates.specs.declared.gate.Gate.{Gate}
+use Rattle.gates.specs.declared.gate.Gate.the-variants.{Cnot, Rotation, Bad}
+use Rattle.gates.specs.Layout.{Good}
+use Rattle.circuit.specs.Circuit.{step, run, start, finalOf}
+use Rattle.gates.specs.All.{All}
+use Rattle.circuit.proofs.Steps.{cnot-past-target, cnot-target, cnot-other, step-cnot, step-rotation, step-bad, step-length}
+use Rattle.circuit.proofs.Circuits.{run-none, run-cons, run-length, start-length, final-is}
 use Rattle.columns.specs.Gather.{turns, flip}
 use Rattle.ending.specs.Mirror.{mirrorsOf, mirrorOf, Paired, Bordered, Parted}
 use Rattle.ending.specs.Ends.{Ready}

@@ -8,9 +8,9 @@ use native.Mathlib.Numerals.{add-one}
 use native.Mathlib.Decide.{ℕ-discrete}
 use lib.ListN.{getD, length, drop, set, length-set, length-map, List·getD-map, length-drop}
 use lib.Seq.{getD-set-same, getD-set-other, drop-cons, ext-getD, drop-length}
-use Rattle.meaning.specs.declared.gate.Gate.{Gate}
-use Rattle.meaning.specs.declared.gate.Gate.the-variants.{Cnot, Rotation, Bad}
-use Rattle.meaning.specs.Layout.{gateOf, gatesOf}
+use Rattle.gates.specs.declared.gate.Gate.{Gate}
+use Rattle.gates.specs.declared.gate.Gate.the-variants.{Cnot, Rotation, Bad}
+use Rattle.gates.specs.Layout.{gateOf, gatesOf}
 use Rattle.columns.specs.Turning.{turnedBy}
 use Rattle.columns.specs.Gather.{flip, cnotsIn}
 use Rattle.columns.proofs.Turns.{turned-zero}

@@ -15,8 +15,8 @@ use Rattle.sets.specs.Bit.{has, In}
 use Rattle.sets.specs.Size.{sizeOf, onlyOf}
 use Rattle.sets.proofs.Ones.{ones-drop}
 use Rattle.sets.proofs.Words.{only-is, has-true}
-use Rattle.chip.specs.Spare.{connectedOf, spareOf}
-use Rattle.meaning.specs.declared.gate.Gate.{Gate}
+use Rattle.spares.specs.Spare.{connectedOf, spareOf}
+use Rattle.gates.specs.declared.gate.Gate.{Gate}
 use Rattle.columns.specs.Emit.{emitAt}
 use Rattle.columns.proofs.Emitting.{emit-at-room}
 use Rattle.columns.specs.Gather.{flip}

@@ -11,7 +11,7 @@ use Rattle.sets.specs.Bit.{bit, In, Sub}
 use Rattle.sets.specs.Columns.{dot}
 use Rattle.sets.proofs.Dot.{dot-comm, dot-pow, dot-zero}
 use Rattle.chip.specs.Graph.{Symm, Joined}
-use Rattle.meaning.specs.declared.gate.Gate.{Gate}
+use Rattle.gates.specs.declared.gate.Gate.{Gate}
 use Rattle.columns.specs.Gather.{turns, flip, Coupled, Gathers, gatherOf}
 use Rattle.columns.proofs.GatherWorks.{gathers, gather-stands, turns-append, coupled-append, coupled-within}
 use Rattle.ending.specs.Rows.{played}

@@ -18,11 +18,11 @@ use Rattle.sets.proofs.Dot.{dot-turn}
 use Rattle.sets.proofs.Comb.{comb-turn, comb-pow, comb-units, length-units, getD-units}
 use Rattle.sets.proofs.Members.{in-lt}
 use Rattle.chip.specs.Graph.{Near, Symm}
-use Rattle.meaning.specs.declared.gate.Gate.{Gate}
-use Rattle.meaning.specs.declared.gate.Gate.the-variants.{Cnot, Rotation, Bad}
-use Rattle.meaning.specs.Circuit.{step, run}
-use Rattle.meaning.proofs.Steps.{cnot-other, step-cnot, step-rotation, step-bad, step-length}
-use Rattle.meaning.proofs.Circuits.{run-none, run-cons}
+use Rattle.gates.specs.declared.gate.Gate.{Gate}
+use Rattle.gates.specs.declared.gate.Gate.the-variants.{Cnot, Rotation, Bad}
+use Rattle.circuit.specs.Circuit.{step, run}
+use Rattle.circuit.proofs.Steps.{cnot-other, step-cnot, step-rotation, step-bad, step-length}
+use Rattle.circuit.proofs.Circuits.{run-none, run-cons}
 use Rattle.columns.specs.Gather.{turns, flip, On, Coupled, Within, Spares}
 use Rattle.columns.proofs.Turns.{turned-is}
 use Rattle.ending.specs.Rows.{played}

@@ -6,13 +6,13 @@ use native.Mathlib.Omega.{arith}
 use native.Mathlib.Numerals.{add-one}
 use lib.ListN.{getD, length, take, drop, length-append}
 use lib.Seq.{take-suc, take-length, drop-cons}
-use Rattle.meaning.specs.declared.gate.Gate.{Gate}
-use Rattle.meaning.specs.declared.gate.Gate.the-variants.{Cnot, Rotation, Bad}
-use Rattle.meaning.specs.Layout.{gateOf, gatesOf}
-use Rattle.meaning.specs.declared.wires.Wires.{Wires}
-use Rattle.meaning.specs.Told.{wiresOf}
-use Rattle.meaning.specs.Circuit.{run}
-use Rattle.meaning.proofs.Circuits.{run-append}
+use Rattle.gates.specs.declared.gate.Gate.{Gate}
+use Rattle.gates.specs.declared.gate.Gate.the-variants.{Cnot, Rotation, Bad}
+use Rattle.gates.specs.Layout.{gateOf, gatesOf}
+use Rattle.circuit.specs.declared.wires.Wires.{Wires}
+use Rattle.circuit.specs.State.{wiresOf}
+use Rattle.circuit.specs.Circuit.{run}
+use Rattle.circuit.proofs.Circuits.{run-append}
 use Rattle.columns.specs.Emit.{emit, emitAt}
 use Rattle.columns.proofs.Emitting.{emit-none, emit-at-none, emit-append, emit-at-append, emit-length}
 use Rattle.columns.specs.Gather.{flip, cnotsIn}

@@ -5,8 +5,8 @@ use Prim.Native.Nat.{ℕ, zero, suc, _+_, _/_, _%_}
 use lib.Dec.{eqb, ltb}
 use lib.ListN.{getD, length}
 use Rattle.sets.specs.Pick.{pick, both}
-use Rattle.chip.specs.Spare.{spareOf}
-use Rattle.meaning.specs.declared.gate.Gate.{Gate}
+use Rattle.spares.specs.Spare.{spareOf}
+use Rattle.gates.specs.declared.gate.Gate.{Gate}
 use Rattle.columns.specs.Gather.{flip, gatherOf}
 use Rattle.ending.specs.Rows.{played}
 

@@ -10,11 +10,11 @@ use Rattle.sets.specs.Bit.{bit, In, Sub}
 use Rattle.sets.specs.Size.{sizeOf}
 use Rattle.sets.specs.Columns.{dot}
 use Rattle.chip.specs.Graph.{Joined}
-use Rattle.meaning.specs.declared.gate.Gate.{Gate}
-use Rattle.meaning.specs.Layout.{Good}
-use Rattle.meaning.specs.Circuit.{run}
-use Rattle.meaning.specs.Same.{All}
-use Rattle.meaning.specs.Tally.{cnotsOf, rotationsOf}
+use Rattle.gates.specs.declared.gate.Gate.{Gate}
+use Rattle.gates.specs.Layout.{Good}
+use Rattle.circuit.specs.Circuit.{run}
+use Rattle.gates.specs.All.{All}
+use Rattle.tallies.specs.Tally.{cnotsOf, rotationsOf}
 use Rattle.columns.specs.Gather.{turns, flip, Coupled}
 
 -- asked rows N and mirror rows C of the island Q: inside it, and row i meets mirror row j in an odd number of wires exactly where i is j

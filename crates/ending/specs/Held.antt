@@ -4,8 +4,8 @@ use Prim.Native.Nat.{ℕ, _/_}
 use lib.Dec.{ltb}
 use lib.ListN.{length}
 use Rattle.sets.specs.Pick.{pick, both}
-use Rattle.chip.specs.Spare.{spareOf}
-use Rattle.meaning.specs.declared.gate.Gate.{Gate}
+use Rattle.spares.specs.Spare.{spareOf}
+use Rattle.gates.specs.declared.gate.Gate.{Gate}
 use Rattle.columns.specs.declared.gather.Moves.{Moves}
 use Rattle.columns.specs.Gather.{flip}
 use Rattle.ending.specs.declared.clearing.Standing.{Standing}

@@ -6,9 +6,9 @@ use Prim.Native.Nat.{ℕ, _<_}
 use lib.ListN.{getD}
 use Rattle.sets.specs.Bit.{bit, In, Sub}
 use Rattle.sets.specs.Columns.{dot}
-use Rattle.meaning.specs.declared.gate.Gate.{Gate}
-use Rattle.meaning.specs.declared.gate.Gate.the-variants.{Cnot, Rotation, Bad}
-use Rattle.meaning.specs.Circuit.{run, start, finalOf}
+use Rattle.gates.specs.declared.gate.Gate.{Gate}
+use Rattle.gates.specs.declared.gate.Gate.the-variants.{Cnot, Rotation, Bad}
+use Rattle.circuit.specs.Circuit.{run, start, finalOf}
 use Rattle.columns.specs.Gather.{flip}
 
 -- "mirror[c] ^= mirror[t], starting from 2^i"

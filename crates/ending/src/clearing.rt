@@ -2,7 +2,7 @@
 use crate::rows;
 use columns::gather;
 use columns::gather::Moves;
-use meaning::job::Job;
+use gates::job::Job;
 ghost use mathlib.Core.Path.{_≡_};
 ghost use Prim.Native.Nat.{_<_};
 ghost use lib.ListN.{length};
@@ -118,7 +118,7 @@ fn better(
     requires { ⌜ k < 40 ⌝ }
     ensures { λ r. ⌜ r ≡ betterOf near set asked mirror k best least ⌝ }
 {
-    if chip::spare::spare(near, set, k / 2) {
+    if spares::spare::spare(near, set, k / 2) {
         let n = cost(near, set, asked, mirror, k);
         if n < least {
             return Best { k, cost: n };

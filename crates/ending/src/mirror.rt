@@ -1,13 +1,13 @@
 // The mirror of a list of gates, which the ending needs beside the final parities.
-use meaning::gate;
-use meaning::gate::Gate;
-use meaning::job::Job;
-use meaning::wires;
-use meaning::wires::Wires;
+use circuit::wires;
+use circuit::wires::Wires;
+use gates::gate;
+use gates::gate::Gate;
+use gates::job::Job;
 ghost use mathlib.Core.Path.{_≡_};
 ghost use mathlib.Core.List.{[], _∷_};
-ghost use Rattle.meaning.specs.Circuit.{run};
-ghost use Rattle.meaning.specs.Layout.{gatesOf};
+ghost use Rattle.circuit.specs.Circuit.{run};
+ghost use Rattle.gates.specs.Layout.{gatesOf};
 ghost use Rattle.columns.specs.Gather.{flip};
 ghost use Rattle.ending.specs.Mirror.{mirrorsOf};
 

@@ -1,13 +1,13 @@
 // Asked rows and mirror rows under gates.
 use columns::gather;
 use columns::turning;
-use meaning::gate;
-use meaning::gate::Gate;
-use meaning::job::Job;
+use gates::gate;
+use gates::gate::Gate;
+use gates::job::Job;
 ghost use mathlib.Core.Path.{_≡_};
 ghost use mathlib.Core.List.{[], _∷_, map};
 ghost use Prim.Native.Nat.{_≤_};
-ghost use Rattle.meaning.specs.Layout.{gatesOf};
+ghost use Rattle.gates.specs.Layout.{gatesOf};
 ghost use Rattle.columns.specs.Gather.{cnotsIn};
 ghost use Rattle.ending.specs.Rows.{played, seen};
 

@@ -8,26 +8,29 @@ use lib.ListN.{length}
 use Rattle.sets.specs.Pick.{pick, both}
 use Rattle.sets.specs.Search.{someOf}
 use Rattle.sets.proofs.Finding.{first-is, some-no}
-use Rattle.meaning.specs.declared.gate.Gate.{Gate}
-use Rattle.meaning.specs.declared.gate.Gate.the-variants.{Cnot, Rotation, Bad}
-use Rattle.meaning.specs.declared.verdict.Verdict.the-variants.{Accepted, Stuck}
-use Rattle.meaning.specs.Layout.{gatesOf, Good}
+use Rattle.gates.specs.declared.gate.Gate.{Gate}
+use Rattle.gates.specs.declared.gate.Gate.the-variants.{Cnot, Rotation, Bad}
+use Rattle.verdicts.specs.declared.verdict.Verdict.the-variants.{Accepted, Stuck}
+use Rattle.gates.specs.Layout.{gatesOf, Good}
 use Rattle.meaning.specs.Borne.{terms}
-use Rattle.meaning.specs.Same.{All, OnCoupler, SameMeaning, Reachable}
-use Rattle.meaning.specs.Tally.{tally, cnotsOf, rotationsOf, boundOf}
-use Rattle.meaning.specs.Verdicts.{numberOf}
-use Rattle.meaning.proofs.Judged.{then-on}
-use Rattle.meaning.proofs.Alls.{all-map}
+use Rattle.gates.specs.All.{All}
+use Rattle.gates.specs.Listed.{OnCoupler}
+use Rattle.meaning.specs.Same.{SameMeaning, Reachable}
+use Rattle.tallies.specs.Tally.{tally, cnotsOf, rotationsOf, boundOf}
+use Rattle.verdicts.specs.Verdicts.{numberOf}
+use Rattle.verdicts.proofs.Judged.{then-on}
+use Rattle.gates.proofs.Alls.{all-map}
 use Rattle.meaning.proofs.Bearing.{terms-few}
-use Rattle.meaning.proofs.Tallies.{product-le}
-use Rattle.meaning.proofs.Wiring.{good-up}
+use Rattle.tallies.proofs.Tallies.{product-le}
+use Rattle.circuit.proofs.Wiring.{good-up}
 use Rattle.chip.specs.Couplers.{nearOf}
-use Rattle.chip.specs.Islands.{islandOf}
+use Rattle.isles.specs.Islands.{islandOf}
 use Rattle.laying.specs.Islands.{leads}
 use Rattle.laying.specs.Laid.{onIsland, laidOf, stuckOn}
 use Rattle.laying.specs.Layable.{Layable}
-use Rattle.laying.specs.Memory.{Fine}
-use Rattle.laying.specs.Verdict.{judgedJob, judgedStuck, verdictOf, circuitOf}
+use Rattle.ways.specs.Memory.{Fine}
+use Rattle.judging.specs.Tests.{judgedJob}
+use Rattle.laying.specs.Verdict.{judgedStuck, verdictOf, circuitOf}
 use Rattle.laying.proofs.Job.{laid-same, laid-good, laid-coupled, laid-reaches, laid-rotations, laid-cnots}
 use Rattle.laying.proofs.Both.{island-lays, island-placed, never-stuck}
 use Rattle.laying.proofs.Accepting.{job-layable}

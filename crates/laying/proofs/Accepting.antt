@@ -16,32 +16,31 @@ use Rattle.sets.specs.Size.{lowestOf}
 use Rattle.sets.specs.Search.{firstOf, someOf}
 use Rattle.sets.proofs.Finding.{first-true, first-before, first-is, some-no}
 use Rattle.sets.proofs.Words.{lowest-in, lowest-below}
-use Rattle.meaning.specs.declared.gate.Gate.{Gate}
-use Rattle.meaning.specs.declared.verdict.Verdict.{Verdict}
-use Rattle.meaning.specs.declared.verdict.Verdict.the-variants.{Accepted, Qubits, ManyCouplers, WrongCoupler, ManyGates, BadGate, ManyParities, Unreachable, Room}
-use Rattle.meaning.specs.Layout.{gatesOf, Good}
-use Rattle.meaning.specs.Circuit.{run, start, finalOf, Term}
+use Rattle.gates.specs.declared.gate.Gate.{Gate}
+use Rattle.verdicts.specs.declared.verdict.Verdict.{Verdict}
+use Rattle.verdicts.specs.declared.verdict.Verdict.the-variants.{Accepted, Qubits, ManyCouplers, WrongCoupler, ManyGates, BadGate, ManyParities, Unreachable, Room}
+use Rattle.gates.specs.Layout.{gatesOf, Good}
+use Rattle.circuit.specs.Circuit.{run, start, finalOf, Term}
 use Rattle.meaning.specs.Borne.{Among, borne, terms, overAt}
-use Rattle.meaning.specs.Same.{All}
-use Rattle.meaning.specs.Tally.{boundOf}
-use Rattle.meaning.specs.Verdicts.{numberOf, placeOf, wrongAt, badAt, judgedQubits, judgedCouplers, judgedGates}
-use Rattle.meaning.specs.InOrder.{andThen}
-use Rattle.meaning.proofs.Judged.{zero-accepted, then-zero}
-use Rattle.meaning.proofs.Circuits.{final-is}
-use Rattle.meaning.proofs.Wiring.{borne-not-empty, borne-below}
-use Rattle.meaning.proofs.Bearing.{term-among, among-term, terms-borne}
+use Rattle.gates.specs.All.{All}
+use Rattle.tallies.specs.Tally.{boundOf}
+use Rattle.verdicts.specs.Verdicts.{numberOf, placeOf, wrongAt, badAt, judgedQubits, judgedCouplers, judgedGates}
+use Rattle.verdicts.specs.InOrder.{andThen}
+use Rattle.verdicts.proofs.Judged.{zero-accepted, then-zero}
+use Rattle.circuit.proofs.Circuits.{final-is}
+use Rattle.meaning.proofs.Bearing.{borne-not-empty, borne-below, term-among, among-term, terms-borne}
 use Rattle.meaning.proofs.Lists.{among-at, at-among}
-use Rattle.meaning.proofs.Alls.{accepted-good}
+use Rattle.verdicts.proofs.Passing.{accepted-good}
 use Rattle.chip.specs.Couplers.{nearOf}
-use Rattle.chip.specs.Islands.{islandOf, islandsOf}
-use Rattle.chip.proofs.Isles.{getD-islands}
-use Rattle.laying.specs.Own.{insideOf}
+use Rattle.isles.specs.Islands.{islandOf, islandsOf}
+use Rattle.isles.proofs.Isles.{getD-islands}
+use Rattle.share.specs.Own.{insideOf}
 use Rattle.laying.specs.Reach.{Within}
 use Rattle.laying.specs.Layable.{Layable}
-use Rattle.laying.specs.Verdict.{judgedCount, judgedParities, leavesAt, strayAt, scatters, scattered, judgedReach, judgedRoom, judgedMeaning, judgedJob}
+use Rattle.judging.specs.Tests.{judgedCount, judgedParities, leavesAt, strayAt, scatters, scattered, judgedReach, judgedRoom, judgedMeaning, judgedJob}
 use Rattle.laying.proofs.Parting.{Parts, inside-sub, sub-inside}
 use Rattle.laying.proofs.Job.{parts}
-use Rattle.laying.proofs.Judging.{over-le, over-few, reach-pass, qubits-few}
+use Rattle.judging.proofs.Judging.{over-le, over-few, reach-pass, qubits-few}
 
 not-false : (b : Bool) → not b ≡ false → b ≡ true
 not-false true e = refl

@@ -14,15 +14,16 @@ use Rattle.sets.specs.Size.{lowestOf}
 use Rattle.sets.proofs.Bits.{bit-cases}
 use Rattle.sets.proofs.Members.{in-and, and-in, sub-eq}
 use Rattle.sets.proofs.Words.{in-has, out-has}
-use Rattle.meaning.specs.declared.gate.Gate.{Gate}
-use Rattle.meaning.specs.declared.gate.Gate.the-variants.{Cnot, Rotation, Bad}
-use Rattle.meaning.specs.Same.{All, Listed}
-use Rattle.meaning.specs.Circuit.{sumOf}
+use Rattle.gates.specs.declared.gate.Gate.{Gate}
+use Rattle.gates.specs.declared.gate.Gate.the-variants.{Cnot, Rotation, Bad}
+use Rattle.gates.specs.All.{All}
+use Rattle.gates.specs.Listed.{Listed}
+use Rattle.circuit.specs.Circuit.{sumOf}
 use Rattle.meaning.specs.Borne.{Among, sumsOf}
 use Rattle.meaning.proofs.Lists.{Up, ascending-same}
 use Rattle.chip.specs.Graph.{Near, Symm, Chain, here, next}
 use Rattle.columns.specs.Terms.{Inside}
-use Rattle.laying.specs.Own.{ownSets, ownTerms}
+use Rattle.share.specs.Own.{ownSets, ownTerms}
 use Rattle.laying.specs.Islands.{leads, laidTo}
 use Rattle.laying.specs.Demands.{isOn, gatesOn}
 use Rattle.laying.proofs.Parting.{Parts, on-led, leads-is}

@@ -8,12 +8,12 @@ use lib.Dec.{eqb}
 use lib.ListN.{length, take, drop, replicate}
 use borrow.Author.Tests.{eq-eqb, ne-eqb}
 use Rattle.sets.specs.Pick.{pick}
-use Rattle.meaning.specs.declared.gate.Gate.{Gate}
-use Rattle.meaning.specs.declared.verdict.Verdict.{Verdict}
-use Rattle.meaning.specs.declared.verdict.Verdict.the-variants.{Accepted}
-use Rattle.meaning.specs.Layout.{gatesOf, recordOf}
-use Rattle.meaning.specs.Verdicts.{numberOf}
-use Rattle.meaning.proofs.Judged.{then-stop}
+use Rattle.gates.specs.declared.gate.Gate.{Gate}
+use Rattle.verdicts.specs.declared.verdict.Verdict.{Verdict}
+use Rattle.verdicts.specs.declared.verdict.Verdict.the-variants.{Accepted}
+use Rattle.gates.specs.Layout.{gatesOf, recordOf}
+use Rattle.verdicts.specs.Verdicts.{numberOf}
+use Rattle.verdicts.proofs.Judged.{then-stop}
 use Rattle.chip.specs.Couplers.{nearOf}
 use Rattle.columns.specs.Emit.{emit, emitAt}
 use Rattle.columns.proofs.Emitting.{emit-room}
@@ -22,8 +22,9 @@ use Rattle.steps.specs.declared.Laid.the-variants.{On, Stuck}
 use Rattle.laying.specs.declared.lay.Answer.{Answer}
 use Rattle.laying.specs.declared.lay.Answer.the-variants.{Refused}
 use Rattle.laying.specs.Layable.{Layable}
-use Rattle.laying.specs.Verdict.{judgedJob, judgedStuck, verdictOf, circuitOf, countsOf, answered, outputOf}
-use Rattle.laying.proofs.Replaying.{gates-read, gates-back}
+use Rattle.judging.specs.Tests.{judgedJob}
+use Rattle.laying.specs.Verdict.{judgedStuck, verdictOf, circuitOf, countsOf, answered, outputOf}
+use Rattle.ways.proofs.Replaying.{gates-read, gates-back}
 use Rattle.laying.proofs.Accepting.{job-layable, job-room}
 use Rattle.laying.proofs.Accepted.{circuit-good, circuit-fine, circuit-bounded, job-accepted}
 

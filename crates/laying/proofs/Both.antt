@@ -10,18 +10,20 @@ use lib.ListN.{length, getD}
 use lib.Count.{ones, ones-le}
 use Rattle.sets.specs.Pick.{pick}
 use Rattle.sets.specs.Bit.{Sub}
-use Rattle.meaning.specs.declared.gate.Gate.{Gate}
-use Rattle.meaning.specs.Layout.{gatesOf, Good}
-use Rattle.meaning.specs.Circuit.{run, start, finalOf}
+use Rattle.gates.specs.declared.gate.Gate.{Gate}
+use Rattle.gates.specs.Layout.{gatesOf, Good}
+use Rattle.circuit.specs.Circuit.{run, start, finalOf}
 use Rattle.meaning.specs.Borne.{Among, borne, terms, sumsOf}
-use Rattle.meaning.specs.Same.{All, OnCoupler, SameMeaning, Reachable}
-use Rattle.meaning.specs.Tally.{cnotsOf, rotationsOf}
+use Rattle.gates.specs.All.{All}
+use Rattle.gates.specs.Listed.{OnCoupler}
+use Rattle.meaning.specs.Same.{SameMeaning, Reachable}
+use Rattle.tallies.specs.Tally.{cnotsOf, rotationsOf}
 use Rattle.meaning.proofs.Lists.{among-at}
-use Rattle.meaning.proofs.Tallies.{product-le}
+use Rattle.tallies.proofs.Tallies.{product-le}
 use Rattle.meaning.proofs.Bearing.{terms-few}
 use Rattle.chip.specs.Couplers.{nearOf}
-use Rattle.chip.specs.Islands.{islandOf}
-use Rattle.chip.proofs.Isles.{island-lt}
+use Rattle.isles.specs.Islands.{islandOf}
+use Rattle.isles.proofs.Isles.{island-lt}
 use Rattle.columns.specs.Terms.{LaysTerms, totalOf}
 use Rattle.columns.proofs.Inside.{inside-length, inside-good}
 use Rattle.steps.specs.Steps.{stepsFor}
@@ -29,10 +31,11 @@ use Rattle.steps.proofs.Terms.{steps-on, steps-lay}
 use Rattle.nearest.specs.Nearest.{nearestFor}
 use Rattle.nearest.proofs.Lays.{nearest-lays}
 use Rattle.ending.specs.Mirror.{mirrorsOf}
-use Rattle.laying.specs.Own.{ownSets, ownTerms}
-use Rattle.laying.specs.Laid.{withClosing, shorter, islandLaid, onIsland}
+use Rattle.share.specs.Own.{ownSets, ownTerms}
+use Rattle.ways.specs.Ways.{withClosing, shorter, islandLaid}
+use Rattle.laying.specs.Laid.{onIsland}
 use Rattle.laying.specs.Layable.{Layable}
-use Rattle.laying.specs.Memory.{Fine}
+use Rattle.ways.specs.Memory.{Fine}
 use Rattle.laying.proofs.Composing.{Lays}
 use Rattle.laying.proofs.Islanding.{Placed}
 use Rattle.laying.proofs.Owning.{own-few}

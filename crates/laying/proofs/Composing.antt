@@ -12,11 +12,11 @@ use Rattle.sets.specs.Bit.{bit, In}
 use Rattle.sets.specs.Size.{lowestOf}
 use Rattle.sets.proofs.Bits.{bit-cases}
 use Rattle.sets.proofs.Comb.{getD-units}
-use Rattle.meaning.specs.declared.gate.Gate.{Gate}
-use Rattle.meaning.specs.Circuit.{run, start, given}
-use Rattle.meaning.specs.Same.{All}
-use Rattle.meaning.proofs.Circuits.{run-none, run-append, run-length, given-none, given-append, start-length}
-use Rattle.meaning.proofs.Alls.{all-none, all-append}
+use Rattle.gates.specs.declared.gate.Gate.{Gate}
+use Rattle.circuit.specs.Circuit.{run, start, given}
+use Rattle.gates.specs.All.{All}
+use Rattle.circuit.proofs.Circuits.{run-none, run-append, run-length, given-none, given-append, start-length}
+use Rattle.gates.proofs.Alls.{all-none, all-append}
 use Rattle.columns.specs.Tables.{sumTo}
 use Rattle.columns.proofs.Tabling.{sum-zero}
 use Rattle.laying.specs.Islands.{leads, laidTo}

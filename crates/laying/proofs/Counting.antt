@@ -13,14 +13,14 @@ use Rattle.sets.specs.Pick.{pick}
 use Rattle.sets.specs.Bit.{bit, In, Sub}
 use Rattle.sets.specs.Size.{lowestOf}
 use Rattle.sets.proofs.Bits.{bit-cases, bit-lt}
-use Rattle.meaning.specs.declared.gate.Gate.{Gate}
+use Rattle.gates.specs.declared.gate.Gate.{Gate}
 use Rattle.meaning.specs.Borne.{Among}
-use Rattle.meaning.specs.Tally.{tally}
+use Rattle.tallies.specs.Tally.{tally}
 use Rattle.meaning.proofs.Lists.{among-first, among-rest}
-use Rattle.meaning.proofs.Tallies.{tally-append, tally-none}
+use Rattle.tallies.proofs.Tallies.{tally-append, tally-none}
 use Rattle.columns.specs.Tables.{sumTo, one}
 use Rattle.columns.proofs.Tabling.{sum-ext, sum-none, sum-le}
-use Rattle.laying.specs.Own.{insideOf, ownTerms}
+use Rattle.share.specs.Own.{insideOf, ownTerms}
 use Rattle.laying.specs.Islands.{leads, laidTo}
 use Rattle.laying.proofs.Adding.{sum-one, sum-plus, sum-times, sum-swap, sum-units, ones-bits}
 use Rattle.laying.proofs.Parting.{Parts, leader-in, leader-below, leader-same, leader-leads, on-led, led-on, inside-one, inside-sub, sub-inside, not-inside}

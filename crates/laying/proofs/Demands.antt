@@ -10,26 +10,28 @@ use lib.Dec.{eqb}
 use lib.ListN.{length, drop}
 use borrow.Author.Tests.{eqb-true, eqb-false}
 use Rattle.sets.specs.Pick.{pick}
-use Rattle.meaning.specs.declared.gate.Gate.{Gate}
-use Rattle.meaning.specs.declared.verdict.Verdict.{Verdict}
-use Rattle.meaning.specs.declared.verdict.Verdict.the-variants.{Accepted}
-use Rattle.meaning.specs.Layout.{gatesOf, recordOf, Good}
+use Rattle.gates.specs.declared.gate.Gate.{Gate}
+use Rattle.verdicts.specs.declared.verdict.Verdict.{Verdict}
+use Rattle.verdicts.specs.declared.verdict.Verdict.the-variants.{Accepted}
+use Rattle.gates.specs.Layout.{gatesOf, recordOf, Good}
 use Rattle.meaning.specs.Borne.{overAt}
-use Rattle.meaning.specs.Same.{All, Reachable}
-use Rattle.meaning.specs.Tally.{cnotsOf, rotationsOf, depthOf}
-use Rattle.meaning.specs.Verdicts.{numberOf, placeOf, judgedQubits, judgedCouplers, judgedGates}
-use Rattle.meaning.specs.InOrder.{andThen}
-use Rattle.meaning.proofs.Judged.{zero-accepted, then-on, then-stop, then-zero}
-use Rattle.meaning.proofs.Alls.{accepted-good}
+use Rattle.gates.specs.All.{All}
+use Rattle.meaning.specs.Same.{Reachable}
+use Rattle.tallies.specs.Tally.{cnotsOf, rotationsOf, depthOf}
+use Rattle.verdicts.specs.Verdicts.{numberOf, placeOf, judgedQubits, judgedCouplers, judgedGates}
+use Rattle.verdicts.specs.InOrder.{andThen}
+use Rattle.verdicts.proofs.Judged.{zero-accepted, then-on, then-stop, then-zero}
+use Rattle.verdicts.proofs.Passing.{accepted-good}
 use Rattle.chip.specs.Couplers.{nearOf}
-use Rattle.chip.specs.Islands.{islandOf, islandsOf}
+use Rattle.isles.specs.Islands.{islandOf, islandsOf}
 use Rattle.laying.specs.declared.lay.Answer.{Answer}
 use Rattle.laying.specs.declared.lay.Answer.the-variants.{Laid, Refused}
 use Rattle.laying.specs.Layable.{Layable}
-use Rattle.laying.specs.Verdict.{judgedCount, judgedParities, judgedReach, judgedRoom, judgedMeaning, judgedJob, judgedStuck, verdictOf, circuitOf, countsOf, answered, outputOf, verdictIn, numberIn, placeIn, recordsIn, cnotsIn, rotationsIn, depthIn}
+use Rattle.judging.specs.Tests.{judgedCount, judgedParities, judgedReach, judgedRoom, judgedMeaning, judgedJob}
+use Rattle.laying.specs.Verdict.{judgedStuck, verdictOf, circuitOf, countsOf, answered, outputOf, verdictIn, numberIn, placeIn, recordsIn, cnotsIn, rotationsIn, depthIn}
 use Rattle.laying.specs.Demands.{Island, gatesOn, Faithful, judgedSix, Stays, Strays, Agree}
 use Rattle.laying.proofs.Job.{only-inside}
-use Rattle.laying.proofs.Judging.{qubits-few, over-few}
+use Rattle.judging.proofs.Judging.{qubits-few, over-few}
 use Rattle.laying.proofs.Accepting.{reach-within, within-reach, reach-number, reach-place, parities-whole, job-layable, job-room, job-listed, job-not-stuck, room-number}
 use Rattle.laying.proofs.Accepted.{circuit-same, circuit-good, circuit-coupled, circuit-rotations, circuit-cnots, circuit-bounded, circuit-reaches, stuck-passed, job-accepted}
 use Rattle.laying.proofs.Linking.{linked-in, in-linked}

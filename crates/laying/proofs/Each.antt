@@ -10,13 +10,13 @@ use lib.Dec.{eqb}
 use lib.ListN.{length, getD}
 use borrow.Author.Tests.{eqb-true, eqb-false}
 use Rattle.sets.specs.Pick.{pick}
-use Rattle.meaning.specs.declared.gate.Gate.{Gate}
-use Rattle.meaning.specs.declared.gate.Gate.the-variants.{Cnot, Rotation, Bad}
-use Rattle.meaning.specs.Circuit.{step, start, gives, given, sumOf, Term}
+use Rattle.gates.specs.declared.gate.Gate.{Gate}
+use Rattle.gates.specs.declared.gate.Gate.the-variants.{Cnot, Rotation, Bad}
+use Rattle.circuit.specs.Circuit.{step, start, gives, given, sumOf, Term}
 use Rattle.meaning.specs.Borne.{Among, terms}
 use Rattle.meaning.specs.Same.{SameMeaning}
-use Rattle.meaning.specs.Tally.{tally, rotationsOf, oneRotation}
-use Rattle.meaning.proofs.Circuits.{given-none, given-cons, sum-is}
+use Rattle.tallies.specs.Tally.{tally, rotationsOf, oneRotation}
+use Rattle.circuit.proofs.Circuits.{given-none, given-cons, sum-is}
 use Rattle.meaning.proofs.Bearing.{terms-up, term-among, among-term}
 use Rattle.meaning.proofs.Lists.{Up, up-head, up-tail, up-among, among-none, among-first, among-rest, among-cases}
 use Rattle.laying.specs.Demands.{oneOn, rotationsOn}

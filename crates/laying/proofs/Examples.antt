@@ -6,21 +6,25 @@ use lib.Count.{trailingZeros}
 use Rattle.sets.specs.Columns.{units, cnot}
 use Rattle.sets.specs.Search.{firstOf, someOf}
 use Rattle.sets.specs.Size.{lowestOf}
-use Rattle.meaning.specs.Layout.{packed, kindIn, aIn, bIn, cnotOf, rotationOf, gateOf, couplerOf, gatesOf}
-use Rattle.meaning.specs.Circuit.{step, run, start, gives, given, sumOf}
-use Rattle.meaning.specs.Borne.{insert, bears, borneFrom, borne, overAt, kept, terms}
-use Rattle.meaning.specs.Tally.{boundOf}
+use Rattle.gates.specs.Layout.{packed, kindIn, aIn, bIn, cnotOf, rotationOf, gateOf, couplerOf, gatesOf}
+use Rattle.circuit.specs.Circuit.{step, run, start, gives, given, sumOf}
+use Rattle.meaning.specs.Borne.{insert, bears, borneFrom, borne, overAt, terms}
+use Rattle.table.specs.Table.{kept}
+use Rattle.tallies.specs.Tally.{boundOf}
 use Rattle.meaning.specs.Same.{Reachable}
-use Rattle.meaning.specs.Verdicts.{numberOf, placeOf, firstFailing, judgedQubits, wrongAt, judgedCouplers, badAt, judgedGates}
-use Rattle.meaning.specs.Examples.{True, records5, records6, meaningExamples}
-use Rattle.meaning.proofs.Examples.{meaning-examples, true-append}
+use Rattle.verdicts.specs.Verdicts.{numberOf, placeOf, firstFailing, judgedQubits, wrongAt, judgedCouplers, badAt, judgedGates}
+use Rattle.gates.specs.Example.{True}
+use Rattle.meaning.specs.Examples.{records5, records6, meaningExamples}
+use Rattle.meaning.proofs.Examples.{meaning-examples}
+use Rattle.gates.proofs.Examples.{true-append}
 use Rattle.chip.specs.Graph.{nbrs, grow, closure}
 use Rattle.chip.specs.Couplers.{linkOf, addOf, addAll, nearOf}
-use Rattle.chip.specs.Islands.{islandOf, islandsFrom, islandsOf}
+use Rattle.isles.specs.Islands.{islandOf, islandsFrom, islandsOf}
 use Rattle.chip.specs.Examples.{chipExamples}
 use Rattle.chip.proofs.Examples.{chip-examples}
-use Rattle.laying.specs.Own.{insideOf}
-use Rattle.laying.specs.Verdict.{judgedCount, judgedParities, leavesAt, strayAt, scatters, scattered, judgedReach, judgedRoom, judgedMeaning, judgedJob, verdictOf}
+use Rattle.share.specs.Own.{insideOf}
+use Rattle.judging.specs.Tests.{judgedCount, judgedParities, leavesAt, strayAt, scatters, scattered, judgedReach, judgedRoom, judgedMeaning, judgedJob}
+use Rattle.laying.specs.Verdict.{verdictOf}
 use Rattle.laying.specs.Examples.{couplers4, once4, twice4, gates9, layingExamples, provedExamples}
 use Rattle.laying.proofs.Accepting.{job-layable}
 use Rattle.laying.proofs.Accepted.{circuit-reaches, job-accepted}

@@ -8,16 +8,16 @@ use lib.ListN.{length, getD}
 use lib.Count.{ones}
 use Rattle.sets.specs.Bit.{bit, In, Sub}
 use Rattle.sets.specs.Size.{sizeOf}
-use Rattle.meaning.specs.declared.gate.Gate.{Gate}
-use Rattle.meaning.specs.declared.gate.Gate.the-variants.{Cnot, Rotation, Bad}
-use Rattle.meaning.specs.Layout.{Good}
-use Rattle.meaning.specs.Circuit.{step, run, given}
-use Rattle.meaning.specs.Same.{All}
-use Rattle.meaning.specs.Tally.{cnotsOf, rotationsOf}
-use Rattle.meaning.proofs.Circuits.{given-none, given-cons, given-append, run-append}
-use Rattle.meaning.proofs.Steps.{gives-cnot}
-use Rattle.meaning.proofs.Alls.{all-none, all-cons, all-append, all-map}
-use Rattle.meaning.proofs.Tallies.{cnots-append, rotations-append}
+use Rattle.gates.specs.declared.gate.Gate.{Gate}
+use Rattle.gates.specs.declared.gate.Gate.the-variants.{Cnot, Rotation, Bad}
+use Rattle.gates.specs.Layout.{Good}
+use Rattle.circuit.specs.Circuit.{step, run, given}
+use Rattle.gates.specs.All.{All}
+use Rattle.tallies.specs.Tally.{cnotsOf, rotationsOf}
+use Rattle.circuit.proofs.Circuits.{given-none, given-cons, given-append, run-append}
+use Rattle.circuit.proofs.Steps.{gives-cnot}
+use Rattle.gates.proofs.Alls.{all-none, all-cons, all-append, all-map}
+use Rattle.tallies.proofs.Tallies.{cnots-append, rotations-append}
 use Rattle.chip.specs.Graph.{Near, Symm, Joined}
 use Rattle.columns.specs.Terms.{Inside, Small, LaysTerms, totalOf}
 use Rattle.columns.specs.Gather.{On, Coupled, Within}

@@ -16,35 +16,37 @@ use Rattle.sets.specs.Size.{lowestOf}
 use Rattle.sets.proofs.Bits.{bit-cases}
 use Rattle.sets.proofs.Members.{in-lt, in-pow}
 use Rattle.sets.proofs.Comb.{getD-units}
-use Rattle.meaning.specs.declared.gate.Gate.{Gate}
-use Rattle.meaning.specs.declared.gate.Gate.the-variants.{Cnot, Rotation, Bad}
-use Rattle.meaning.specs.declared.verdict.Verdict.the-variants.{Accepted}
-use Rattle.meaning.specs.Layout.{Good}
-use Rattle.meaning.specs.Circuit.{run, start, finalOf, given, sumOf, Term}
+use Rattle.gates.specs.declared.gate.Gate.{Gate}
+use Rattle.gates.specs.declared.gate.Gate.the-variants.{Cnot, Rotation, Bad}
+use Rattle.verdicts.specs.declared.verdict.Verdict.the-variants.{Accepted}
+use Rattle.gates.specs.Layout.{Good}
+use Rattle.circuit.specs.Circuit.{run, start, finalOf, given, sumOf, Term}
 use Rattle.meaning.specs.Borne.{Among, borne, terms, sumsOf}
-use Rattle.meaning.specs.Same.{All, Listed, OnCoupler, SameMeaning, Reachable}
-use Rattle.meaning.specs.Tally.{tally, cnotsOf, rotationsOf, oneCnot, oneRotation}
-use Rattle.meaning.specs.Verdicts.{judgedCouplers}
-use Rattle.meaning.proofs.Circuits.{start-length, run-length, final-is, sum-is}
-use Rattle.meaning.proofs.Wiring.{wires-past, good-up, borne-not-empty}
-use Rattle.meaning.proofs.Bearing.{terms-up, term-among, among-term, terms-borne, terms-few}
-use Rattle.meaning.proofs.Alls.{all-map}
+use Rattle.gates.specs.All.{All}
+use Rattle.gates.specs.Listed.{Listed, OnCoupler}
+use Rattle.meaning.specs.Same.{SameMeaning, Reachable}
+use Rattle.tallies.specs.Tally.{tally, cnotsOf, rotationsOf, oneCnot, oneRotation}
+use Rattle.verdicts.specs.Verdicts.{judgedCouplers}
+use Rattle.circuit.proofs.Circuits.{start-length, run-length, final-is, sum-is}
+use Rattle.circuit.proofs.Wiring.{wires-past, good-up}
+use Rattle.meaning.proofs.Bearing.{borne-not-empty, terms-up, term-among, among-term, terms-borne, terms-few}
+use Rattle.gates.proofs.Alls.{all-map}
 use Rattle.meaning.proofs.Lists.{Up}
 use Rattle.meaning.proofs.Tables.{map-at}
 use Rattle.chip.specs.Graph.{Near, Symm, Joined}
-use Rattle.chip.specs.Islands.{islandOf}
+use Rattle.isles.specs.Islands.{islandOf}
 use Rattle.chip.specs.Couplers.{nearOf}
 use Rattle.chip.proofs.Neighbours.{near-symm, near-below, near-listed, accepted-near}
-use Rattle.chip.proofs.Isles.{island-self, island-same, island-below, island-fits, island-low, island-lt, island-joined, island-near}
+use Rattle.isles.proofs.Isles.{island-self, island-same, island-below, island-fits, island-low, island-lt, island-joined, island-near}
 use Rattle.columns.specs.Pieces.{Piece}
 use Rattle.columns.specs.Terms.{Inside, Small, LaysTerms, totalOf}
 use Rattle.ending.specs.Ends.{Ready}
 use Rattle.ending.specs.Mirror.{mirrorsOf, mirrorOf, Bordered}
 use Rattle.ending.specs.Closing.{closingOf}
 use Rattle.ending.proofs.Mirrors.{bordered-ready, mirror-inside}
-use Rattle.laying.specs.Own.{ownSets, ownTerms}
+use Rattle.share.specs.Own.{ownSets, ownTerms}
 use Rattle.laying.specs.Islands.{leads, laidTo}
-use Rattle.laying.specs.Laid.{withClosing}
+use Rattle.ways.specs.Ways.{withClosing}
 use Rattle.laying.specs.Reach.{Within}
 use Rattle.laying.proofs.Parting.{Parts, leader-below, leader-leads, leader-same, inside-one}
 use Rattle.laying.proofs.Restricting.{own-whole, own-in, own-symm, own-joined, own-near}

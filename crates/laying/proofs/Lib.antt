@@ -9,12 +9,8 @@ pub mod Islanding
 pub mod Job
 pub mod Both
 pub mod Alike
-pub mod Replaying
-pub mod Owned
 pub mod Tabled
 pub mod Walking
-pub mod Scattering
-pub mod Judging
 pub mod Accepting
 pub mod Accepted
 pub mod Answering

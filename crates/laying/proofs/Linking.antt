@@ -5,14 +5,14 @@ use Prim.Native.Nat.{ℕ, _≤_, _<_}
 use native.Mathlib.Omega.{arith}
 use Rattle.sets.specs.Bit.{In}
 use Rattle.sets.proofs.Members.{sub-eq}
-use Rattle.meaning.specs.declared.verdict.Verdict.the-variants.{Accepted}
-use Rattle.meaning.specs.Same.{Listed}
-use Rattle.meaning.specs.Verdicts.{judgedCouplers}
+use Rattle.verdicts.specs.declared.verdict.Verdict.the-variants.{Accepted}
+use Rattle.gates.specs.Listed.{Listed}
+use Rattle.verdicts.specs.Verdicts.{judgedCouplers}
 use Rattle.chip.specs.Graph.{Near, Chain, here, next}
 use Rattle.chip.specs.Couplers.{nearOf}
-use Rattle.chip.specs.Islands.{everyQubit, islandOf}
+use Rattle.isles.specs.Islands.{everyQubit, islandOf}
 use Rattle.chip.proofs.Neighbours.{near-below, near-listed, accepted-near}
-use Rattle.chip.proofs.Isles.{every-in, island-chain, chain-island}
+use Rattle.isles.proofs.Isles.{every-in, island-chain, chain-island}
 use Rattle.laying.specs.Demands.{Linked, same, more, Island}
 
 module _ (n : ℕ) (xs : List ℕ) (few : n ≤ 20) (ok : judgedCouplers n xs ≡ Accepted) where

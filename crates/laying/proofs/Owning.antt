@@ -12,15 +12,15 @@ use lib.ListN.{length, getD, length-map}
 use borrow.Author.Tests.{eq-eqb, ne-eqb}
 use Rattle.sets.specs.Pick.{pick}
 use Rattle.sets.specs.Bit.{In, Sub}
-use Rattle.meaning.specs.declared.gate.Gate.{Gate}
-use Rattle.meaning.specs.Circuit.{sumOf}
+use Rattle.gates.specs.declared.gate.Gate.{Gate}
+use Rattle.circuit.specs.Circuit.{sumOf}
 use Rattle.meaning.specs.Borne.{Among, sumsOf}
 use Rattle.meaning.proofs.Lists.{Up, up-none, up-weaken, among-at, at-among, among-none, among-first, among-rest, among-cases, up-cons, up-head, up-tail, up-once}
 use Rattle.meaning.proofs.Tables.{map-at}
 use Rattle.columns.specs.Tables.{sumTo, one}
 use Rattle.columns.specs.Terms.{totalOf}
 use Rattle.columns.proofs.Tabling.{sum-none, one-le}
-use Rattle.laying.specs.Own.{insideOf, ownTerms}
+use Rattle.share.specs.Own.{insideOf, ownTerms}
 use Rattle.laying.proofs.Adding.{sum-one}
 use Rattle.laying.proofs.Parting.{inside-sub, sub-inside}
 

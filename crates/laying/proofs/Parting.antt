@@ -15,7 +15,7 @@ use Rattle.sets.specs.Size.{lowestOf}
 use Rattle.sets.proofs.Bits.{bit-of-zero, bit-and, bit-cases}
 use Rattle.sets.proofs.Members.{in-and, and-in, sub-eq, some-bit}
 use Rattle.sets.proofs.Words.{lowest-in}
-use Rattle.laying.specs.Own.{insideOf}
+use Rattle.share.specs.Own.{insideOf}
 use Rattle.laying.specs.Islands.{leads}
 
 -- what islands are, for the qubits below n

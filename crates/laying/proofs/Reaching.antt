@@ -11,13 +11,15 @@ use Rattle.sets.specs.Bit.{bit, In, Sub}
 use Rattle.sets.specs.Columns.{cnot}
 use Rattle.sets.proofs.Members.{xor-sub, in-pow}
 use Rattle.sets.proofs.Comb.{getD-units}
-use Rattle.meaning.specs.declared.gate.Gate.{Gate}
-use Rattle.meaning.specs.declared.gate.Gate.the-variants.{Cnot, Rotation, Bad}
-use Rattle.meaning.specs.Layout.{Good}
-use Rattle.meaning.specs.Circuit.{step, run, start, finalOf, gives, given, sumOf, Term}
-use Rattle.meaning.specs.Same.{All, Listed, OnCoupler, Reachable, SameMeaning}
-use Rattle.meaning.proofs.Steps.{cnot-target, cnot-other, step-length, gives-cnot, gives-bad, gives-other}
-use Rattle.meaning.proofs.Circuits.{start-length}
+use Rattle.gates.specs.declared.gate.Gate.{Gate}
+use Rattle.gates.specs.declared.gate.Gate.the-variants.{Cnot, Rotation, Bad}
+use Rattle.gates.specs.Layout.{Good}
+use Rattle.circuit.specs.Circuit.{step, run, start, finalOf, gives, given, sumOf, Term}
+use Rattle.gates.specs.All.{All}
+use Rattle.gates.specs.Listed.{Listed, OnCoupler}
+use Rattle.meaning.specs.Same.{Reachable, SameMeaning}
+use Rattle.circuit.proofs.Steps.{cnot-target, cnot-other, step-length, gives-cnot, gives-bad, gives-other}
+use Rattle.circuit.proofs.Circuits.{start-length}
 use Rattle.laying.specs.Reach.{Within}
 
 -- wire i bears a parity inside isl i

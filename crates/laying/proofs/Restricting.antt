@@ -18,7 +18,7 @@ use Rattle.chip.specs.Graph.{Near, Symm, Chain, here, next, Joined}
 use Rattle.chip.proofs.Chains.{chain-end}
 use Rattle.columns.specs.Tables.{tab}
 use Rattle.columns.proofs.Tabling.{tab-length, tab-at}
-use Rattle.laying.specs.Own.{mine, ownSets}
+use Rattle.share.specs.Own.{mine, ownSets}
 
 pub own-long : (Q : ℕ) (xs : List ℕ) → length (ownSets Q xs) ≡ 20
 unfolding ownSets

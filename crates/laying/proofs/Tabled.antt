@@ -9,23 +9,25 @@ use lib.ListN.{length, getD, take, length-map, length-take}
 use lib.Seq.{ext-getD, getD-take, length-take-le}
 use borrow.Author.Tests.{eqb-true, eqb-false}
 use Rattle.sets.specs.Pick.{pick}
-use Rattle.meaning.specs.declared.gate.Gate.{Gate}
-use Rattle.meaning.specs.declared.sums.Sums.{Sums}
-use Rattle.meaning.specs.Circuit.{run, start, sumOf}
-use Rattle.meaning.specs.Borne.{borne, kept, sumsOf, terms, padded}
-use Rattle.meaning.specs.Told.{keptTable, termsIn, tableOf}
+use Rattle.gates.specs.declared.gate.Gate.{Gate}
+use Rattle.table.specs.declared.sums.Sums.{Sums}
+use Rattle.circuit.specs.Circuit.{run, start, sumOf}
+use Rattle.meaning.specs.Borne.{borne, sumsOf, terms}
+use Rattle.table.specs.Table.{kept, padded, keptTable, termsIn}
+use Rattle.meaning.specs.Told.{tableOf}
 use Rattle.meaning.proofs.Tables.{map-at, padded-at, padded-length}
-use Rattle.meaning.proofs.Keeping.{kept-map, take-padded}
+use Rattle.table.proofs.Keeping.{kept-map, take-padded}
 use Rattle.meaning.proofs.Lists.{kept-drop, kept-take, kept-nil}
 use Rattle.columns.specs.Tables.{tab}
 use Rattle.columns.proofs.Tabling.{tab-at, tab-length}
-use Rattle.chip.specs.Islands.{islandOf}
+use Rattle.isles.specs.Islands.{islandOf}
 use Rattle.ending.specs.Mirror.{mirrorsOf}
-use Rattle.laying.specs.declared.own.Own.{Own}
-use Rattle.laying.specs.Own.{insideOf, ownSets, ownTerms}
-use Rattle.laying.specs.OwnTable.{maskedSum, maskedSums, ownTable, ownOf}
-use Rattle.laying.specs.Laid.{onIsland, islandLaid}
-use Rattle.laying.specs.Memory.{parities, angles, pieceOwn}
+use Rattle.share.specs.declared.own.Own.{Own}
+use Rattle.share.specs.Own.{insideOf, ownSets, ownTerms}
+use Rattle.share.specs.OwnTable.{maskedSum, maskedSums, ownTable, ownOf}
+use Rattle.laying.specs.Laid.{onIsland}
+use Rattle.ways.specs.Ways.{islandLaid}
+use Rattle.ways.specs.Memory.{parities, angles, pieceOwn}
 use Rattle.laying.proofs.Owning.{own-none, own-taken, own-left}
 
 module _ (Q : ℕ) (f : ℕ → ℕ) where

@@ -9,26 +9,28 @@ use lib.Bits.{bitAnd}
 use lib.ListN.{getD}
 use Rattle.sets.specs.Bit.{In, Sub}
 use Rattle.sets.specs.Size.{lowestOf}
-use Rattle.meaning.specs.declared.gate.Gate.{Gate}
-use Rattle.meaning.specs.declared.verdict.Verdict.the-variants.{Accepted}
-use Rattle.meaning.specs.Layout.{gatesOf, Good}
-use Rattle.meaning.specs.Circuit.{run, start, finalOf, sumOf, Term}
+use Rattle.gates.specs.declared.gate.Gate.{Gate}
+use Rattle.verdicts.specs.declared.verdict.Verdict.the-variants.{Accepted}
+use Rattle.gates.specs.Layout.{gatesOf, Good}
+use Rattle.circuit.specs.Circuit.{run, start, finalOf, sumOf, Term}
 use Rattle.meaning.specs.Borne.{Among, terms, sumsOf}
-use Rattle.meaning.specs.Same.{All, Listed}
-use Rattle.meaning.specs.Verdicts.{judgedCouplers}
-use Rattle.meaning.proofs.Circuits.{final-is}
+use Rattle.gates.specs.All.{All}
+use Rattle.gates.specs.Listed.{Listed}
+use Rattle.verdicts.specs.Verdicts.{judgedCouplers}
+use Rattle.circuit.proofs.Circuits.{final-is}
 use Rattle.meaning.proofs.Bearing.{terms-up, term-among, among-term}
 use Rattle.meaning.proofs.Lists.{among-first, among-rest}
 use Rattle.chip.specs.Graph.{Near}
 use Rattle.chip.specs.Couplers.{nearOf}
-use Rattle.chip.specs.Islands.{islandOf}
+use Rattle.isles.specs.Islands.{islandOf}
 use Rattle.chip.proofs.Neighbours.{near-listed, accepted-near}
-use Rattle.chip.proofs.Isles.{island-lt}
+use Rattle.isles.proofs.Isles.{island-lt}
 use Rattle.columns.specs.Pieces.{Piece}
 use Rattle.ending.specs.Mirror.{mirrorsOf, mirrorOf, Bordered}
 use Rattle.ending.proofs.Mirrors.{mirror-same-inside}
-use Rattle.laying.specs.Own.{ownSets, ownTerms}
-use Rattle.laying.specs.Laid.{islandLaid, onIsland, laidOf}
+use Rattle.share.specs.Own.{ownSets, ownTerms}
+use Rattle.ways.specs.Ways.{islandLaid}
+use Rattle.laying.specs.Laid.{onIsland, laidOf}
 use Rattle.laying.specs.Layable.{Layable}
 use Rattle.laying.specs.Verdict.{circuitOf}
 use Rattle.laying.specs.Demands.{Island, gatesOn, Agree}

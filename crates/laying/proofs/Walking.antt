@@ -11,29 +11,31 @@ use lib.Dec.{eqb}
 use borrow.Author.Tests.{eq-eqb, ne-eqb}
 use Rattle.sets.specs.Pick.{pick}
 use Rattle.sets.specs.Size.{lowestOf}
-use Rattle.meaning.specs.declared.gate.Gate.{Gate}
-use Rattle.meaning.specs.declared.sums.Sums.{Sums}
+use Rattle.gates.specs.declared.gate.Gate.{Gate}
+use Rattle.table.specs.declared.sums.Sums.{Sums}
 use Rattle.meaning.specs.declared.told.Told.{Told}
 use Rattle.meaning.specs.declared.told.Meaning.{Meaning}
-use Rattle.meaning.specs.Layout.{gatesOf}
-use Rattle.meaning.specs.Circuit.{run, start}
+use Rattle.gates.specs.Layout.{gatesOf}
+use Rattle.circuit.specs.Circuit.{run, start}
 use Rattle.meaning.specs.Borne.{overAt}
-use Rattle.meaning.specs.Told.{toldOf, meaningOf, wiresOf, tableOf}
+use Rattle.meaning.specs.Told.{toldOf, meaningOf, tableOf}
+use Rattle.circuit.specs.State.{wiresOf}
 use Rattle.chip.specs.Couplers.{nearOf}
-use Rattle.chip.specs.Islands.{islandOf, islandsOf}
-use Rattle.chip.proofs.Isles.{getD-islands}
+use Rattle.isles.specs.Islands.{islandOf, islandsOf}
+use Rattle.isles.proofs.Isles.{getD-islands}
 use Rattle.columns.specs.Emit.{emit, emitAt}
 use Rattle.columns.specs.Pieces.{Piece}
 use Rattle.columns.proofs.Emitting.{emit-none, emit-at-none, emit-length, emit-append, emit-at-append}
 use Rattle.steps.specs.declared.Laid.{Laid}
 use Rattle.steps.specs.declared.Laid.the-variants.{On, Stuck}
 use Rattle.ending.specs.Mirror.{mirrorsOf}
-use Rattle.laying.specs.declared.own.Own.{Own}
-use Rattle.laying.specs.OwnTable.{ownOf}
+use Rattle.share.specs.declared.own.Own.{Own}
+use Rattle.share.specs.OwnTable.{ownOf}
 use Rattle.laying.specs.Islands.{leads, laidTo}
-use Rattle.laying.specs.Laid.{onIsland, laidOf, withClosing}
+use Rattle.laying.specs.Laid.{onIsland, laidOf}
+use Rattle.ways.specs.Ways.{withClosing}
 use Rattle.laying.specs.Layable.{Layable}
-use Rattle.laying.specs.Memory.{Fine, stepsOwn, nearestOwn, closedBy, pieceOwn, memoryAt, answerAt}
+use Rattle.ways.specs.Memory.{Fine, stepsOwn, nearestOwn, closedBy, pieceOwn, memoryAt, answerAt}
 use Rattle.laying.specs.Verdict.{circuitOf}
 use Rattle.laying.proofs.Job.{parts}
 use Rattle.laying.proofs.Composing.{laid-led, laid-not}

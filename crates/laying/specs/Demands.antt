@@ -7,17 +7,19 @@ use lib.Dec.{eqb}
 use lib.ListN.{length, getD}
 use Rattle.sets.specs.Pick.{pick}
 use Rattle.sets.specs.Bit.{In, Sub, has}
-use Rattle.meaning.specs.declared.gate.Gate.{Gate}
-use Rattle.meaning.specs.declared.gate.Gate.the-variants.{Cnot, Rotation, Bad}
-use Rattle.meaning.specs.declared.verdict.Verdict.{Verdict}
-use Rattle.meaning.specs.Layout.{gatesOf, Good}
-use Rattle.meaning.specs.Circuit.{step, start, finalOf, sumOf, Term}
+use Rattle.gates.specs.declared.gate.Gate.{Gate}
+use Rattle.gates.specs.declared.gate.Gate.the-variants.{Cnot, Rotation, Bad}
+use Rattle.verdicts.specs.declared.verdict.Verdict.{Verdict}
+use Rattle.gates.specs.Layout.{gatesOf, Good}
+use Rattle.circuit.specs.Circuit.{step, start, finalOf, sumOf, Term}
 use Rattle.meaning.specs.Borne.{terms}
-use Rattle.meaning.specs.Same.{All, Listed, OnCoupler, SameMeaning}
-use Rattle.meaning.specs.Tally.{cnotsOf, rotationsOf, boundOf}
-use Rattle.meaning.specs.Verdicts.{judgedQubits, judgedCouplers, judgedGates}
-use Rattle.meaning.specs.InOrder.{andThen}
-use Rattle.laying.specs.Verdict.{judgedCount, judgedParities}
+use Rattle.gates.specs.All.{All}
+use Rattle.gates.specs.Listed.{Listed, OnCoupler}
+use Rattle.meaning.specs.Same.{SameMeaning}
+use Rattle.tallies.specs.Tally.{cnotsOf, rotationsOf, boundOf}
+use Rattle.verdicts.specs.Verdicts.{judgedQubits, judgedCouplers, judgedGates}
+use Rattle.verdicts.specs.InOrder.{andThen}
+use Rattle.judging.specs.Tests.{judgedCount, judgedParities}
 
 -- "a chain of couplers joins them" (document 01, "Islands")
 pub data Linked (couplers : List ℕ) (n u : ℕ) : ℕ → Type 0 where

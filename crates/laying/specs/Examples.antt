@@ -2,10 +2,11 @@
 use mathlib.Core.Path.{_≡_}
 use mathlib.Core.List.{List, [], _∷_, _++_}
 use Prim.Native.Nat.{ℕ}
-use Rattle.meaning.specs.Layout.{packed, gatesOf}
+use Rattle.gates.specs.Layout.{packed, gatesOf}
 use Rattle.meaning.specs.Same.{Reachable}
-use Rattle.meaning.specs.Verdicts.{numberOf, placeOf}
-use Rattle.meaning.specs.Examples.{Example, cnotRecord, rotationRecord, records5, records6, meaningExamples}
+use Rattle.verdicts.specs.Verdicts.{numberOf, placeOf}
+use Rattle.gates.specs.Example.{Example}
+use Rattle.meaning.specs.Examples.{cnotRecord, rotationRecord, records5, records6, meaningExamples}
 use Rattle.chip.specs.Examples.{chipExamples}
 use Rattle.laying.specs.Verdict.{verdictOf}
 

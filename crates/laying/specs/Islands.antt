@@ -5,7 +5,7 @@ use Prim.Native.Nat.{ℕ, zero, suc}
 use lib.Dec.{eqb}
 use Rattle.sets.specs.Pick.{pick}
 use Rattle.sets.specs.Size.{lowestOf}
-use Rattle.meaning.specs.declared.gate.Gate.{Gate}
+use Rattle.gates.specs.declared.gate.Gate.{Gate}
 
 -- q is the lowest qubit of its island; `isl q` is the island of q
 unfoldable pub leads : (ℕ → ℕ) → ℕ → Bool

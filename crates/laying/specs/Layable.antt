@@ -3,11 +3,11 @@ use mathlib.Core.Path.{_≡_}
 use mathlib.Core.List.{List}
 use Prim.Native.Nat.{ℕ, _≤_}
 use lib.ListN.{length}
-use Rattle.meaning.specs.Layout.{gatesOf, Good}
+use Rattle.gates.specs.Layout.{gatesOf, Good}
 use Rattle.meaning.specs.Borne.{borne, overAt}
-use Rattle.meaning.specs.Same.{All}
+use Rattle.gates.specs.All.{All}
 use Rattle.chip.specs.Couplers.{nearOf}
-use Rattle.chip.specs.Islands.{islandOf}
+use Rattle.isles.specs.Islands.{islandOf}
 use Rattle.laying.specs.Reach.{Within}
 
 pub record Layable (n : ℕ) (couplers gates : List ℕ) : Type 0 where

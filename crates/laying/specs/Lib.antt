@@ -1,8 +1,5 @@
-pub mod Own
-pub mod OwnTable
 pub mod Islands
 pub mod Laid
-pub mod Memory
 pub mod Reach
 pub mod Verdict
 pub mod Demands

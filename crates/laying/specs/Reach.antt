@@ -2,8 +2,8 @@
 use mathlib.Core.List.{List}
 use Prim.Native.Nat.{ℕ, _<_}
 use Rattle.sets.specs.Bit.{Sub}
-use Rattle.meaning.specs.declared.gate.Gate.{Gate}
-use Rattle.meaning.specs.Circuit.{finalOf, Term}
+use Rattle.gates.specs.declared.gate.Gate.{Gate}
+use Rattle.circuit.specs.Circuit.{finalOf, Term}
 
 -- the meaning of the gates is inside the islands of n qubits; `isl i` is the island of i
 pub record Within (n : ℕ) (isl : ℕ → ℕ) (gates : List Gate) : Type 0 where

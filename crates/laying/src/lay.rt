@@ -1,19 +1,19 @@
 // The entry point: any numbers, any records, any room.
-use crate::island;
-use crate::judge;
-use crate::own;
 use chip::couplers;
-use chip::islands;
 use ending::mirror;
-use meaning::depth;
-use meaning::tally;
+use isles::islands;
+use judging::judge;
 use meaning::told;
-use meaning::verdict;
-use meaning::verdict::Verdict;
+use share::own;
 use steps::Laid;
+use tallies::depth;
+use tallies::tally;
+use verdicts::verdict;
+use verdicts::verdict::Verdict;
+use ways::island;
 ghost use mathlib.Core.Path.{_≡_};
 ghost use lib.ListN.{length};
-ghost use Rattle.meaning.specs.Layout.{gatesOf};
+ghost use Rattle.gates.specs.Layout.{gatesOf};
 ghost use Rattle.laying.specs.Layable.{Layable};
 ghost use Rattle.columns.specs.Emit.{emit, emitAt};
 ghost use Rattle.steps.specs.declared.Laid.the-variants.{On};

@@ -2,20 +2,24 @@
 use mathlib.Core.Path.{_≡_, refl, sym, ap, ap₂, _∙_, subst}
 use mathlib.Core.Logic.{_≢_, _⊎_, inl, inr, ⊎-elim}
 use mathlib.Core.List.{List, [], _∷_, _++_, map}
-use Prim.Native.Nat.{ℕ, zero, suc, _+_, _%_, _≤_, _<_, zero-le}
+use Prim.Native.Nat.{ℕ, zero, suc, _+_, _^_, _%_, _≤_, _<_, zero-le}
 use native.Mathlib.Omega.{arith}
 use native.Mathlib.Decide.{ℕ-discrete}
 use lib.Dec.{eqb}
 use lib.ListN.{length, getD}
 use mathlib.Core.Bool.{Bool, true, false}
 use Rattle.sets.specs.Pick.{pick}
-use Rattle.meaning.specs.declared.gate.Gate.{Gate}
-use Rattle.meaning.specs.declared.gate.Gate.the-variants.{Cnot, Rotation, Bad}
-use Rattle.meaning.specs.Circuit.{step, run, start, gives, given, sumOf, Term}
-use Rattle.meaning.specs.Borne.{insert, bears, borneFrom, borne, kept, sumsOf, terms, Ascending, Among}
-use Rattle.meaning.proofs.Steps.{gives-cnot, gives-bad, gives-other}
-use Rattle.meaning.proofs.Circuits.{run-snoc, given-append}
-use Rattle.meaning.proofs.Lists.{Up, up-none, up-ascending, up-insert, up-kept, insert-has, insert-keeps, insert-back, kept-has, kept-back}
+use Rattle.gates.specs.declared.gate.Gate.{Gate}
+use Rattle.gates.specs.declared.gate.Gate.the-variants.{Cnot, Rotation, Bad}
+use Rattle.circuit.specs.Circuit.{step, run, start, gives, given, sumOf, Term}
+use Rattle.meaning.specs.Borne.{insert, bears, borneFrom, borne, sumsOf, terms, Ascending, Among}
+use Rattle.table.specs.Table.{kept}
+use Rattle.gates.specs.Layout.{Good}
+use Rattle.gates.specs.All.{All}
+use Rattle.circuit.proofs.Steps.{gives-cnot, gives-bad, gives-other, step-length}
+use Rattle.circuit.proofs.Circuits.{run-snoc, given-append, start-length}
+use Rattle.circuit.proofs.Wiring.{Below, below-step, below-start, Apart, apart-step, apart-start, apart-not-empty}
+use Rattle.meaning.proofs.Lists.{Up, up-none, up-ascending, up-insert, up-kept, insert-has, insert-keeps, insert-back, kept-has, kept-back, among-none}
 
 -- ---- one gate more
 
@@ -144,3 +148,31 @@ kept-few (x ∷ xs) (s ∷ ss) = go (eqb s 0) (kept-few xs ss)
 pub terms-few : (gs : List Gate) → length (terms gs) ≤ length (borne gs)
 unfolding terms
 terms-few gs = kept-few (borne gs) (sumsOf gs (borne gs))
+
+-- ---- the parities that bear a rotation are parities of wires
+
+module _ (n : ℕ) (few : n ≤ 20) (P : ℕ → Type 0) (parity : (W : List ℕ) → Apart W → Below n W → (q : ℕ) → q < n → P (getD W q 0)) where
+  bears-only : (g : Gate) (W ps : List ℕ) → Good n g → Apart W → Below n W → ((p : ℕ) → Among p ps → P p) → (p : ℕ) → Among p (bears g W ps) → P p
+  unfolding bears Good
+  bears-only (Cnot c t) W ps g a b h p k = h p k
+  bears-only (Rotation q x) W ps g a b h p k = ⊎-elim (λ e. subst P e (parity W a b q (g .0))) (λ j. h p j) (insert-back (getD W q 0) p ps k)
+  bears-only Bad W ps g a b h p k = absurd g
+
+  borne-only-from : (gs : List Gate) (W ps : List ℕ) → length W ≡ 20 → All (Good n) gs → Apart W → Below n W → ((p : ℕ) → Among p ps → P p)
+      → (p : ℕ) → Among p (borneFrom gs W ps) → P p
+  unfolding borneFrom All
+  borne-only-from [] W ps l g a b h = h
+  borne-only-from (x ∷ gs) W ps l g a b h =
+      borne-only-from gs (step x W) (bears x W ps) (step-length x W ∙ l) (g .1) (apart-step n x W few l (g .0) a) (below-step n x W (omega arith) (g .0) b)
+      (bears-only x W ps (g .0) a b h)
+
+  pub borne-only : (gs : List Gate) → All (Good n) gs → (p : ℕ) → Among p (borne gs) → P p
+  unfolding borne
+  borne-only gs g = borne-only-from gs start [] start-length g apart-start (below-start n few) (λ p h. absurd (among-none p h))
+
+-- "non-empty", and below 2^n
+pub borne-not-empty : (n : ℕ) (gs : List Gate) → n ≤ 20 → All (Good n) gs → (p : ℕ) → Among p (borne gs) → p ≢ 0
+borne-not-empty n gs few g = borne-only n few (λ p. p ≢ 0) (λ W a b q (h : q < n). apart-not-empty W a q (omega arith)) gs g
+
+pub borne-below : (n : ℕ) (gs : List Gate) → n ≤ 20 → All (Good n) gs → (p : ℕ) → Among p (borne gs) → p < 2 ^ n
+borne-below n gs few g = borne-only n few (λ p. p < 2 ^ n) (λ W a b q h. b .small q h) gs g

@@ -1,38 +1,19 @@
--- One gate fed to the wires and to a meaning. Assumes nothing.
+-- One gate fed to a meaning. Assumes nothing.
 use mathlib.Core.Path.{_≡_, refl, sym, ap, _∙_}
 use mathlib.Core.Bool.{Bool, true, false}
-use mathlib.Core.List.{List}
-use Prim.Native.Nat.{ℕ, _≤_, _<_}
-use lib.ListN.{getD}
-use borrow.Author.Tests.{lt-ltb, le-ltb}
+use Prim.Native.Nat.{ℕ}
 use native.Mathlib.Omega.{arith}
+use lib.ListN.{getD}
 use Rattle.sets.specs.Pick.{pick}
-use Rattle.sets.specs.Columns.{cnot}
-use Rattle.meaning.specs.declared.gate.Gate.{Gate}
-use Rattle.meaning.specs.declared.gate.Gate.the-variants.{Cnot, Rotation, Bad}
-use Rattle.meaning.specs.declared.wires.Wires.{Wires}
-use Rattle.meaning.specs.declared.sums.Sums.{Sums}
+use Rattle.gates.specs.declared.gate.Gate.{Gate}
+use Rattle.gates.specs.declared.gate.Gate.the-variants.{Cnot, Rotation, Bad}
+use Rattle.circuit.specs.declared.wires.Wires.{Wires}
+use Rattle.table.specs.declared.sums.Sums.{Sums}
 use Rattle.meaning.specs.declared.told.Meaning.{Meaning}
-use Rattle.meaning.specs.Circuit.{step}
-use Rattle.meaning.specs.Told.{Added, Fed, fedWires, addedTo, fedMeaning}
-use Rattle.meaning.proofs.Ranks.{full-same}
-
--- ---- the wires
-
-module _ (w : Wires) (g : Gate) where
-  pub wires-cnot : (c t : ℕ) (xs : List ℕ) → g ≡ Cnot c t → xs ≡ cnot c t (w .parity) → _≡_ {A = Wires} (record { parity = xs }) (fedWires w g)
-  unfolding fedWires step
-  wires-cnot c t xs e h = ap (λ (ys : List ℕ). record { parity = ys }) h ∙ ap (fedWires w) (sym e)
-
-  pub wires-rotation : (q a : ℕ) → g ≡ Rotation q a → w ≡ fedWires w g
-  unfolding fedWires step
-  wires-rotation q a e = ap (fedWires w) (sym e)
-
-  pub wires-bad : g ≡ Bad → w ≡ fedWires w g
-  unfolding fedWires step
-  wires-bad e = ap (fedWires w) (sym e)
-
--- ---- a meaning
+use Rattle.circuit.specs.State.{fedWires}
+use Rattle.table.specs.Table.{Added, addedTo}
+use Rattle.table.proofs.Ranks.{full-same}
+use Rattle.meaning.specs.Told.{Fed, fedMeaning}
 
 pub fed-cnot : (m : Meaning) (g : Gate) (c t : ℕ) (w : Wires) → g ≡ Cnot c t → w ≡ fedWires (m .wires) g
     → _≡_ {A = Fed} (record { meaning = record { wires = w; sums = m .sums }; full = false }) (fedMeaning m g)

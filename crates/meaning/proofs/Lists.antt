@@ -10,8 +10,8 @@ use lib.Dec.{eqb, ltb}
 use lib.ListN.{length, getD, take, drop}
 use borrow.Author.Tests.{lt-ltb, le-ltb, eq-eqb, ne-eqb, ltb-true, ltb-false, eqb-true, eqb-false}
 use Rattle.sets.specs.Pick.{pick}
-use Rattle.meaning.specs.Borne.{insert, kept, Ascending, Among}
-use Rattle.meaning.specs.Told.{putIn}
+use Rattle.meaning.specs.Borne.{insert, Ascending, Among}
+use Rattle.table.specs.Table.{kept, putIn}
 
 -- each number is at least m, and greater than the one before it
 unfoldable pub Up : ℕ → List ℕ → Type 0

@@ -14,15 +14,16 @@ use lib.Seq.{ext-getD, getD-set-same, getD-set-other, set-append-left, take-appe
 use borrow.Author.Tests.{leb-true, leb-false, ltb-true, ltb-false, eqb-true, eqb-false}
 use Rattle.sets.specs.Pick.{pick, either, both}
 use Rattle.sets.proofs.Finding.{first-true, first-before}
-use Rattle.meaning.specs.declared.gate.Gate.{Gate}
-use Rattle.meaning.specs.declared.gate.Gate.the-variants.{Cnot, Rotation, Bad}
-use Rattle.meaning.specs.declared.sums.Sums.{Sums}
-use Rattle.meaning.specs.Circuit.{run, start, gives, given, sumOf}
-use Rattle.meaning.specs.Borne.{insert, borne, sumsOf, Ascending, Among, padded}
-use Rattle.meaning.specs.Told.{Added, stopsAt, rankOf, putIn, movedIn, heldAt, grownAt, newAt, addedTo, tableOf}
-use Rattle.meaning.proofs.Steps.{gives-borne, gives-other}
-use Rattle.meaning.proofs.Circuits.{given-snoc}
-use Rattle.meaning.proofs.Ranks.{rank-le, held-there, held-not-past, held-not-other, add-held, add-new, add-full}
+use Rattle.gates.specs.declared.gate.Gate.{Gate}
+use Rattle.gates.specs.declared.gate.Gate.the-variants.{Cnot, Rotation, Bad}
+use Rattle.table.specs.declared.sums.Sums.{Sums}
+use Rattle.circuit.specs.Circuit.{run, start, gives, given, sumOf}
+use Rattle.meaning.specs.Borne.{insert, borne, sumsOf, Ascending, Among}
+use Rattle.table.specs.Table.{padded, Added, stopsAt, rankOf, putIn, movedIn, heldAt, grownAt, newAt, addedTo}
+use Rattle.meaning.specs.Told.{tableOf}
+use Rattle.circuit.proofs.Steps.{gives-borne, gives-other}
+use Rattle.circuit.proofs.Circuits.{given-snoc}
+use Rattle.table.proofs.Ranks.{rank-le, held-there, held-not-past, held-not-other, add-held, add-new, add-full}
 use Rattle.meaning.proofs.Lists.{insert-held, insert-new, at-among}
 use Rattle.meaning.proofs.Bearing.{borne-snoc, bears-rotation, borne-ascending, not-borne}
 

@@ -13,18 +13,20 @@ use borrow.Author.Tests.{lt-ltb, le-ltb, ltb-true, ltb-false}
 use Rattle.sets.specs.Pick.{pick}
 use Rattle.sets.specs.Search.{firstOf}
 use Rattle.sets.proofs.Finding.{first-all, first-here, first-next, first-end}
-use Rattle.meaning.specs.declared.gate.Gate.{Gate}
-use Rattle.meaning.specs.declared.gate.Gate.the-variants.{Cnot, Rotation, Bad}
-use Rattle.meaning.specs.declared.sums.Sums.{Sums}
-use Rattle.meaning.specs.declared.wires.Wires.{Wires}
+use Rattle.gates.specs.declared.gate.Gate.{Gate}
+use Rattle.gates.specs.declared.gate.Gate.the-variants.{Cnot, Rotation, Bad}
+use Rattle.table.specs.declared.sums.Sums.{Sums}
+use Rattle.circuit.specs.declared.wires.Wires.{Wires}
 use Rattle.meaning.specs.declared.told.Meaning.{Meaning}
 use Rattle.meaning.specs.declared.told.Told.{Told}
-use Rattle.meaning.specs.Layout.{gateOf, gatesOf}
-use Rattle.meaning.specs.Circuit.{step, run, start, given, sumOf}
-use Rattle.meaning.specs.Borne.{bears, borne, borneFrom, sumsOf, padded, overAt}
-use Rattle.meaning.specs.Told.{Added, Fed, tabled, fedWires, fedMeaning, addedTo, wiresOf, tableOf, meaningOf, toldOf}
-use Rattle.meaning.proofs.Steps.{gives-cnot, gives-bad}
-use Rattle.meaning.proofs.Circuits.{run-snoc, given-snoc}
+use Rattle.gates.specs.Layout.{gateOf, gatesOf}
+use Rattle.circuit.specs.Circuit.{step, run, start, given, sumOf}
+use Rattle.meaning.specs.Borne.{bears, borne, borneFrom, sumsOf, overAt}
+use Rattle.table.specs.Table.{padded, Added, tabled, addedTo}
+use Rattle.meaning.specs.Told.{Fed, fedMeaning, tableOf, meaningOf, toldOf}
+use Rattle.circuit.specs.State.{fedWires, wiresOf}
+use Rattle.circuit.proofs.Steps.{gives-cnot, gives-bad}
+use Rattle.circuit.proofs.Circuits.{run-snoc, given-snoc}
 use Rattle.meaning.proofs.Bearing.{borne-cnot, borne-bad}
 use Rattle.meaning.proofs.Feeding.{fed-same}
 use Rattle.meaning.proofs.Tables.{padded-length, added-fits, added-full}

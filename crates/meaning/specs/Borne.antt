@@ -1,16 +1,17 @@
 -- The parities that bear a rotation, and the terms among them, ascending (document 01, "Meaning of a circuit", refusal 6).
 use mathlib.Core.Path.{_≡_}
 use mathlib.Core.Logic.{_⊎_}
-use mathlib.Core.List.{List, [], _∷_, _++_, map}
-use Prim.Native.Nat.{ℕ, zero, suc, _+_, _-_, _≤_, _<_}
+use mathlib.Core.List.{List, [], _∷_, map}
+use Prim.Native.Nat.{ℕ, _+_, _<_}
 use lib.Dec.{eqb, ltb}
-use lib.ListN.{length, getD, take, replicate}
+use lib.ListN.{length, getD, take}
 use Rattle.sets.specs.Pick.{pick}
 use Rattle.sets.specs.Search.{firstOf}
-use Rattle.meaning.specs.Limits.{mostParities}
-use Rattle.meaning.specs.declared.gate.Gate.{Gate}
-use Rattle.meaning.specs.declared.gate.Gate.the-variants.{Cnot, Rotation, Bad}
-use Rattle.meaning.specs.Circuit.{step, start, sumOf}
+use Rattle.gates.specs.Limits.{mostParities}
+use Rattle.gates.specs.declared.gate.Gate.{Gate}
+use Rattle.gates.specs.declared.gate.Gate.the-variants.{Cnot, Rotation, Bad}
+use Rattle.table.specs.Table.{kept}
+use Rattle.circuit.specs.Circuit.{step, start, sumOf}
 
 -- p put into an ascending list, once
 unfoldable pub insert : ℕ → List ℕ → List ℕ
@@ -35,12 +36,6 @@ borne gs = borneFrom gs start []
 unfoldable pub overAt : List Gate → ℕ
 overAt gs = firstOf (λ k. ltb mostParities (length (borne (take (k + 1) gs)))) (length gs) 0
 
--- those of xs beside which ss has another number than 0
-unfoldable pub kept : List ℕ → List ℕ → List ℕ
-kept [] ss = []
-kept (x ∷ xs) [] = []
-kept (x ∷ xs) (s ∷ ss) = pick (eqb s 0) (kept xs ss) (x ∷ kept xs ss)
-
 abbrev pub sumsOf : List Gate → List ℕ → List ℕ
 sumsOf gs ps = map (λ p. sumOf p gs) ps
 
@@ -56,7 +51,3 @@ Ascending xs = (i j : ℕ) → i < j → j < length xs → getD xs i 0 < getD xs
 unfoldable pub Among : ℕ → List ℕ → Type 0
 Among p [] = ⊥
 Among p (x ∷ xs) = (x ≡ p) ⊎ Among p xs
-
--- a list at the front of n places, 0 behind it
-unfoldable pub padded : ℕ → List ℕ → List ℕ
-padded n xs = xs ++ replicate (n - length xs) 0

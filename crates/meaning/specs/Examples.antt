@@ -2,21 +2,12 @@
 use mathlib.Core.Path.{_≡_}
 use mathlib.Core.List.{List, [], _∷_}
 use Prim.Native.Nat.{ℕ}
-use Rattle.meaning.specs.declared.gate.Gate.{Gate}
-use Rattle.meaning.specs.Layout.{packed, gatesOf}
-use Rattle.meaning.specs.Circuit.{finalOf, sumOf}
+use Rattle.gates.specs.declared.gate.Gate.{Gate}
+use Rattle.gates.specs.Example.{Example}
+use Rattle.gates.specs.Layout.{packed, gatesOf}
+use Rattle.circuit.specs.Circuit.{finalOf, sumOf}
 use Rattle.meaning.specs.Borne.{terms}
-use Rattle.meaning.specs.Tally.{depthOf, boundOf}
-
--- an example: its number, and what it says
-pub record Example : Type 1 where
-  pub number : ℕ
-  pub says : Type 0
-
--- all of them hold
-unfoldable pub True : List Example → Type 0
-True [] = Unit {0}
-True (e ∷ es) = e .says × True es
+use Rattle.tallies.specs.Tally.{depthOf, boundOf}
 
 -- records of gates, control first
 abbrev pub cnotRecord : ℕ → ℕ → ℕ

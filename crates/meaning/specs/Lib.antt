@@ -1,10 +1,4 @@
-pub mod Limits
-pub mod Layout
-pub mod Circuit
 pub mod Borne
 pub mod Same
-pub mod Tally
-pub mod Verdicts
 pub mod Told
 pub mod Examples
-pub mod InOrder

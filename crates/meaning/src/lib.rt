@@ -1,10 +1,2 @@
-// What a job is and what it means. Text, laying and everything between rest on what stands here.
-pub mod coupler;
-pub mod depth;
-pub mod gate;
-pub mod job;
-pub mod sums;
-pub mod tally;
+// What a job means: the wires and the table of sums, fed gate by gate.
 pub mod told;
-pub mod verdict;
-pub mod wires;

@@ -1,10 +1,10 @@
 // The meaning of a list of gates, told by feeding them one by one.
-use crate::gate;
-use crate::gate::Gate;
-use crate::sums;
-use crate::sums::Sums;
-use crate::wires::Wires;
-use crate::wires::borne_on;
+use circuit::wires::Wires;
+use circuit::wires::borne_on;
+use gates::gate;
+use gates::gate::Gate;
+use table::sums;
+use table::sums::Sums;
 ghost use mathlib.Core.Path.{_≡_};
 ghost use Rattle.meaning.specs.Told.{toldOf};
 

@@ -11,7 +11,7 @@ use lib.Seq.{getD-drop}
 use borrow.Author.Tests.{eq-eqb, ne-eqb}
 use Rattle.sets.specs.Bit.{has}
 use Rattle.sets.specs.Size.{lowestOf, onlyOf}
-use Rattle.meaning.specs.declared.gate.Gate.{Gate}
+use Rattle.gates.specs.declared.gate.Gate.{Gate}
 use Rattle.columns.specs.Gather.{movesAt, leftAt, gatherFrom}
 use Rattle.columns.proofs.GatherWorks.{gather-step, gather-none, moves-few}
 use Rattle.nearest.specs.Choice.{outAt}

@@ -11,8 +11,8 @@ use lib.Count.{ones}
 use lib.ListN.{length, getD, List·getD-eq-default}
 use Rattle.sets.specs.Bit.{bit, Sub}
 use Rattle.sets.proofs.Bits.{bit-of-zero}
-use Rattle.meaning.specs.declared.gate.Gate.{Gate}
-use Rattle.meaning.specs.Tally.{cnotsOf}
+use Rattle.gates.specs.declared.gate.Gate.{Gate}
+use Rattle.tallies.specs.Tally.{cnotsOf}
 use Rattle.chip.specs.Graph.{Symm, Joined}
 use Rattle.columns.specs.Tables.{sumTo}
 use Rattle.columns.specs.Pieces.{Piece, idle, after}

@@ -14,9 +14,9 @@ use Rattle.sets.proofs.Bits.{bit-of-zero}
 use Rattle.sets.proofs.Members.{in-lt}
 use Rattle.sets.proofs.Turn.{turn-sub, turn-off}
 use Rattle.sets.proofs.Words.{single-pow}
-use Rattle.meaning.specs.declared.gate.Gate.{Gate}
-use Rattle.meaning.specs.declared.gate.Gate.the-variants.{Cnot, Rotation, Bad}
-use Rattle.meaning.specs.Tally.{cnotsOf}
+use Rattle.gates.specs.declared.gate.Gate.{Gate}
+use Rattle.gates.specs.declared.gate.Gate.the-variants.{Cnot, Rotation, Bad}
+use Rattle.tallies.specs.Tally.{cnotsOf}
 use Rattle.columns.specs.Pieces.{Piece, piece, idle, after, andThen}
 use Rattle.columns.specs.Turning.{turnAll}
 use Rattle.columns.specs.Striking.{strikeOff}

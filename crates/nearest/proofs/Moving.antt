@@ -5,8 +5,8 @@ use mathlib.Core.List.{List, [], _∷_}
 use Prim.Native.Nat.{ℕ, suc, _+_, _-_, _≤_, _<_}
 use native.Mathlib.Omega.{arith}
 use lib.ListN.{getD}
-use Rattle.meaning.specs.declared.gate.Gate.{Gate}
-use Rattle.meaning.specs.declared.gate.Gate.the-variants.{Cnot}
+use Rattle.gates.specs.declared.gate.Gate.{Gate}
+use Rattle.gates.specs.declared.gate.Gate.the-variants.{Cnot}
 use Rattle.columns.specs.Pieces.{idle, andThen, Memory, held, wrote}
 use Rattle.columns.specs.Turning.{layCnot}
 use Rattle.columns.specs.Striking.{strikeOff}

@@ -18,11 +18,11 @@ use Rattle.sets.proofs.Members.{in-and, in-lt}
 use Rattle.sets.proofs.Ones.{ones-pow, ones-put, ones-drop}
 use Rattle.sets.proofs.Turn.{turn-on, turn-off}
 use Rattle.sets.proofs.Words.{has-true, has-false}
-use Rattle.meaning.specs.declared.gate.Gate.{Gate}
-use Rattle.meaning.specs.declared.gate.Gate.the-variants.{Cnot, Rotation, Bad}
+use Rattle.gates.specs.declared.gate.Gate.{Gate}
+use Rattle.gates.specs.declared.gate.Gate.the-variants.{Cnot, Rotation, Bad}
 use Rattle.chip.specs.Graph.{Near, Symm}
-use Rattle.chip.specs.Spare.{connectedOf}
-use Rattle.chip.proofs.Spares.{connected-joined}
+use Rattle.spares.specs.Spare.{connectedOf}
+use Rattle.spares.proofs.Spares.{connected-joined}
 use Rattle.columns.specs.Gather.{turns, gatherOf}
 use Rattle.columns.proofs.GatherWorks.{gathers}
 use Rattle.nearest.specs.Choice.{triedAt, overQubits}

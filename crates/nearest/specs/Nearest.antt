@@ -4,7 +4,7 @@ use Prim.Native.Nat.{ℕ, zero, suc}
 use lib.Dec.{ltb}
 use lib.ListN.{getD}
 use Rattle.sets.specs.Pick.{pick}
-use Rattle.meaning.specs.Limits.{mostParities}
+use Rattle.gates.specs.Limits.{mostParities}
 use Rattle.columns.specs.Pieces.{Piece, idle, andThen}
 use Rattle.columns.specs.Striking.{strikeOff}
 use Rattle.columns.specs.Gather.{gatherOf}

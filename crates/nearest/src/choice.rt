@@ -1,7 +1,7 @@
 // Which column is gathered next, and at which of its qubits: the nearest.
 use columns::gather;
 use columns::turning;
-use meaning::job::Job;
+use gates::job::Job;
 ghost use mathlib.Core.Path.{_≡_};
 ghost use Prim.Native.Nat.{_+_, _-_, _*_, _≤_, _<_, min};
 ghost use lib.ListN.{length, getD, drop};

@@ -1,7 +1,7 @@
 // Nearest first, the second way: from an island's terms to CNOTs and rotations.
 use columns::striking;
 use columns::turning;
-use meaning::job::Job;
+use gates::job::Job;
 ghost use mathlib.Core.Path.{_≡_};
 ghost use mathlib.Core.Bool.{false};
 ghost use lib.ListN.{take};

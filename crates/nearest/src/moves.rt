@@ -2,7 +2,7 @@
 use columns::gather;
 use columns::striking;
 use columns::turning;
-use meaning::job::Job;
+use gates::job::Job;
 ghost use mathlib.Core.Path.{_≡_};
 ghost use mathlib.Core.Bool.{false};
 ghost use Prim.Native.Nat.{_≤_};

@@ -1,7 +1,7 @@
 // Whether every gathering is sure to work. An island's are, and the search for the nearest is then
 // shorter.
-use chip::spare;
-use meaning::job::Job;
+use gates::job::Job;
+use spares::spare;
 ghost use Prim.Native.Nat.{_<_};
 ghost use Rattle.chip.specs.Graph.{Symm};
 ghost use Rattle.nearest.specs.Sure.{Sure, Answered, Mutual, Told};

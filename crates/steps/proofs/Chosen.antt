@@ -13,8 +13,8 @@ use Rattle.sets.proofs.Members.{in-lt, some-bit, in-and, and-in}
 use Rattle.sets.proofs.Ones.{ones-of-zero}
 use Rattle.sets.proofs.Words.{has-true, in-has}
 use Rattle.chip.specs.Graph.{Near, Symm, Joined}
-use Rattle.chip.specs.Spare.{spareOf}
-use Rattle.chip.proofs.Spares.{spare-in, spare-other, neighbour-in}
+use Rattle.spares.specs.Spare.{spareOf}
+use Rattle.spares.proofs.Spares.{spare-in, spare-other, neighbour-in}
 use Rattle.columns.specs.Tables.{tab, one}
 use Rattle.columns.proofs.Tabling.{tab-at, sum-le}
 use Rattle.steps.specs.Selection.{countOf, oneAt, rowOf}

@@ -13,7 +13,7 @@ use Rattle.sets.specs.Columns.{turn}
 use Rattle.sets.proofs.Bits.{bit-of-zero}
 use Rattle.sets.proofs.Members.{in-lt}
 use Rattle.sets.proofs.Turn.{turn-other, turn-same}
-use Rattle.meaning.specs.Tally.{cnotsOf}
+use Rattle.tallies.specs.Tally.{cnotsOf}
 use Rattle.chip.specs.Graph.{Near}
 use Rattle.columns.specs.Pieces.{Piece, piece, andThen}
 use Rattle.columns.specs.Turning.{layCnot}

@@ -13,7 +13,7 @@ use Rattle.sets.specs.Bit.{bit, In, Sub}
 use Rattle.sets.proofs.Members.{in-lt, put-other, put-cases}
 use Rattle.sets.proofs.Ones.{ones-drop, drop-same}
 use Rattle.sets.proofs.Words.{only-is}
-use Rattle.meaning.specs.Tally.{cnotsOf}
+use Rattle.tallies.specs.Tally.{cnotsOf}
 use Rattle.chip.specs.Graph.{Joined}
 use Rattle.columns.specs.Pieces.{Piece, idle}
 use Rattle.columns.specs.Terms.{Laying}

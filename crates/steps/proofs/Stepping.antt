@@ -9,10 +9,10 @@ use native.Mathlib.Decide.{ℕ-discrete}
 use lib.ListN.{getD}
 use lib.Count.{ones}
 use Rattle.sets.specs.Bit.{In}
-use Rattle.meaning.specs.Tally.{cnotsOf}
+use Rattle.tallies.specs.Tally.{cnotsOf}
 use Rattle.chip.specs.Graph.{Symm, Joined}
-use Rattle.chip.specs.Spare.{spareOf}
-use Rattle.chip.proofs.Spares.{spare-in, spare-joined}
+use Rattle.spares.specs.Spare.{spareOf}
+use Rattle.spares.proofs.Spares.{spare-in, spare-joined}
 use Rattle.columns.specs.Pieces.{Piece, after}
 use Rattle.columns.proofs.Piecing.{then-on}
 use Rattle.columns.proofs.Gates.{cnots-append}

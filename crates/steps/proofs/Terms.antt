@@ -11,7 +11,7 @@ use lib.ListN.{length, getD, List·getD-eq-default}
 use lib.Count.{ones}
 use Rattle.sets.specs.Bit.{Sub}
 use Rattle.sets.specs.Size.{singleOf, sizeOf}
-use Rattle.meaning.specs.Tally.{cnotsOf}
+use Rattle.tallies.specs.Tally.{cnotsOf}
 use Rattle.chip.specs.Graph.{Symm, Joined}
 use Rattle.columns.specs.Tables.{sumTo, one}
 use Rattle.columns.specs.Emit.{emitAt}

@@ -9,8 +9,8 @@ use Rattle.sets.specs.Pick.{pick, both}
 use Rattle.sets.specs.Bit.{has}
 use Rattle.sets.specs.Size.{onlyOf}
 use Rattle.sets.specs.Search.{firstOf}
-use Rattle.meaning.specs.Limits.{mostQubits}
-use Rattle.chip.specs.Spare.{spareOf}
+use Rattle.gates.specs.Limits.{mostQubits}
+use Rattle.spares.specs.Spare.{spareOf}
 use Rattle.columns.specs.Tables.{tab}
 use Rattle.steps.specs.Selection.{countOf, rowOf}
 

@@ -6,7 +6,7 @@ use lib.Dec.{eqb}
 use lib.ListN.{getD}
 use Rattle.sets.specs.Pick.{both}
 use Rattle.sets.specs.Bit.{has}
-use Rattle.meaning.specs.Limits.{mostQubits, mostParities}
+use Rattle.gates.specs.Limits.{mostQubits, mostParities}
 use Rattle.columns.specs.Tables.{tab, sumTo, one}
 
 -- how many columns are selected

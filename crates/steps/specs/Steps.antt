@@ -5,7 +5,7 @@ use Prim.Native.Nat.{ℕ, zero, suc}
 use lib.Dec.{eqb, ltb}
 use Rattle.sets.specs.Pick.{pick}
 use Rattle.sets.specs.Size.{sizeOf}
-use Rattle.meaning.specs.Limits.{mostQubits}
+use Rattle.gates.specs.Limits.{mostQubits}
 use Rattle.columns.specs.Emit.{emitAt}
 use Rattle.columns.specs.Pieces.{Piece, idle, halted, andThen, Memory, held}
 use Rattle.columns.specs.Turning.{layCnot}

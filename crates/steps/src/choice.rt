@@ -1,12 +1,12 @@
 // The qubits that the steps choose.
 use crate::selection;
-use chip::spare;
-use meaning::job::Job;
+use gates::job::Job;
+use spares::spare;
 ghost use mathlib.Core.Path.{_≡_};
 ghost use lib.ListN.{getD};
 ghost use Rattle.sets.specs.Bit.{has};
-ghost use Rattle.meaning.specs.Limits.{mostQubits};
-ghost use Rattle.chip.specs.Spare.{spareOf};
+ghost use Rattle.gates.specs.Limits.{mostQubits};
+ghost use Rattle.spares.specs.Spare.{spareOf};
 ghost use Rattle.columns.specs.Tables.{tab};
 ghost use Rattle.steps.specs.Choice.{bestOf, moreOf, sparing, without, beside, partner};
 

@@ -1,7 +1,7 @@
 // The steps of document 000, Figure 1: from an island's terms to CNOTs and rotations.
 use columns::striking;
 use columns::turning;
-use meaning::job::Job;
+use gates::job::Job;
 ghost use mathlib.Core.Path.{_≡_};
 ghost use lib.ListN.{take};
 ghost use Rattle.columns.specs.Emit.{emit};

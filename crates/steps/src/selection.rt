@@ -1,10 +1,10 @@
 // Selected columns: a set of places, handed down by value.
 use columns::turning;
-use meaning::job::Job;
+use gates::job::Job;
 ghost use mathlib.Core.Path.{_≡_};
 ghost use Prim.Native.Nat.{_+_, _≤_};
 ghost use Rattle.sets.specs.Bit.{has};
-ghost use Rattle.meaning.specs.Limits.{mostQubits};
+ghost use Rattle.gates.specs.Limits.{mostQubits};
 ghost use Rattle.columns.specs.Tables.{tab, one};
 ghost use Rattle.steps.specs.Selection.{countOf, zeroAt, oneAt, zerosOf, onesOf, liveOf, rowOf, Few, talliedOf};
 

@@ -4,7 +4,7 @@ use crate::choice;
 use crate::selection;
 use columns::striking;
 use columns::turning;
-use meaning::job::Job;
+use gates::job::Job;
 ghost use mathlib.Core.Path.{_≡_};
 ghost use mathlib.Core.Bool.{false};
 ghost use Rattle.columns.specs.Pieces.{held, wrote};

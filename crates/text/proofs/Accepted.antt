@@ -1,4 +1,4 @@
--- What the writer accepts fits a text: laws of `meaning`'s tests. Assumes nothing.
+-- What the writer accepts fits a text: laws of the tests of a job. Assumes nothing.
 use mathlib.Core.Path.{_≡_, refl}
 use mathlib.Core.Logic.{_⊎_, inl, inr}
 use mathlib.Core.Bool.{Bool, true, false}
@@ -10,15 +10,15 @@ use lib.ListN.{length, getD}
 use borrow.Author.Tests.{ltb-false, leb-true, eqb-true}
 use Rattle.sets.specs.Pick.{pick, both}
 use Rattle.sets.proofs.Finding.{first-before}
-use Rattle.meaning.specs.Limits.{mostQubits, mostCouplers}
-use Rattle.meaning.specs.Layout.{kindIn, aIn, bIn, gateOf, isBad, cnotOf, rotationOf, couplerOf, isWrong}
-use Rattle.meaning.specs.declared.gate.Gate.the-variants.{Bad}
-use Rattle.meaning.specs.declared.coupler.Coupler.{Coupler}
-use Rattle.meaning.specs.declared.coupler.Coupler.the-variants.{Wrong}
-use Rattle.meaning.specs.Verdicts.{numberOf, firstFailing, judgedQubits, wrongAt, judgedCouplers, badAt, judgedGates}
-use Rattle.meaning.specs.declared.verdict.Verdict.the-variants.{Accepted, Qubits, ManyCouplers, WrongCoupler, BadGate}
-use Rattle.text.specs.Limits.{mostFirst}
-use Rattle.text.specs.Misfit.{Fit, AllFit}
+use Rattle.gates.specs.Limits.{mostQubits, mostCouplers}
+use Rattle.gates.specs.Layout.{kindIn, aIn, bIn, gateOf, isBad, cnotOf, rotationOf, couplerOf, isWrong}
+use Rattle.gates.specs.declared.gate.Gate.the-variants.{Bad}
+use Rattle.gates.specs.declared.coupler.Coupler.{Coupler}
+use Rattle.gates.specs.declared.coupler.Coupler.the-variants.{Wrong}
+use Rattle.verdicts.specs.Verdicts.{numberOf, firstFailing, judgedQubits, wrongAt, judgedCouplers, badAt, judgedGates}
+use Rattle.verdicts.specs.declared.verdict.Verdict.the-variants.{Accepted, Qubits, ManyCouplers, WrongCoupler, BadGate}
+use Rattle.reading.specs.Limits.{mostFirst}
+use Rattle.reading.specs.Misfit.{Fit, AllFit}
 
 two : {B : Type 0} → true ≡ false → B
 two e = let z : _≡_ {A = ℕ} 0 1 = cc e in absurd (omega arith)

@@ -2,9 +2,9 @@
 use mathlib.Core.Path.{_≡_, refl}
 use mathlib.Core.List.{List, [], _∷_, _++_}
 use Prim.Native.Nat.{ℕ}
-use Rattle.meaning.specs.Layout.{packed, kindIn, aIn, bIn}
-use Rattle.text.specs.Lines.{digitsIn, digits, fieldsText, lineText, letter, recordText, recordsText, textOf, refusalText, countsText}
-use Rattle.text.specs.Parsing.{misfit, job, parsed, bodyOf, endOf, headOf, runOf, runIn, oneOf, orElse, lineOf, readNumber, numberIn, moreOf, digitOf, skipped}
+use Rattle.gates.specs.Layout.{packed, kindIn, aIn, bIn}
+use Rattle.lines.specs.Lines.{digitsIn, digits, fieldsText, lineText, letter, recordText, recordsText, textOf, refusalText, countsText}
+use Rattle.reading.specs.Parsing.{misfit, job, parsed, bodyOf, endOf, headOf, runOf, runIn, oneOf, orElse, lineOf, readNumber, numberIn, moreOf, digitOf, skipped}
 
 -- q 2, e 1 0, r 1 500, r 0 7, r 1 65036
 text : List ℕ

@@ -8,12 +8,12 @@ use lib.Dec.{leb, eqb}
 use lib.ListN.{length}
 use borrow.Author.Tests.{eqb-true, eq-eqb, ne-eqb, leb-true}
 use Rattle.sets.specs.Pick.{pick}
-use Rattle.meaning.specs.Verdicts.{numberOf, judgedQubits, judgedCouplers, judgedGates}
-use Rattle.meaning.specs.declared.verdict.Verdict.{Verdict}
-use Rattle.meaning.specs.declared.verdict.Verdict.the-variants.{Accepted, Room}
-use Rattle.meaning.specs.InOrder.{andThen}
-use Rattle.meaning.proofs.Judged.{then-on, then-stop, then-zero}
-use Rattle.text.specs.Lines.{textOf}
+use Rattle.verdicts.specs.Verdicts.{numberOf, judgedQubits, judgedCouplers, judgedGates}
+use Rattle.verdicts.specs.declared.verdict.Verdict.{Verdict}
+use Rattle.verdicts.specs.declared.verdict.Verdict.the-variants.{Accepted, Room}
+use Rattle.verdicts.specs.InOrder.{andThen}
+use Rattle.verdicts.proofs.Judged.{then-on, then-stop, then-zero}
+use Rattle.lines.specs.Lines.{textOf}
 use Rattle.text.specs.Writings.{judgedRoom, judgedText, writingOf}
 use Rattle.text.specs.declared.write.Writing.the-variants.{Written, Refused}
 

@@ -1,16 +1,5 @@
-pub mod Layouts
-pub mod Steps
-pub mod Digits
-pub mod Lines
-pub mod Runs
-pub mod Loops
-pub mod Answers
-pub mod Writes
-pub mod Rooms
 pub mod Judging
 pub mod Accepted
-pub mod Fronts
-pub mod Misfits
 pub mod RoundTrip
 pub mod Values
 pub mod Examples

@@ -8,27 +8,27 @@ use lib.Dec.{leb, eqb}
 use lib.ListN.{length, take}
 use lib.Seq.{take-append-seam}
 use Rattle.sets.specs.Pick.{pick, both}
-use Rattle.meaning.specs.declared.job.Job.{Job}
-use Rattle.meaning.specs.declared.verdict.Verdict.{Verdict}
-use Rattle.meaning.specs.declared.verdict.Verdict.the-variants.{Accepted, Room, Line, LongText}
-use Rattle.meaning.specs.Verdicts.{numberOf}
-use Rattle.meaning.specs.InOrder.{andThen}
-use Rattle.text.specs.Limits.{mostBytes}
-use Rattle.text.specs.Lines.{textOf}
-use Rattle.text.specs.Misfit.{JobText, NoLf, Misfit}
-use Rattle.text.specs.Parsing.{Parsed, misfit, job, endOf, parsed}
-use Rattle.text.specs.Places.{onto}
-use Rattle.text.specs.Readings.{judgedLines, judgedReading, readingOf, couplersIn, gatesIn, jobIn, listAfter}
-use Rattle.text.specs.declared.read.Reading.{Reading}
-use Rattle.text.specs.declared.read.Reading.the-variants.{Read, Refused}
+use Rattle.gates.specs.declared.job.Job.{Job}
+use Rattle.verdicts.specs.declared.verdict.Verdict.{Verdict}
+use Rattle.verdicts.specs.declared.verdict.Verdict.the-variants.{Accepted, Room, Line, LongText}
+use Rattle.verdicts.specs.Verdicts.{numberOf}
+use Rattle.verdicts.specs.InOrder.{andThen}
+use Rattle.reading.specs.Limits.{mostBytes}
+use Rattle.lines.specs.Lines.{textOf}
+use Rattle.reading.specs.Misfit.{JobText, NoLf, Misfit}
+use Rattle.reading.specs.Parsing.{Parsed, misfit, job, endOf, parsed}
+use Rattle.lines.specs.Lent.{onto}
+use Rattle.reading.specs.Readings.{judgedLines, judgedReading, readingOf, couplersIn, gatesIn, jobIn, listAfter}
+use Rattle.reading.specs.declared.read.Reading.{Reading}
+use Rattle.reading.specs.declared.read.Reading.the-variants.{Read, Refused}
 use Rattle.text.specs.Writings.{writingOf, textAfter}
 use Rattle.text.specs.declared.write.Writing.the-variants.{Written}
 use Rattle.text.proofs.Accepted.{qubits-few, couplers-fit, gates-fit}
-use Rattle.text.proofs.Answers.{answer-line, answer-job, parsed-first}
-use Rattle.text.proofs.Fronts.{unended-none, unended-head}
+use Rattle.reading.proofs.Answers.{answer-line, answer-job, parsed-first}
+use Rattle.reading.proofs.Fronts.{unended-none, unended-head}
 use Rattle.text.proofs.Judging.{written}
-use Rattle.text.proofs.Misfits.{job-found, misfit-first, misfit-parsed}
-use Rattle.text.proofs.Runs.{parsed-forth, text-parsed}
+use Rattle.reading.proofs.Misfits.{job-found, misfit-first, misfit-parsed}
+use Rattle.reading.proofs.Runs.{parsed-forth, text-parsed}
 
 -- ---- what stands in the lent memory: the first `bytes` bytes that writing left, the first records that reading left
 

@@ -4,12 +4,12 @@ use mathlib.Core.List.{List}
 use lib.ListN.{length}
 use lib.Dec.{leb, eqb}
 use Rattle.sets.specs.Pick.{pick}
-use Rattle.meaning.specs.declared.verdict.Verdict.{Verdict}
-use Rattle.meaning.specs.declared.verdict.Verdict.the-variants.{Accepted, Room}
-use Rattle.meaning.specs.Verdicts.{numberOf, judgedQubits, judgedCouplers, judgedGates}
-use Rattle.meaning.specs.InOrder.{andThen}
-use Rattle.text.specs.Lines.{textOf}
-use Rattle.text.specs.Places.{onto}
+use Rattle.verdicts.specs.declared.verdict.Verdict.{Verdict}
+use Rattle.verdicts.specs.declared.verdict.Verdict.the-variants.{Accepted, Room}
+use Rattle.verdicts.specs.Verdicts.{numberOf, judgedQubits, judgedCouplers, judgedGates}
+use Rattle.verdicts.specs.InOrder.{andThen}
+use Rattle.lines.specs.Lines.{textOf}
+use Rattle.lines.specs.Lent.{onto}
 use Rattle.text.specs.declared.write.Writing.{Writing}
 use Rattle.text.specs.declared.write.Writing.the-variants.{Written, Refused}
 
@@ -43,11 +43,3 @@ writingOf n couplers gates room =
 -- the lent text on return: new bytes at the front; a refusal leaves it as it was
 abbrev pub textAfter : Writing → List ℕ → List ℕ → List ℕ
 textAfter r new old = pick (eqb (numberOf (writeVerdict r)) 0) (onto new old) old
-
--- ---- a single line in a room of so many bytes: its length, or 0 and nothing written where it is too long
-
-abbrev pub lineLength : List ℕ → ℕ → ℕ
-lineLength line room = pick (leb (length line) room) (length line) 0
-
-abbrev pub lineAfter : List ℕ → List ℕ → List ℕ
-lineAfter line old = pick (leb (length line) (length old)) (onto line old) old

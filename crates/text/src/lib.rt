@@ -1,9 +1,2 @@
-// The job text, read and written. It rests on the meaning's records and verdicts, and knows no chip and no laying.
-mod line;
-pub mod print;
-mod put;
-pub mod read;
-mod room;
-mod run;
-mod spot;
+// A job's text, written; what is written is read back, and what is read was written so.
 pub mod write;

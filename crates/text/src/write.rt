@@ -1,16 +1,16 @@
 // The writer of a job's text. It judges the lists and the room before it writes a byte.
-use crate::line;
-use crate::put;
-use crate::room;
-use crate::room::Room;
-use meaning::verdict;
-use meaning::verdict::Verdict;
+use lines::letter;
+use lines::put;
+use lines::room;
+use lines::room::Room;
+use verdicts::verdict;
+use verdicts::verdict::Verdict;
 ghost use mathlib.Core.Path.{_≡_};
 ghost use Prim.Native.Nat.{_≤_, _+_};
 ghost use lib.Dec.{leb};
 ghost use lib.ListN.{length};
 ghost use lib.Seq.{sets};
-ghost use Rattle.text.specs.Lines.{recordText, recordsText, textOf};
+ghost use Rattle.lines.specs.Lines.{recordText, recordsText, textOf};
 ghost use Rattle.text.specs.Writings.{judgedText, writingOf, textAfter};
 
 pub enum Writing {
@@ -22,7 +22,7 @@ fn put_record(text: &mut [u8], at: usize, x: u32) -> usize
     requires { ⌜ at + length (recordText x) ≤ length (now text) ⌝ }
     ensures { λ r. ⌜ (r ≡ at + length (recordText x)) × (now (text .exit) ≡ sets (now (text .entry)) at (recordText x)) ⌝ }
 {
-    let letter = line::letter_of(x / 16777216);
+    let letter = letter::letter_of(x / 16777216);
     let numbers = [(x / 65536 % 256) as usize, (x % 65536) as usize];
     put::put_line(text, at, letter, &numbers)
 }

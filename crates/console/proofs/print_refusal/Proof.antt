@@ -2,7 +2,7 @@
 use mathlib.Core.Path.{ap₂}
 use mathlib.Core.List.{List}
 use Prim.Native.Nat.{ℕ}
-use Rattle.text.specs.Lines.{refusalText}
+use Rattle.lines.specs.Lines.{refusalText}
 use Rattle.console.specs.Printed.{refusalOf}
 use Rattle.console.proofs.Choosing.{prints-same}
 use borrow.Author.Needs.{needs}

@@ -1,6 +1,6 @@
 -- `ending::closing::close` meets its contract. Assumes nothing.
 use mathlib.Core.Path.{sym, ap, _∙_}
-use Rattle.meaning.specs.Layout.{gatesOf}
+use Rattle.gates.specs.Layout.{gatesOf}
 use Rattle.columns.specs.Emit.{emit, emitAt}
 use Rattle.ending.proofs.Writing.{written-both, written-same}
 use Rattle.ending.proofs.Recursion.{closing-back, closing-onward}

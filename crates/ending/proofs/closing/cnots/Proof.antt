@@ -2,7 +2,7 @@
 use mathlib.Core.Path.{_≡_, refl}
 use Prim.Native.Nat.{_≤_, _+_, _-_}
 use lib.ListN.{length, drop}
-use Rattle.meaning.specs.Layout.{gatesOf}
+use Rattle.gates.specs.Layout.{gatesOf}
 use Rattle.ending.specs.Closing.{backOf}
 use Rattle.ending.proofs.Writing.{count-next, count-end, back-one}
 use borrow.Author.Needs.{needs}

@@ -2,7 +2,7 @@
 use mathlib.Core.Path.{_≡_, refl, sym, _∙_}
 use Prim.Native.Nat.{_≤_}
 use lib.ListN.{length, take}
-use Rattle.meaning.specs.Layout.{gatesOf}
+use Rattle.gates.specs.Layout.{gatesOf}
 use Rattle.ending.specs.Closing.{backOf}
 use Rattle.ending.proofs.Writing.{Writes, writes-start, writes-on, writes-end, back-more, back-all, back-done}
 use borrow.Author.Needs.{needs}

@@ -1,7 +1,7 @@
 -- `ending::closing::put_cnot_of` meets its contract. Assumes nothing.
 use mathlib.Core.Path.{sym, ap, _∙_}
 use mathlib.Core.List.{List, [], _∷_}
-use Rattle.meaning.specs.declared.gate.Gate.{Gate}
+use Rattle.gates.specs.declared.gate.Gate.{Gate}
 use Rattle.columns.specs.Emit.{emit, emitAt}
 use Rattle.ending.specs.Closing.{backOf}
 use Rattle.ending.proofs.Writing.{written-none}

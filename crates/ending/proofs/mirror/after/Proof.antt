@@ -1,8 +1,8 @@
 -- `ending::mirror::after` meets its contract. Assumes nothing.
 use mathlib.Core.Path.{sym, ap, _∙_}
 use mathlib.Core.List.{List, [], _∷_}
-use Rattle.meaning.specs.declared.gate.Gate.{Gate}
-use Rattle.meaning.specs.Circuit.{run, step}
+use Rattle.gates.specs.declared.gate.Gate.{Gate}
+use Rattle.circuit.specs.Circuit.{run, step}
 use Rattle.columns.specs.Gather.{flip}
 use borrow.Author.Needs.{needs}
 use Rattle.ending.proofs.mirror.after.Statement.{statement}

@@ -2,8 +2,8 @@
 use mathlib.Core.Path.{_≡_, refl, ap}
 use Prim.Native.Nat.{_≤_, _-_}
 use lib.ListN.{length, drop}
-use Rattle.meaning.specs.Layout.{gatesOf}
-use Rattle.meaning.specs.Circuit.{run}
+use Rattle.gates.specs.Layout.{gatesOf}
+use Rattle.circuit.specs.Circuit.{run}
 use Rattle.columns.specs.Gather.{flip}
 use Rattle.ending.specs.Mirror.{mirrorsOf}
 use Rattle.ending.proofs.Writing.{mirror-start, mirror-next, mirror-end}

@@ -2,7 +2,7 @@
 use mathlib.Core.Path.{sym, ap, ap₂, _∙_}
 use mathlib.Core.Bool.{Bool}
 use mathlib.Core.List.{List, [], _∷_}
-use Rattle.meaning.specs.declared.gate.Gate.{Gate}
+use Rattle.gates.specs.declared.gate.Gate.{Gate}
 use Rattle.ending.specs.Rows.{played, seen}
 use Rattle.ending.proofs.Playing.{fed-rotation, fed-bad}
 use borrow.Author.Needs.{needs}

@@ -2,7 +2,7 @@
 use mathlib.Core.Path.{_≡_, refl}
 use Prim.Native.Nat.{_≤_, _-_}
 use lib.ListN.{length, drop}
-use Rattle.meaning.specs.Layout.{gatesOf}
+use Rattle.gates.specs.Layout.{gatesOf}
 use Rattle.ending.specs.Rows.{played, seen}
 use Rattle.ending.proofs.Playing.{replayed-next, replayed-end}
 use borrow.Author.Needs.{needs}

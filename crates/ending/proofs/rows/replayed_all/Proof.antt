@@ -1,6 +1,6 @@
 -- `ending::rows::replayed_all` meets its contract. Assumes nothing.
 use Prim.Native.Nat.{_-_}
-use Rattle.meaning.specs.Layout.{gatesOf}
+use Rattle.gates.specs.Layout.{gatesOf}
 use Rattle.ending.specs.Rows.{seen}
 use Rattle.ending.proofs.Playing.{Rowed, rowed-start, rowed-next, rowed-end}
 use borrow.Author.Needs.{needs}

@@ -2,7 +2,7 @@
 use mathlib.Core.Path.{sym}
 use lib.ListN.{length-map}
 use Rattle.laying.specs.Verdict.{countsOf}
-use Rattle.meaning.specs.Layout.{gateOf}
+use Rattle.gates.specs.Layout.{gateOf}
 use borrow.Author.Needs.{needs}
 use Rattle.laying.proofs.lay.counted.Statement.{statement}
 use Rattle.laying.proofs.lay.counted.Tie as tie

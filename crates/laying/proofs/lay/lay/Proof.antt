@@ -1,8 +1,8 @@
 -- `laying::lay::lay` meets its contract: tests 1 to 8, then the circuit laid aside is copied. Assumes nothing.
 use mathlib.Core.Path.{sym, ap, _∙_}
-use Rattle.meaning.specs.Verdicts.{numberOf}
+use Rattle.verdicts.specs.Verdicts.{numberOf}
 use Rattle.laying.proofs.Accepting.{job-layable}
-use Rattle.laying.proofs.Owned.{part-fits, part-long}
+use Rattle.ways.proofs.Owned.{part-fits, part-long}
 use Rattle.laying.proofs.Answering.{refused, copied, on-same, on-not-stuck}
 use borrow.Author.Needs.{needs}
 use Rattle.laying.proofs.lay.lay.Statement.{statement}

@@ -4,8 +4,8 @@ use mathlib.Core.Logic.{⊎-elim}
 use Prim.Native.Nat.{_-_, _<_}
 use lib.ListN.{length}
 use Rattle.meaning.specs.declared.told.Meaning.{Meaning}
-use Rattle.meaning.specs.Layout.{gatesOf}
-use Rattle.meaning.specs.Told.{tabled}
+use Rattle.gates.specs.Layout.{gatesOf}
+use Rattle.table.specs.Table.{tabled}
 use Rattle.meaning.proofs.Feeding.{fed-cnot, fed-rotation, fed-bad}
 use Rattle.meaning.proofs.Telling.{Telling, telling-none, parity-long, sum-long, tell-next, tell-full, tell-all}
 use borrow.Author.Needs.{needs}

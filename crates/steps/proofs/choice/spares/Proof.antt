@@ -5,7 +5,7 @@ use mathlib.Core.Bool.{false}
 use native.Mathlib.Omega.{arith}
 use lib.ListN.{length, length-set}
 use Rattle.columns.proofs.Tabling.{Filled, filled-next, filled-all}
-use Rattle.chip.specs.Spare.{spareOf}
+use Rattle.spares.specs.Spare.{spareOf}
 use Rattle.columns.specs.Tables.{tab}
 use borrow.Author.Needs.{needs}
 use Rattle.steps.proofs.choice.spares.Statement.{statement}

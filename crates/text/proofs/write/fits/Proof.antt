@@ -6,11 +6,11 @@ use native.Mathlib.Omega.{arith}
 use denote.Ref.{now}
 use lib.Dec.{leb}
 use lib.ListN.{length}
-use Rattle.text.specs.Lines.{fieldsText, recordsText, textOf}
-use Rattle.text.specs.Room.{roomAfter, isLeft}
-use Rattle.text.specs.declared.room.Room.the-variants.{Left}
-use Rattle.text.proofs.Rooms.{room-then, room-fits}
-use Rattle.text.proofs.Writes.{line-length, text-length}
+use Rattle.lines.specs.Lines.{fieldsText, recordsText, textOf}
+use Rattle.lines.specs.Room.{roomAfter, isLeft}
+use Rattle.lines.specs.declared.room.Room.the-variants.{Left}
+use Rattle.lines.proofs.Rooms.{room-then, room-fits}
+use Rattle.lines.proofs.Writes.{line-length, text-length}
 use borrow.Author.Needs.{needs}
 use Rattle.text.proofs.write.fits.Statement.{statement}
 use Rattle.text.proofs.write.fits.Tie as tie

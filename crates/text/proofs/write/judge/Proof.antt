@@ -3,10 +3,10 @@ use mathlib.Core.Path.{_≡_, sym, ap, _∙_}
 use denote.Ref.{now}
 use lib.ListN.{length}
 use Rattle.sets.specs.Pick.{pick}
-use Rattle.meaning.specs.declared.verdict.Verdict.the-variants.{Accepted, Room}
-use Rattle.text.specs.Lines.{textOf}
+use Rattle.verdicts.specs.declared.verdict.Verdict.the-variants.{Accepted, Room}
+use Rattle.lines.specs.Lines.{textOf}
 use Rattle.text.specs.Writings.{judgedRoom, judgedText}
-use Rattle.meaning.proofs.Judged.{passed, refused}
+use Rattle.verdicts.proofs.Judged.{passed, refused}
 use Rattle.text.proofs.Judging.{judged-qubits, judged-couplers, judged-gates, judged-room}
 use borrow.Author.Needs.{needs}
 use Rattle.text.proofs.write.judge.Statement.{statement}

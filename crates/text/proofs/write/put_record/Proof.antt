@@ -2,7 +2,7 @@
 use mathlib.Core.Path.{ap, subst}
 use denote.Ref.{now}
 use lib.ListN.{length}
-use Rattle.text.proofs.Writes.{Wrote, record-line}
+use Rattle.lines.proofs.Writes.{Wrote, record-line}
 use borrow.Author.Needs.{needs}
 use native.Mathlib.Omega.{arith}
 use Rattle.text.proofs.write.put_record.Statement.{statement}

@@ -4,9 +4,9 @@ use Prim.Native.Nat.{_+_, _-_, _≤_}
 use native.Mathlib.Omega.{arith}
 use denote.Ref.{now}
 use lib.ListN.{length, getD, take, length-append}
-use Rattle.text.specs.Lines.{recordText, recordsText}
+use Rattle.lines.specs.Lines.{recordText, recordsText}
 use borrow.Author.Needs.{needs}
-use Rattle.text.proofs.Writes.{Wrote, wrote-then, wrote-none, records-next, records-part, records-all}
+use Rattle.lines.proofs.Writes.{Wrote, wrote-then, wrote-none, records-next, records-part, records-all}
 use Rattle.text.proofs.write.put_records.Statement.{statement}
 use Rattle.text.proofs.write.put_records.Tie as tie
 

@@ -1,8 +1,8 @@
 -- `text::write::put_text` meets its contract: the `q` line, the couplers, the gates. Assumes nothing.
 use mathlib.Core.List.{[], _∷_, _++_}
 use denote.Ref.{now}
-use Rattle.text.specs.Lines.{lineText, recordsText, textOf}
-use Rattle.text.proofs.Writes.{wrote-then, text-length}
+use Rattle.lines.specs.Lines.{lineText, recordsText, textOf}
+use Rattle.lines.proofs.Writes.{wrote-then, text-length}
 use borrow.Author.Needs.{needs}
 use native.Mathlib.Omega.{arith}
 use Rattle.text.proofs.write.put_text.Statement.{statement}

@@ -3,12 +3,12 @@ use mathlib.Core.Path.{_≡_, ap, _∙_}
 use denote.Ref.{now}
 use lib.ListN.{length}
 use borrow.Author.Tests.{ne-eqb}
-use Rattle.meaning.specs.Verdicts.{numberOf}
-use Rattle.text.specs.Lines.{textOf}
+use Rattle.verdicts.specs.Verdicts.{numberOf}
+use Rattle.lines.specs.Lines.{textOf}
 use Rattle.text.specs.declared.write.Writing.the-variants.{Written, Refused}
-use Rattle.meaning.proofs.Judged.{passed}
+use Rattle.verdicts.proofs.Judged.{passed}
 use Rattle.text.proofs.Judging.{accepts, writing-yes, writing-no}
-use Rattle.text.proofs.Writes.{sets-onto}
+use Rattle.lines.proofs.Writes.{sets-onto}
 use borrow.Author.Needs.{needs}
 use native.Mathlib.Omega.{arith}
 use Rattle.text.proofs.write.write.Statement.{statement}

@@ -1,0 +1,4 @@
+pub mod Steps
+pub mod Circuits
+pub mod Feeding
+pub mod Wiring

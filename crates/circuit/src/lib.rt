@@ -1,0 +1,2 @@
+// What a list of gates does to the wires.
+pub mod wires;

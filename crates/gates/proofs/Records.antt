@@ -1,0 +1,77 @@
+-- The record of a gate decodes to the gate, and a record to a gate that is good or bad. Assumes nothing.
+use mathlib.Core.Path.{_≡_, refl, sym, ap, _∙_}
+use mathlib.Core.Logic.{_⊎_, inl, inr}
+use mathlib.Core.Bool.{Bool, true, false}
+use Prim.Native.Nat.{ℕ, _+_, _*_, _/_, _%_, _≤_, _<_}
+use native.Mathlib.Omega.{arith}
+use lib.Dec.{eqb, ltb}
+use borrow.Author.Tests.{lt-ltb, eq-eqb, ne-eqb, ltb-true, eqb-true, eqb-false}
+use Rattle.sets.specs.Pick.{pick}
+use Rattle.gates.specs.declared.gate.Gate.{Gate}
+use Rattle.gates.specs.declared.gate.Gate.the-variants.{Cnot, Rotation, Bad}
+use Rattle.gates.specs.Layout.{packed, kindIn, aIn, bIn, gateOf, cnotOf, rotationOf, recordOf, Good}
+
+-- ---- the three numbers of a record
+
+module _ (k a b : ℕ) (ha : a < 256) (hb : b < 65536) where
+  pub kind-packed : kindIn (packed k a b) ≡ k
+  unfolding kindIn packed
+  kind-packed = omega arith
+
+  pub a-packed : aIn (packed k a b) ≡ a
+  unfolding aIn packed
+  a-packed = omega arith
+
+  pub b-packed : bIn (packed k a b) ≡ b
+  unfolding bIn packed
+  b-packed = omega arith
+
+-- a 32-bit number is the record of its three numbers
+pub packed-back : (x : ℕ) → packed (kindIn x) (aIn x) (bIn x) ≡ x
+unfolding packed kindIn aIn bIn
+packed-back x = omega arith
+
+pub packed-lt : (k a b : ℕ) → k < 256 → a < 256 → b < 65536 → packed k a b < 4294967296
+unfolding packed
+packed-lt k a b hk ha hb = omega arith
+
+-- ---- gates
+
+pub gate-record : (n : ℕ) (g : Gate) → n ≤ 256 → Good n g → gateOf n (recordOf g) ≡ g
+unfolding gateOf cnotOf rotationOf recordOf Good
+gate-record n (Cnot c t) few (hc, ht, ne) =
+    let ec : c % 256 ≡ c = omega arith in
+    let et : t % 65536 ≡ t = omega arith in
+    let c< : c < 256 = omega arith in
+    let t< : t < 65536 = omega arith in
+    rw (ec, et) (simp (kind-packed 1 c t c< t<, a-packed 1 c t c< t<, b-packed 1 c t c< t<, lt-ltb c n hc, lt-ltb t n ht, ne-eqb c t ne))
+gate-record n (Rotation q a) few (hq, ha) =
+    let eq : q % 256 ≡ q = omega arith in
+    let ea : a % 65536 ≡ a = omega arith in
+    let q< : q < 256 = omega arith in
+    rw (eq, ea) (simp (kind-packed 2 q a q< ha, a-packed 2 q a q< ha, b-packed 2 q a q< ha, lt-ltb q n hq))
+
+-- what a record decodes to is good, and then the record is that gate's; or it is bad
+pub gate-back : (n x : ℕ) → (gateOf n x ≡ Bad) ⊎ (Good n (gateOf n x) × (recordOf (gateOf n x) ≡ x))
+unfolding gateOf cnotOf rotationOf Good recordOf packed kindIn aIn bIn
+gate-back n x = go (eqb (x / 16777216) 1) (eqb (x / 16777216) 2) (ltb a n) (ltb b n) (eqb a b) refl refl refl refl refl
+  where
+    a : ℕ
+    a = x / 65536 % 256
+
+    b : ℕ
+    b = x % 65536
+
+    G : Bool → Bool → Bool → Bool → Bool → Gate
+    G k₁ k₂ s t u = pick k₁ (pick s (pick t (pick u Bad (Cnot a b)) Bad) Bad) (pick k₂ (pick s (Rotation a b) Bad) Bad)
+
+    go : (k₁ k₂ s t u : Bool) → eqb (x / 16777216) 1 ≡ k₁ → eqb (x / 16777216) 2 ≡ k₂ → ltb a n ≡ s → ltb b n ≡ t → eqb a b ≡ u
+        → (G k₁ k₂ s t u ≡ Bad) ⊎ (Good n (G k₁ k₂ s t u) × (recordOf (G k₁ k₂ s t u) ≡ x))
+    go true k₂ true true true k l p q r = inl refl
+    go true k₂ true true false k l p q r =
+        inr ((ltb-true a n p, ltb-true b n q, eqb-false a b r), omega (arith, eqb-true (x / 16777216) 1 k))
+    go true k₂ true false u k l p q r = inl refl
+    go true k₂ false t u k l p q r = inl refl
+    go false true true t u k l p q r = inr ((ltb-true a n p, omega arith), omega (arith, eqb-true (x / 16777216) 2 l))
+    go false true false t u k l p q r = inl refl
+    go false false s t u k l p q r = inl refl

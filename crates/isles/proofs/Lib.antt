@@ -1,0 +1,2 @@
+pub mod Isles
+pub mod Tables

@@ -1,0 +1,2 @@
+// The islands of a chip.
+pub mod islands;

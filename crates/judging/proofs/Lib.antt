@@ -1,0 +1,2 @@
+pub mod Scattering
+pub mod Judging

@@ -1,0 +1,4 @@
+pub mod Layouts
+pub mod Digits
+pub mod Writes
+pub mod Rooms

@@ -1,0 +1,111 @@
+-- Stores one behind the other, and the lengths of what they write. Assumes nothing.
+use mathlib.Core.Path.{_≡_, refl, sym, ap, _∙_}
+use mathlib.Core.Bool.{Bool, true, false}
+use mathlib.Core.List.{List, [], _∷_, _++_, append-assoc, append-nil}
+use Prim.Native.Nat.{ℕ, zero, suc, _+_, _/_, _%_, _≤_, _<_}
+use native.Mathlib.Numerals.{add-one}
+use native.Mathlib.Omega.{arith}
+use lib.ListN.{length, getD, take, drop, set, length-append, take-append-drop}
+use lib.Seq.{sets, sets-eq, take-suc, take-all}
+use lib.Dec.{ltb}
+use borrow.Author.Tests.{ltb-true, ltb-false}
+use Rattle.lines.specs.Lines.{digits, fieldsText, lineText, letter, recordText, recordsText, textOf}
+use Rattle.lines.specs.Lent.{onto}
+use Rattle.lines.proofs.Layouts.{kind-is, a-is, b-is}
+use Rattle.lines.proofs.Digits.{digits-small, digits-big}
+
+sets-append : (l : List ℕ) (i : ℕ) (xs ys : List ℕ) → sets l i (xs ++ ys) ≡ sets (sets l i xs) (i + length xs) ys
+sets-append l i [] ys = let z : i ≡ i + 0 = omega arith in ap (λ k. sets l k ys) z
+sets-append l i (x ∷ xs) ys =
+    let z : suc i + length xs ≡ i + suc (length xs) = omega arith in
+    sets-append (set l i x) (suc i) xs ys ∙ ap (λ k. sets (sets (set l i x) (suc i) xs) k ys) z
+
+-- the bytes xs were written to l from i on, which gives m and the place behind them
+abbrev pub Wrote : List ℕ → ℕ → List ℕ → List ℕ → ℕ → Type 0
+Wrote l i xs m e = (e ≡ i + length xs) × (m ≡ sets l i xs)
+
+pub wrote-then : (l : List ℕ) (i : ℕ) (xs ys : List ℕ) {m n : List ℕ} {j k : ℕ} → Wrote l i xs m j → Wrote m j ys n k → Wrote l i (xs ++ ys) n k
+wrote-then l i xs ys {m} {n} {j} {k} a b = (
+  omega (arith, a .0, b .0, length-append xs ys),
+  b .1 ∙ ap (λ p. sets m p ys) (a .0) ∙ ap (λ q. sets q (i + length xs) ys) (a .1) ∙ sym (sets-append l i xs ys),
+)
+
+pub wrote-none : (l : List ℕ) (i : ℕ) → Wrote l i [] l i
+wrote-none l i = (omega arith, refl)
+
+-- stores from the front
+pub sets-onto : (new old : List ℕ) → length new ≤ length old → sets old 0 new ≡ onto new old
+sets-onto new old h = let z : 0 + length new ≡ length new = omega arith in sets-eq new old 0 (omega arith) ∙ ap (λ k. new ++ drop k old) z
+
+-- ---- numbers
+
+pub width-small : (v : ℕ) → v < 10 → 1 ≡ length (digits v)
+width-small v h = sym (ap length (digits-small v h))
+
+pub width-big : (v : ℕ) → 10 ≤ v → length (digits (v / 10)) + 1 ≡ length (digits v)
+width-big v h = sym (ap length (digits-big v h) ∙ length-append (digits (v / 10)) ((48 + v % 10) ∷ []))
+
+width-in : (f v : ℕ) → v < f → length (digits v) ≤ v / 10 + 2
+width-in zero v h = absurd (omega arith)
+width-in (suc f) v h = go (ltb v 10) refl (width-in f (v / 10))
+  where
+    go : (t : Bool) → ltb v 10 ≡ t → (v / 10 < f → length (digits (v / 10)) ≤ v / 10 / 10 + 2) → length (digits v) ≤ v / 10 + 2
+    go true e ih = omega (arith, width-small v (ltb-true v 10 e))
+    go false e ih = let l : 10 ≤ v = ltb-false v 10 e in omega (arith, width-big v l, ih (omega arith))
+
+-- so that a number's digits and a tab can be counted
+pub width-le : (v : ℕ) → length (digits v) ≤ v / 10 + 2
+width-le v = width-in (suc v) v (omega arith)
+
+-- ---- the first i of a list, and the next one
+
+fields-append : (vs ws : List ℕ) → fieldsText (vs ++ ws) ≡ fieldsText vs ++ fieldsText ws
+unfolding fieldsText
+fields-append [] ws = refl
+fields-append (v ∷ vs) ws = ap (λ l. (9 ∷ digits v) ++ l) (fields-append vs ws) ∙ sym (append-assoc (9 ∷ digits v) (fieldsText vs) (fieldsText ws))
+
+records-append : (xs ys : List ℕ) → recordsText (xs ++ ys) ≡ recordsText xs ++ recordsText ys
+unfolding recordsText
+records-append [] ys = refl
+records-append (x ∷ xs) ys = ap (λ l. recordText x ++ l) (records-append xs ys) ∙ sym (append-assoc (recordText x) (recordsText xs) (recordsText ys))
+
+module _ (xs : List ℕ) (i : ℕ) where
+  pub fields-next : i < length xs → fieldsText (take (i + 1) xs) ≡ fieldsText (take i xs) ++ (9 ∷ digits (getD xs i 0))
+  unfolding fieldsText
+  fields-next h =
+      rw (add-one, take-suc xs i 0 h) (fields-append (take i xs) (getD xs i 0 ∷ []) ∙ ap (λ l. fieldsText (take i xs) ++ (9 ∷ l)) (append-nil (digits (getD xs i 0))))
+
+  pub fields-part : length (fieldsText (take i xs)) ≤ length (fieldsText xs)
+  fields-part =
+      omega (arith, length-append (fieldsText (take i xs)) (fieldsText (drop i xs)), ap length (fields-append (take i xs) (drop i xs)), ap (λ l. length (fieldsText l)) (take-append-drop i xs))
+
+  pub fields-all : length xs ≤ i → fieldsText (take i xs) ≡ fieldsText xs
+  fields-all h = ap fieldsText (take-all i xs h)
+
+  pub records-next : i < length xs → recordsText (take (i + 1) xs) ≡ recordsText (take i xs) ++ recordText (getD xs i 0)
+  unfolding recordsText
+  records-next h =
+      rw (add-one, take-suc xs i 0 h) (records-append (take i xs) (getD xs i 0 ∷ []) ∙ ap (λ l. recordsText (take i xs) ++ l) (append-nil (recordText (getD xs i 0))))
+
+  pub records-part : length (recordsText (take i xs)) ≤ length (recordsText xs)
+  records-part =
+      omega (arith, length-append (recordsText (take i xs)) (recordsText (drop i xs)), ap length (records-append (take i xs) (drop i xs)), ap (λ l. length (recordsText l)) (take-append-drop i xs))
+
+  pub records-all : length xs ≤ i → recordsText (take i xs) ≡ recordsText xs
+  records-all h = ap recordsText (take-all i xs h)
+
+pub line-length : (letter : ℕ) (vs : List ℕ) → length (lineText letter vs) ≡ 2 + length (fieldsText vs)
+unfolding lineText
+line-length letter vs = simp length-append (omega arith)
+
+-- a record's line, from the numbers that the code takes out of it
+pub record-line : (x : ℕ) {l : ℕ} → l ≡ letter (x / 16777216) → lineText l (x / 65536 % 256 ∷ x % 65536 ∷ []) ≡ recordText x
+unfolding recordText
+record-line x e = rw (e, kind-is x, a-is x, b-is x)
+
+pub record-length : (x : ℕ) → length (recordText x) ≡ 2 + length (fieldsText (x / 65536 % 256 ∷ x % 65536 ∷ []))
+record-length x = sym (ap length (record-line x refl)) ∙ line-length _ _
+
+pub text-length : (n : ℕ) (es gs : List ℕ) → length (textOf n es gs) ≡ length (lineText 113 (n ∷ [])) + length (recordsText es) + length (recordsText gs)
+unfolding textOf
+text-length n es gs = simp length-append (omega arith)

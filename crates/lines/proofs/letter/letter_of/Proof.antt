@@ -1,0 +1,26 @@
+-- `lines::letter::letter_of` meets its contract, case by case. Assumes nothing.
+use mathlib.Core.Path.{_≡_, refl, sym, ap}
+use Prim.Native.Nat.{ℕ, zero, suc}
+use Rattle.lines.specs.Lines.{letter}
+use Rattle.lines.proofs.letter.letter_of.Statement.{statement}
+use Rattle.lines.proofs.letter.letter_of.Tie as tie
+
+last : (k : ℕ) → (k ≡ 0 → ⊥) → (k ≡ 1 → ⊥) → 114 ≡ letter k
+unfolding letter
+last zero a b = absurd (a refl)
+last (suc zero) a b = absurd (b refl)
+last (suc (suc k)) a b = refl
+
+returns : tie.Need-returns
+unfolding letter
+returns c = sym (ap letter (c .if1 .taken))
+
+returns-2 : tie.Need-returns-2
+unfolding letter
+returns-2 c = sym (ap letter (c .if2 .taken))
+
+returns-3 : tie.Need-returns-3
+returns-3 c = last (c .before .before .args .kind) (c .before .if1 .left) (c .if2 .left)
+
+pub letter-of-spec : {M : Type 1} → statement M
+letter-of-spec = tie.close (tie.spec returns returns-2 returns-3)

@@ -1,0 +1,21 @@
+-- `lines::print::counts` meets its contract: it is the line `s` of its numbers. Assumes nothing.
+use Rattle.lines.specs.Lines.{countsText}
+use borrow.Author.Needs.{needs}
+use Rattle.lines.proofs.print.counts.Statement.{statement}
+use Rattle.lines.proofs.print.counts.Tie as tie
+
+slice-aggregate-print : tie.Need-slice-aggregate-print
+slice-aggregate-print c = search needs
+
+print-requires : tie.Need-print-requires
+print-requires c κs = search needs
+
+same-length : tie.Need-same-length
+same-length c = search needs
+
+returns : tie.Need-returns
+unfolding countsText
+returns c = c .before .before .print .ensures
+
+pub counts-spec : {M : Type 1} → statement M
+counts-spec = tie.close (tie.spec slice-aggregate-print print-requires same-length returns)

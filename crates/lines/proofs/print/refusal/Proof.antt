@@ -1,0 +1,21 @@
+-- `lines::print::refusal` meets its contract: it is the line `x` of its numbers. Assumes nothing.
+use Rattle.lines.specs.Lines.{refusalText}
+use borrow.Author.Needs.{needs}
+use Rattle.lines.proofs.print.refusal.Statement.{statement}
+use Rattle.lines.proofs.print.refusal.Tie as tie
+
+slice-aggregate-print : tie.Need-slice-aggregate-print
+slice-aggregate-print c = search needs
+
+print-requires : tie.Need-print-requires
+print-requires c κs = search needs
+
+same-length : tie.Need-same-length
+same-length c = search needs
+
+returns : tie.Need-returns
+unfolding refusalText
+returns c = c .before .before .print .ensures
+
+pub refusal-spec : {M : Type 1} → statement M
+refusal-spec = tie.close (tie.spec slice-aggregate-print print-requires same-length returns)

@@ -1,0 +1,87 @@
+-- `lines::room::after_records` meets its contract: the lines so far are taken off. Assumes nothing.
+use mathlib.Core.Path.{_≡_, sym, ap, _∙_}
+use mathlib.Core.List.{[], _∷_}
+use Prim.Native.Nat.{_+_, _-_, _/_, _%_, _≤_}
+use denote.Ref.{now}
+use lib.ListN.{length, getD, take, length-append}
+use Rattle.lines.specs.Lines.{fieldsText, recordText, recordsText}
+use Rattle.lines.specs.Room.{roomAfter}
+use Rattle.lines.proofs.Rooms.{room-none, room-then}
+use Rattle.lines.proofs.Writes.{record-length, records-next, records-all}
+use borrow.Author.Needs.{needs}
+use native.Mathlib.Omega.{arith}
+use Rattle.lines.proofs.room.after_records.Statement.{statement}
+use Rattle.lines.proofs.room.after_records.Tie as tie
+
+abbrev Inv-loop : tie.InvT-loop
+Inv-loop records left₀ i₀ left i = (i ≤ length records) × (left ≡ roomAfter left₀ (length (recordsText (take i records))))
+
+abbrev μ-loop : tie.MeasureT-loop
+μ-loop records left₀ i₀ left i = length records - i
+
+loop-holds : tie.Need-loop-holds Inv-loop μ-loop
+unfolding recordsText
+loop-holds c = (omega arith, sym (room-none _))
+
+mul-x : tie.Need-mul-x Inv-loop μ-loop
+mul-x c = search needs
+
+shared-slice-read-x : tie.Need-shared-slice-read-x Inv-loop μ-loop
+shared-slice-read-x c = search needs
+
+cast-t7 : tie.Need-cast-t7 Inv-loop μ-loop
+cast-t7 c = search needs
+
+cast-t13 : tie.Need-cast-t13 Inv-loop μ-loop
+cast-t13 c = search needs
+
+slice-aggregate-after-line : tie.Need-slice-aggregate-after-line Inv-loop μ-loop
+slice-aggregate-after-line c = search needs
+
+after-line-requires : tie.Need-after-line-requires Inv-loop μ-loop
+after-line-requires c κs = search needs
+
+add-i : tie.Need-add-i Inv-loop μ-loop
+add-i c = search needs
+
+loop-less : tie.Need-loop-less Inv-loop μ-loop
+loop-less c = search needs
+
+loop-again : tie.Need-loop-again Inv-loop μ-loop
+loop-again c =
+    let l = c .before .before .before .before .loop in
+    let xs = now (c .before .before .before .before .before .before .args .records) in
+    let x = getD xs (l .i) 0 in
+    let q = c .before .before .before .before .before .before .args .room in
+    let z : length (recordsText (take (l .i) xs)) + (2 + length (fieldsText (x / 65536 % 256 ∷ x % 65536 ∷ []))) ≡ length (recordsText (take (l .i + 1) xs))
+    = omega (
+      arith,
+      record-length x,
+      ap length (records-next xs (l .i) (c .before .before .before .loop-test .taken)),
+      length-append (recordsText (take (l .i) xs)) (recordText x),
+    ) in
+    (omega arith, c .after-line .ensures ∙ ap (λ r. roomAfter r (2 + length (fieldsText (x / 65536 % 256 ∷ x % 65536 ∷ [])))) (l .inv .1) ∙ room-then q _ _ ∙ ap (roomAfter q) z)
+
+returns : tie.Need-returns Inv-loop μ-loop
+returns c =
+    let l = c .before .loop in
+    let a = c .before .before .before .args in
+    l .inv .1 ∙ ap (λ bs. roomAfter (a .room) (length bs)) (records-all (now (a .records)) (l .i) (c .loop-test .left))
+
+pub after-records-spec : {M : Type 1} → statement M
+after-records-spec =
+    tie.close
+    (tie.spec
+    Inv-loop
+    μ-loop
+    loop-holds
+    mul-x
+    shared-slice-read-x
+    cast-t7
+    cast-t13
+    slice-aggregate-after-line
+    after-line-requires
+    add-i
+    loop-less
+    loop-again
+    returns)

@@ -1,0 +1,5 @@
+// The lines of a text, written one by one where there is room.
+pub mod letter;
+pub mod print;
+pub mod put;
+pub mod room;

@@ -1,0 +1,20 @@
+-- The terms of the table of a meaning are the terms of the meaning. Assumes nothing.
+use mathlib.Core.Path.{_≡_, refl, sym}
+use mathlib.Core.List.{List}
+use lib.ListN.{length, take, length-map}
+use Rattle.gates.specs.declared.gate.Gate.{Gate}
+use Rattle.circuit.specs.Circuit.{sumOf}
+use Rattle.meaning.specs.Borne.{borne, sumsOf, terms}
+use Rattle.table.specs.Table.{kept, padded, keptTable, termsIn}
+use Rattle.meaning.specs.Told.{tableOf, termTable}
+use Rattle.table.proofs.Keeping.{kept-map, take-padded}
+
+-- "the table's terms are exactly the parities whose sum is not 0, ascending, each once"
+pub terms-table : (gs : List Gate) → termsIn (tableOf gs) ≡ termTable gs
+unfolding termsIn keptTable tableOf termTable terms
+terms-table gs =
+    let a : take (length (borne gs)) (padded 256 (borne gs)) ≡ borne gs = take-padded 256 (length (borne gs)) (borne gs) refl in
+    let b : take (length (borne gs)) (padded 256 (sumsOf gs (borne gs))) ≡ sumsOf gs (borne gs) =
+    take-padded 256 (length (borne gs)) (sumsOf gs (borne gs)) (sym (length-map (borne gs) (λ p. sumOf p gs))) in
+    let c : kept (sumsOf gs (borne gs)) (sumsOf gs (borne gs)) ≡ sumsOf gs (kept (borne gs) (sumsOf gs (borne gs))) = kept-map (λ p. sumOf p gs) (borne gs) in
+    rw (a, b, c, length-map (kept (borne gs) (sumsOf gs (borne gs))) (λ p. sumOf p gs))

@@ -1,0 +1,5 @@
+pub mod Limits
+pub mod Misfit
+pub mod Parsing
+pub mod Places
+pub mod Readings

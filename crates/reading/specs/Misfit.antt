@@ -1,0 +1,48 @@
+-- Which texts are a job's, and which line of any other is refused (document 01, "The job text"). Nothing here says how a text is read.
+use mathlib.Core.Path.{_≡_}
+use mathlib.Core.Logic.{_⊎_}
+use mathlib.Core.Bool.{Bool, true, false}
+use mathlib.Core.List.{List, [], _∷_}
+use Prim.Native.Nat.{ℕ, zero, suc, _≤_, _<_}
+use lib.Dec.{eqb}
+use Rattle.sets.specs.Pick.{pick}
+use Rattle.gates.specs.Layout.{kindIn}
+use Rattle.reading.specs.Limits.{mostFirst}
+use Rattle.lines.specs.Lines.{textOf}
+
+-- a record of a gate, or of a coupler: a record's numbers are within the text's limits whatever it holds
+abbrev pub Fit : Bool → ℕ → Type 0
+Fit false x = kindIn x ≡ 0
+Fit true x = (kindIn x ≡ 1) ⊎ (kindIn x ≡ 2)
+
+unfoldable pub AllFit : Bool → List ℕ → Type 0
+AllFit gates [] = Unit {0}
+AllFit gates (x ∷ xs) = Fit gates x × AllFit gates xs
+
+-- the text is that of a job
+pub record JobText (s : List ℕ) : Type 0 where
+  pub qubits : ℕ
+  pub couplers : List ℕ
+  pub gates : List ℕ
+  pub few : qubits ≤ mostFirst
+  pub couplers-fit : AllFit false couplers
+  pub gates-fit : AllFit true gates
+  pub same : s ≡ textOf qubits couplers gates
+
+-- the first k lines of a text, each up to its LF or to the end
+unfoldable pub front : ℕ → List ℕ → List ℕ
+front zero s = []
+front (suc k) [] = []
+front (suc k) (x ∷ s) = x ∷ pick (eqb x 10) (front k s) (front (suc k) s)
+
+-- no byte of it is LF: a last line that lacks it
+abbrev pub NoLf : List ℕ → Type 0
+NoLf [] = Unit {0}
+NoLf (x ∷ xs) = (x ≡ 10 → ⊥) × NoLf xs
+
+-- "the first line that cannot continue a job": up to the line before it the text is a job's, and with it no more.
+-- "Empty text is refused at line 1", "a last line without LF included"
+pub record Misfit (s : List ℕ) (k : ℕ) : Type 0 where
+  pub counted : 1 ≤ k
+  pub before : (j : ℕ) → 1 ≤ j → j < k → JobText (front j s)
+  pub here : JobText (front k s) → ⊥

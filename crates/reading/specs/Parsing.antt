@@ -1,0 +1,108 @@
+-- How a job's text is read, line by line (document 01, "The job text"). proofs/RoundTrip.antt shows that it finds what specs/Misfit.antt says.
+use Prim.Native.Nat.{ℕ, zero, suc, _+_, _-_, _*_}
+use mathlib.Core.Bool.{Bool, true, false}
+use mathlib.Core.List.{List, [], _∷_}
+use mathlib.Core.Option.{Option, none, some}
+use lib.ListN.{length, getD, drop}
+use lib.Dec.{eqb, leb, ltb}
+use Rattle.sets.specs.Pick.{pick}
+use Rattle.gates.specs.Layout.{packed}
+use Rattle.reading.specs.Limits.{mostFirst, mostSecond}
+use Rattle.lines.specs.Lines.{letter}
+
+-- a value that was read, and what is left behind it: none where what was looked for did not stand there
+pub record Got : Type 0 where
+  pub value : ℕ
+  pub rest : Option (List ℕ)
+
+abbrev pub lost : Got
+lost = record { value = 0; rest = none }
+
+-- one byte b
+unfoldable pub skipped : ℕ → Option (List ℕ) → Option (List ℕ)
+skipped b none = none
+skipped b (some []) = none
+skipped b (some (x ∷ s)) = pick (eqb x b) (some s) none
+
+-- the value of a digit, and 10 for any other byte
+unfoldable pub digitOf : ℕ → ℕ
+digitOf x = pick (leb 48 x) (pick (leb x 57) (x - 48) 10) 10
+
+-- the digits that follow the number v, which with them is at most `most`
+unfoldable pub moreOf : ℕ → ℕ → List ℕ → Got
+moreOf most v [] = record { value = v; rest = some [] }
+moreOf most v (x ∷ s) =
+    pick (ltb (digitOf x) 10)
+    (pick (leb (v * 10 + digitOf x) most) (moreOf most (v * 10 + digitOf x) s) lost)
+    (record { value = v; rest = some (x ∷ s) })
+
+-- "no leading zero except 0 itself": 0 alone, or digits of which the first is not 0
+unfoldable pub numberIn : ℕ → ℕ → List ℕ → Got
+numberIn most zero s = record { value = 0; rest = some (drop 1 s) }
+numberIn most (suc d) s = pick (ltb (suc d) 10) (moreOf most 0 s) lost
+
+-- a number of at most `most`
+unfoldable pub readNumber : ℕ → Option (List ℕ) → Got
+readNumber most none = lost
+readNumber most (some s) = numberIn most (digitOf (getD s 0 0)) s
+
+-- the line of a record of the kind
+unfoldable pub lineOf : ℕ → List ℕ → Got
+lineOf kind s =
+    let a = readNumber mostFirst (skipped 9 (skipped (letter kind) (some s))) in
+    let b = readNumber mostSecond (skipped 9 (a .rest)) in
+    record { value = packed kind (a .value) (b .value); rest = skipped 10 (b .rest) }
+
+-- g where it was read, else h
+unfoldable pub orElse : Option (List ℕ) → Got → Got → Got
+orElse none g h = h
+orElse (some t) g h = g
+
+-- a gate's line, or a coupler's
+unfoldable pub oneOf : Bool → List ℕ → Got
+oneOf true s = orElse (lineOf 1 s .rest) (lineOf 1 s) (lineOf 2 s)
+oneOf false s = lineOf 0 s
+
+-- the longest run of such lines, at most f, and what is left behind it
+pub record Run : Type 0 where
+  pub records : List ℕ
+  pub left : List ℕ
+
+unfoldable pub runIn : ℕ → Bool → List ℕ → Run
+runIn zero gates s = record { records = []; left = s }
+runIn (suc f) gates s =
+    elim (oneOf gates s .rest) [
+      | none ↦ record { records = []; left = s }
+      | some t ↦ record { records = oneOf gates s .value ∷ runIn f gates t .records; left = runIn f gates t .left }
+    ]
+
+-- a line has at least one byte, so that the length of s bounds the lines
+unfoldable pub runOf : Bool → List ℕ → Run
+runOf gates s = runIn (length s) gates s
+
+-- the `q` line
+unfoldable pub headOf : List ℕ → Got
+headOf s =
+    let n = readNumber mostFirst (skipped 9 (skipped 113 (some s))) in
+    record { value = n .value; rest = skipped 10 (n .rest) }
+
+-- the number of the first line that cannot continue a job; or n, the couplers and the gates
+pub data Parsed : Type 0 where
+  misfit : ℕ → Parsed
+  job : ℕ → List ℕ → List ℕ → Parsed
+
+-- behind the gates stands nothing; a line that stands there has the q line, the couplers and the gates before it
+unfoldable pub endOf : ℕ → List ℕ → List ℕ → List ℕ → Parsed
+endOf n couplers gates [] = job n couplers gates
+endOf n couplers gates (x ∷ s) = misfit (2 + length couplers + length gates)
+
+-- couplers, then gates, as many as there are
+unfoldable pub bodyOf : ℕ → Option (List ℕ) → Parsed
+bodyOf n none = misfit 1
+bodyOf n (some s) =
+    let couplers = runOf false s in
+    let gates = runOf true (couplers .left) in
+    endOf n (couplers .records) (gates .records) (gates .left)
+
+unfoldable pub parsed : List ℕ → Parsed
+parsed s = bodyOf (headOf s .value) (headOf s .rest)

@@ -1,0 +1,18 @@
+-- What the code's places in a text stand for.
+use Prim.Native.Nat.{ℕ}
+use mathlib.Core.List.{List}
+use mathlib.Core.Option.{Option, none, some}
+use lib.ListN.{drop}
+use Rattle.reading.specs.Parsing.{Got}
+use Rattle.reading.specs.declared.spot.Part.{Part}
+use Rattle.reading.specs.declared.spot.Spot.{Spot}
+use Rattle.reading.specs.declared.spot.Spot.the-variants.{At, Lost}
+
+-- what is left of s at a spot
+abbrev pub restAt : List ℕ → Spot → Option (List ℕ)
+restAt s (At p) = some (drop p s)
+restAt s Lost = none
+
+-- what a part says
+abbrev pub gotOf : List ℕ → Part → Got
+gotOf s r = record { value = r .value; rest = restAt s (r .next) }

@@ -1,0 +1,5 @@
+// A job's text, read.
+mod line;
+pub mod read;
+mod run;
+mod spot;

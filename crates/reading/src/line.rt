@@ -1,0 +1,65 @@
+// Lines as they are read: the first one, a coupler's, a gate's.
+use crate::spot;
+use crate::spot::Part;
+use crate::spot::Spot;
+use lines::letter;
+ghost use mathlib.Core.Path.{_≡_};
+ghost use Prim.Native.Nat.{_≤_};
+ghost use lib.ListN.{drop};
+ghost use Rattle.reading.specs.Parsing.{lineOf, oneOf, headOf};
+ghost use Rattle.reading.specs.Places.{gotOf};
+
+pub(crate) const MOST_FIRST: u32 = 255;
+
+pub(crate) const MOST_SECOND: u32 = 65535;
+
+// The line of a record of the kind.
+fn line(text: &[u8], at: usize, kind: u32) -> Part
+    requires { ⌜ kind ≤ 2 ⌝ }
+    ensures { λ r. ⌜ gotOf (now (text .entry)) r ≡ lineOf kind (drop at (now (text .entry))) ⌝ }
+{
+    let letter = letter::letter_of(kind);
+    let p0 = spot::skip(text, Spot::At(at), letter);
+    let p1 = spot::skip(text, p0, b'\t');
+    let a = spot::number(text, p1, MOST_FIRST);
+    let a_next = a.next;
+    let p2 = spot::skip(text, a_next, b'\t');
+    let b = spot::number(text, p2, MOST_SECOND);
+    let b_next = b.next;
+    let end = spot::skip(text, b_next, b'\n');
+    Part {
+        value: kind * 16777216 + a.value * 65536 + b.value,
+        next: end,
+    }
+}
+
+// A gate's line, or a coupler's.
+pub(crate) fn one(text: &[u8], at: usize, gates: bool) -> Part
+    ensures { λ r. ⌜ gotOf (now (text .entry)) r ≡ oneOf gates (drop at (now (text .entry))) ⌝ }
+{
+    if gates {
+        let c = line(text, at, 1);
+        let next = c.next;
+        match next {
+            Spot::Lost => line(text, at, 2),
+            Spot::At(_) => c,
+        }
+    } else {
+        line(text, at, 0)
+    }
+}
+
+// The `q` line.
+pub(crate) fn head(text: &[u8]) -> Part
+    ensures { λ r. ⌜ gotOf (now (text .entry)) r ≡ headOf (now (text .entry)) ⌝ }
+{
+    let p0 = spot::skip(text, Spot::At(0), b'q');
+    let p1 = spot::skip(text, p0, b'\t');
+    let n = spot::number(text, p1, MOST_FIRST);
+    let n_next = n.next;
+    let end = spot::skip(text, n_next, b'\n');
+    Part {
+        value: n.value,
+        next: end,
+    }
+}

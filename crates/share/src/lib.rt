@@ -1,0 +1,2 @@
+// What of a job belongs to one island.
+pub mod own;

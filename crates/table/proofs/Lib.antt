@@ -1,0 +1,3 @@
+pub mod Ranks
+pub mod Moving
+pub mod Keeping

@@ -1,0 +1,2 @@
+// The table of parities with their sums. It knows no gates.
+pub mod sums;

@@ -1,0 +1,48 @@
+-- Tests in order: the first refusal decides, and the number 0 is that of acceptance alone. Assumes nothing.
+use mathlib.Core.Path.{_≡_, refl, sym, ap, _∙_}
+use mathlib.Core.Bool.{Bool, true, false}
+use Prim.Native.Nat.{ℕ}
+use native.Mathlib.Omega.{arith}
+use lib.Dec.{eqb}
+use borrow.Author.Tests.{eqb-true, eq-eqb, ne-eqb}
+use Rattle.sets.specs.Pick.{pick}
+use Rattle.verdicts.specs.declared.verdict.Verdict.{Verdict}
+use Rattle.verdicts.specs.declared.verdict.Verdict.the-variants.{Accepted, Qubits, ManyCouplers, WrongCoupler, ManyGates, BadGate, ManyParities, Unreachable, Room, Stuck, Line, LongText}
+use Rattle.verdicts.specs.Verdicts.{numberOf}
+use Rattle.verdicts.specs.InOrder.{andThen}
+
+-- the number 0 is that of acceptance alone
+pub zero-accepted : (v : Verdict) → numberOf v ≡ 0 → v ≡ Accepted
+zero-accepted Accepted e = refl
+zero-accepted Qubits e = let z : _≡_ {A = ℕ} 1 0 = e in absurd (omega arith)
+zero-accepted ManyCouplers e = let z : _≡_ {A = ℕ} 2 0 = e in absurd (omega arith)
+zero-accepted (WrongCoupler k) e = let z : _≡_ {A = ℕ} 3 0 = e in absurd (omega arith)
+zero-accepted ManyGates e = let z : _≡_ {A = ℕ} 4 0 = e in absurd (omega arith)
+zero-accepted (BadGate k) e = let z : _≡_ {A = ℕ} 5 0 = e in absurd (omega arith)
+zero-accepted (ManyParities k) e = let z : _≡_ {A = ℕ} 6 0 = e in absurd (omega arith)
+zero-accepted (Unreachable k) e = let z : _≡_ {A = ℕ} 7 0 = e in absurd (omega arith)
+zero-accepted Room e = let z : _≡_ {A = ℕ} 8 0 = e in absurd (omega arith)
+zero-accepted Stuck e = let z : _≡_ {A = ℕ} 9 0 = e in absurd (omega arith)
+zero-accepted (Line k) e = let z : _≡_ {A = ℕ} 10 0 = e in absurd (omega arith)
+zero-accepted LongText e = let z : _≡_ {A = ℕ} 11 0 = e in absurd (omega arith)
+
+-- v stands for the verdict w of a test, and k for v's number
+module _ {v w : Verdict} {k : ℕ} (e : v ≡ w) (f : k ≡ numberOf v) where
+  pub passed : k ≡ 0 → numberOf w ≡ 0
+  passed z = sym (ap numberOf e) ∙ sym f ∙ z
+
+  pub refused : (k ≡ 0 → ⊥) → numberOf w ≡ 0 → ⊥
+  refused z p = z (f ∙ ap numberOf e ∙ p)
+
+pub then-on : (v w : Verdict) → numberOf v ≡ 0 → w ≡ andThen v w
+then-on v w e = rw (eq-eqb (numberOf v) 0 e)
+
+pub then-stop : (v w : Verdict) → (numberOf v ≡ 0 → ⊥) → v ≡ andThen v w
+then-stop v w e = rw (ne-eqb (numberOf v) 0 e)
+
+pub then-zero : (v w : Verdict) → numberOf (andThen v w) ≡ 0 → (numberOf v ≡ 0) × (numberOf w ≡ 0)
+then-zero v w e = go (eqb (numberOf v) 0) refl e
+  where
+    go : (t : Bool) → eqb (numberOf v) 0 ≡ t → numberOf (pick t w v) ≡ 0 → (numberOf v ≡ 0) × (numberOf w ≡ 0)
+    go true q e = (eqb-true (numberOf v) 0 q, e)
+    go false q e = let z : _≡_ {A = Bool} false true = sym q ∙ eq-eqb (numberOf v) 0 e in let y : _≡_ {A = ℕ} 0 1 = cc z in absurd (omega arith)

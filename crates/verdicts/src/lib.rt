@@ -1,0 +1,2 @@
+// The table of refusals, and the tests of a job's lists.
+pub mod verdict;

@@ -1,0 +1,69 @@
+-- `ways::island::by_steps` meets its contract: what was laid is read back as it is closed. Assumes nothing.
+use mathlib.Core.Path.{ap, sym, _∙_}
+use mathlib.Core.List.{List}
+use Rattle.gates.specs.declared.gate.Gate.{Gate}
+use Rattle.columns.specs.Emit.{emit, emitAt}
+use Rattle.steps.specs.declared.Laid.the-variants.{On}
+use Rattle.ways.specs.Memory.{parities, angles, stepsOwn, closedBy}
+use Rattle.ways.proofs.Owned.{part-fits, part-long, part-gates, steps-on, steps-stuck, memory-on, memory-stuck, answer-on, answer-stuck}
+use borrow.Author.Needs.{needs}
+use Rattle.ways.proofs.island.by_steps.Statement.{statement}
+use Rattle.ways.proofs.island.by_steps.Tie as tie
+
+slice-aggregate-lay-terms : tie.Need-slice-aggregate-lay-terms
+slice-aggregate-lay-terms c = search needs
+
+lay-terms-requires : tie.Need-lay-terms-requires
+lay-terms-requires c κs = search needs
+
+enum-known-k : tie.Need-enum-known-k
+enum-known-k c = search needs
+
+array-share-prefix-way : tie.Need-array-share-prefix-way
+unfolding stepsOwn parities angles
+array-share-prefix-way c = part-fits (stepsOwn (c .before .before .before .before .before .before .before .before .before .before .before .args .own) .laid) _ _ (c .before .before .before .before .lay-terms .ensures .0) (steps-on (stepsOwn (c .before .before .before .before .before .before .before .before .before .before .before .args .own)) _ (c .before .before .before .before .lay-terms .ensures .1) _ (c .before .k .given .1) .1)
+
+slice-aggregate-closed : tie.Need-slice-aggregate-closed
+unfolding stepsOwn parities angles
+slice-aggregate-closed c = part-long (stepsOwn (c .before .before .before .before .before .before .before .before .before .before .before .before .args .own) .laid) _ _ (c .before .before .before .before .before .lay-terms .ensures .0) (steps-on (stepsOwn (c .before .before .before .before .before .before .before .before .before .before .before .before .args .own)) _ (c .before .before .before .before .before .lay-terms .ensures .1) _ (c .before .before .k .given .1) .1)
+
+closed-requires : tie.Need-closed-requires
+closed-requires c κs = search needs
+
+enum-told : tie.Need-enum-told
+enum-told c = search needs
+
+same-length : tie.Need-same-length
+same-length c = search needs
+
+returns : tie.Need-returns
+unfolding stepsOwn parities angles
+returns c =
+    let o = c .before .before .before .before .before .before .before .before .before .before .before .before .before .before .before .before .args .own in
+    let w = steps-on (stepsOwn (c .before .before .before .before .before .before .before .before .before .before .before .before .before .before .before .before .args .own)) _ (c .before .before .before .before .before .before .before .before .before .lay-terms .ensures .1) _ (c .before .before .before .before .before .before .k .given .1) in
+    let back = part-gates (stepsOwn o .laid) _ _ (c .before .before .before .before .before .before .before .before .before .lay-terms .ensures .0) (w .1) (c .before .before .before .before .before .before .before .before .before .before .before .before .before .before .before .before .pre) in (
+      c .before .before .closed .ensures .0 ∙ ap (λ (gs : List Gate). emit (c .before .before .before .before .before .before .before .before .before .before .before .before .before .before .before .before .args .out .now) 0 (closedBy o gs)) back ∙ memory-on (stepsOwn o) _ _ 0 (w .0),
+      ap On (c .before .before .closed .ensures .1 ∙ ap (λ (gs : List Gate). emitAt (c .before .before .before .before .before .before .before .before .before .before .before .before .before .before .before .before .args .out .now) 0 (closedBy o gs)) back) ∙ answer-on (stepsOwn o) _ _ 0 (w .0),
+    )
+
+returns-2 : tie.Need-returns-2
+unfolding stepsOwn parities angles
+returns-2 c =
+    let o = c .before .before .before .before .before .before .before .before .before .before .args .own in
+    let s = steps-stuck (stepsOwn o) _ (c .before .before .before .lay-terms .ensures .1) _ (c .enum-told .given .1) in
+    (memory-stuck (stepsOwn o) _ _ 0 s, answer-stuck (stepsOwn o) _ _ 0 s)
+
+pub by-steps-spec : {M : Type 1} → statement M
+by-steps-spec =
+    tie.close
+    (tie.spec
+    slice-aggregate-lay-terms
+    lay-terms-requires
+    enum-known-k
+    array-share-prefix-way
+    slice-aggregate-closed
+    closed-requires
+    enum-told
+    same-length
+    returns
+    returns-2)

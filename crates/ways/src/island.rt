@@ -1,0 +1,84 @@
+// One island: its terms laid in two ways, each with its closing; the shorter is kept.
+use columns::emit;
+use ending::closing;
+use gates::gate;
+use gates::job::Job;
+use share::own::Own;
+use steps::Laid;
+ghost use mathlib.Core.Path.{_≡_};
+ghost use lib.ListN.{length};
+ghost use Rattle.gates.specs.Layout.{gatesOf};
+ghost use Rattle.columns.specs.Emit.{emit, emitAt};
+ghost use Rattle.ways.specs.Memory.{Fine, closedBy, stepsOwn, nearestOwn, pieceOwn, answerAt, memoryAt};
+
+// The largest B.
+pub const MOST: usize = 10744;
+
+// The gates of the records once more.
+pub fn replay(laid: &[u32], out: &mut [u32], at: usize) -> usize
+    ensures { λ r. ⌜ (now (out .exit) ≡ emit (now (out .entry)) at (gatesOf 20 (now (laid .entry)))) × (r ≡ emitAt (now (out .entry)) at (gatesOf 20 (now (laid .entry)))) ⌝ }
+{
+    let mut next = at;
+    for k in 0..laid.len() {
+        next = emit::put_gate(out, next, gate::decode(laid[k], Job::QUBITS));
+    }
+    next
+}
+
+// The gates that lay the terms, and the closing behind them.
+fn closed(own: Own, laid: &[u32], out: &mut [u32]) -> usize
+    ensures { λ r. ⌜ (now (out .exit) ≡ emit (now (out .entry)) 0 (closedBy own (gatesOf 20 (now (laid .entry))))) × (r ≡ emitAt (now (out .entry)) 0 (closedBy own (gatesOf 20 (now (laid .entry))))) ⌝ }
+{
+    let near = own.near;
+    let asked = own.asked;
+    let mirror = own.mirror;
+    let at = replay(laid, out, 0);
+    closing::close(near, own.set, asked, mirror, laid, out, at)
+}
+
+fn by_steps(own: Own, out: &mut [u32]) -> Laid
+    requires { ⌜ Fine (stepsOwn own .laid) ⌝ }
+    ensures { λ r. ⌜ (now (out .exit) ≡ memoryAt (stepsOwn own) (closedBy own (stepsOwn own .laid)) (now (out .entry)) 0) × (r ≡ answerAt (stepsOwn own) (closedBy own (stepsOwn own .laid)) (now (out .entry)) 0) ⌝ }
+{
+    let near = own.near;
+    let terms = own.terms;
+    let parity = terms.parity;
+    let sum = terms.sum;
+    let mut way = [0u32; MOST];
+    match steps::lay_terms(near, own.set, parity, sum, terms.len, &mut way) {
+        Laid::On(k) => Laid::On(closed(own, &way[..k], out)),
+        Laid::Stuck(_) => Laid::Stuck(0),
+    }
+}
+
+fn by_nearest(own: Own, out: &mut [u32]) -> usize
+    requires { ⌜ Fine (nearestOwn own .laid) ⌝ }
+    ensures { λ r. ⌜ (now (out .exit) ≡ emit (now (out .entry)) 0 (closedBy own (nearestOwn own .laid))) × (r ≡ emitAt (now (out .entry)) 0 (closedBy own (nearestOwn own .laid))) ⌝ }
+{
+    let near = own.near;
+    let terms = own.terms;
+    let parity = terms.parity;
+    let sum = terms.sum;
+    let mut way = [0u32; MOST];
+    let k = nearest::lay_terms(near, own.set, parity, sum, terms.len, &mut way);
+    closed(own, &way[..k], out)
+}
+
+// The gates of the island behind those that are laid: the shorter way, the steps in a tie.
+pub fn lay_island(own: Own, out: &mut [u32], at: usize) -> Laid
+    requires { ⌜ Fine (stepsOwn own .laid) × Fine (nearestOwn own .laid) × Fine (closedBy own (stepsOwn own .laid)) × Fine (closedBy own (nearestOwn own .laid)) ⌝ }
+    ensures { λ r. ⌜ (now (out .exit) ≡ memoryAt (pieceOwn own) (pieceOwn own .laid) (now (out .entry)) at) × (r ≡ answerAt (pieceOwn own) (pieceOwn own .laid) (now (out .entry)) at) ⌝ }
+{
+    let mut first = [0u32; MOST];
+    match by_steps(own, &mut first) {
+        Laid::On(a) => {
+            let mut second = [0u32; MOST];
+            let b = by_nearest(own, &mut second);
+            if b < a {
+                return Laid::On(replay(&second[..b], out, at));
+            }
+            Laid::On(replay(&first[..a], out, at))
+        }
+        Laid::Stuck(_) => Laid::Stuck(at),
+    }
+}

@@ -1,0 +1,2 @@
+// One island laid: both ways, the shorter kept.
+pub mod island;
