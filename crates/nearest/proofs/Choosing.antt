@@ -12,12 +12,12 @@ use Rattle.sets.specs.Bit.{has}
 use Rattle.columns.specs.Order.{orderOf}
 use Rattle.columns.specs.Gather.{gatherFrom, gatherOf}
 use Rattle.columns.proofs.OrderGrows.{order-few}
-use Rattle.nearest.specs.Table.{Ordered}
+use Rattle.nearest.specs.Orders.{Ordered}
 use Rattle.nearest.specs.Choice.{choice, far, nearer, gathered, triedAt, overQubits, overColumns, chosen}
 use Rattle.nearest.specs.declared.choice.Choice.{Choice}
 use Rattle.nearest.proofs.Counting.{gather-same}
 
--- ---- the count, by the table
+-- ---- the count, by the orders
 
 module _ (near : List ℕ) (Q : ℕ) (order len : List ℕ) (o : Ordered near Q order len) (v : ℕ) (h : v < 20) where
   pub len-few : (l : ℕ) → l ≡ getD len v 0 → (1 ≤ l) × (l ≤ 20)

@@ -11,7 +11,7 @@ use Rattle.columns.specs.Order.{orderOf, orderIn}
 use Rattle.columns.specs.declared.gather.Order.{Order}
 use Rattle.columns.proofs.OrderGrows.{order-few}
 use Rattle.columns.proofs.GatherCode.{sets-before, sets-at}
-use Rattle.nearest.specs.Table.{Orderly}
+use Rattle.nearest.specs.Orders.{Orderly}
 
 -- ---- one row
 

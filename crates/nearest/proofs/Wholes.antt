@@ -24,7 +24,7 @@ use Rattle.columns.proofs.OrderGrows.{order-along, order-few}
 use Rattle.columns.proofs.GatherWorks.{gathers-along, left-out}
 use Rattle.nearest.specs.Choice.{outAt, leastOf}
 use Rattle.nearest.specs.Sure.{Sure, Works, Whole, Told}
-use Rattle.nearest.specs.Table.{Ordered}
+use Rattle.nearest.specs.Orders.{Ordered}
 use Rattle.nearest.specs.declared.choice.Out.{Out}
 use Rattle.nearest.proofs.Counting.{out-two, out-one, Counting}
 use Rattle.nearest.proofs.Sureness.{turns-lose}
@@ -169,7 +169,7 @@ module _ (near order : List ℕ) (from : ℕ) where
       omega (arith, h, e, g, c .count, turns-lose (gatherFrom near (drop from order) k S x) x, ap ones (r .done), ones-pow (getD (drop from order) 0 0))
   whole-most false k S x n total most l t c h e g = absurd (omega (arith, e, g))
 
--- ---- from the table
+-- ---- from the orders
 
 along-same : {near os : List ℕ} {k S : ℕ} (qs : List ℕ) → ((j : ℕ) → j ≤ k → getD qs j 0 ≡ getD os j 0) → Along near os k S → Along near qs k S
 along-same qs h (root e) = root (e ∙ ap (λ (i : ℕ). 2 ^ i) (sym (h 0 (omega arith))))

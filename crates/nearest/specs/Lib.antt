@@ -1,5 +1,5 @@
 pub mod Moves
 pub mod Choice
-pub mod Table
+pub mod Orders
 pub mod Sure
 pub mod Nearest

@@ -8,7 +8,7 @@ ghost use lib.ListN.{length, getD, drop};
 ghost use Rattle.columns.specs.Gather.{gatherFrom};
 ghost use Rattle.nearest.specs.Choice.{triedAt, overQubits, chosen, outAt, leastOf};
 ghost use Rattle.nearest.specs.Sure.{Sure, Works, Whole, Told};
-ghost use Rattle.nearest.specs.Table.{Ordered};
+ghost use Rattle.nearest.specs.Orders.{Ordered};
 
 // More moves than any gathering has.
 pub const FAR: usize = gather::MOST + 1;

@@ -9,12 +9,12 @@ ghost use Rattle.columns.specs.Emit.{emit, emitAt};
 ghost use Rattle.columns.specs.Pieces.{held, wrote};
 ghost use Rattle.nearest.specs.Nearest.{rounds, nearestFor};
 ghost use Rattle.nearest.specs.Sure.{Sure, Told};
-ghost use Rattle.nearest.specs.Table.{Ordered};
+ghost use Rattle.nearest.specs.Orders.{Ordered};
 
 mod choice;
 mod moves;
+mod orders;
 mod sure;
-mod table;
 
 // Each round strikes off a column, so no more rounds than columns are needed.
 fn all_rounds(
@@ -54,7 +54,7 @@ fn lay_columns(
 ) -> usize
     ensures { λ r. ⌜ held (now (cols .exit)) (now (out .exit)) r false ≡ wrote (now (out .entry)) 0 (nearestFor near set (now (cols .entry)) (now (angles .entry))) ⌝ }
 {
-    let orders = table::from_all(near, set);
+    let orders = orders::from_all(near, set);
     let order = orders.qubit;
     let len = orders.len;
     let sure = sure::sure(near, set);

@@ -4,7 +4,7 @@ use gates::job::Job;
 ghost use mathlib.Core.Path.{_≡_};
 ghost use Prim.Native.Nat.{_*_, _<_};
 ghost use lib.Seq.{sets};
-ghost use Rattle.nearest.specs.Table.{Ordered};
+ghost use Rattle.nearest.specs.Orders.{Ordered};
 
 const ROOM: usize = Job::QUBITS * Job::QUBITS;
 

@@ -1,11 +1,11 @@
--- `nearest::table::with_row` meets its contract: what is still to be stored. Assumes nothing.
+-- `nearest::orders::with_row` meets its contract: what is still to be stored. Assumes nothing.
 use mathlib.Core.Path.{refl}
 use Prim.Native.Nat.{_-_, _≤_}
 use Rattle.nearest.proofs.Tabled.{Storing, row-start, row-next, row-end}
 use borrow.Author.Needs.{needs}
 use native.Mathlib.Omega.{arith}
-use Rattle.nearest.proofs.table.with_row.Statement.{statement}
-use Rattle.nearest.proofs.table.with_row.Tie as tie
+use Rattle.nearest.proofs.orders.with_row.Statement.{statement}
+use Rattle.nearest.proofs.orders.with_row.Tie as tie
 
 abbrev Inv-loop : tie.InvT-loop
 Inv-loop v row z₀ k₀ z k = (k ≤ 20) × Storing v row z₀ z k
