@@ -1,4 +1,3 @@
-pub mod Emitting
 pub mod Tabling
 pub mod Piecing
 pub mod Turns
@@ -10,8 +9,3 @@ pub mod Laid
 pub mod Parts
 pub mod Struck
 pub mod Inside
-pub mod OrderParts
-pub mod OrderGrows
-pub mod OrderCode
-pub mod GatherWorks
-pub mod GatherCode

@@ -4,9 +4,9 @@ use mathlib.Core.Bool.{Bool, true, false}
 use mathlib.Core.List.{List, []}
 use Prim.Native.Nat.{ℕ}
 use Rattle.sets.specs.Pick.{pick}
-use Rattle.columns.specs.Emit.{emit, emitAt}
+use Rattle.emitting.specs.Emit.{emit, emitAt}
 use Rattle.columns.specs.Pieces.{Piece, piece, after, andThen, Memory, held, wrote}
-use Rattle.columns.proofs.Emitting.{emit-none, emit-at-none, emit-append, emit-at-append}
+use Rattle.emitting.proofs.Emitting.{emit-none, emit-at-none, emit-append, emit-at-append}
 
 pub wrote-is : (out : List ℕ) (at : ℕ) (p : Piece) → wrote out at p ≡ held (p .cols) (emit out at (p .laid)) (emitAt out at (p .laid)) (p .stuck)
 unfolding wrote

@@ -11,7 +11,7 @@ use Rattle.sets.specs.Pick.{pick, both}
 use Rattle.sets.specs.Size.{singleOf, lowestOf}
 use Rattle.sets.proofs.Ones.{ones-of-zero}
 use Rattle.gates.specs.declared.gate.Gate.the-variants.{Rotation}
-use Rattle.columns.specs.Emit.{emit, emitAt}
+use Rattle.emitting.specs.Emit.{emit, emitAt}
 use Rattle.columns.specs.Pieces.{piece, idle, andThen, held, wrote}
 use Rattle.columns.specs.Striking.{loneAt, strikeOne, strikeRow, strikeFrom}
 use Rattle.columns.proofs.Piecing.{wrote-none, wrote-on, held-is}

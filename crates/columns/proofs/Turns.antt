@@ -13,7 +13,7 @@ use Rattle.sets.specs.Columns.{turn}
 use Rattle.sets.proofs.Bits.{bit-of-zero}
 use Rattle.sets.proofs.Words.{only-is, has-true, has-false}
 use Rattle.gates.specs.declared.gate.Gate.the-variants.{Cnot}
-use Rattle.columns.specs.Emit.{emit, emitAt}
+use Rattle.emitting.specs.Emit.{emit, emitAt}
 use Rattle.columns.specs.Pieces.{piece, held, wrote}
 use Rattle.columns.specs.Turning.{turnedBy, turnAll, layCnot}
 use Rattle.columns.proofs.Tabling.{Filled, filled-next}

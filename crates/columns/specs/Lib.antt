@@ -1,8 +1,5 @@
-pub mod Emit
 pub mod Tables
 pub mod Pieces
 pub mod Turning
 pub mod Striking
 pub mod Terms
-pub mod Order
-pub mod Gather

@@ -1,5 +1,3 @@
-// What every way of laying shares: columns of terms, and gates written into a lent list of records.
-pub mod emit;
-pub mod gather;
+// What every way of laying shares: the columns of the terms, turned and struck off.
 pub mod striking;
 pub mod turning;

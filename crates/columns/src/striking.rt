@@ -1,6 +1,6 @@
 // Columns of one qubit are laid as rotations and struck off.
-use crate::emit;
 use crate::turning;
+use emitting::emit;
 use gates::job::Job;
 ghost use mathlib.Core.Path.{_≡_};
 ghost use mathlib.Core.Bool.{false};

@@ -1,5 +1,5 @@
 // The columns of an island's terms, one number each; 0 once struck off.
-use crate::emit;
+use emitting::emit;
 ghost use mathlib.Core.Path.{_≡_};
 ghost use mathlib.Core.Bool.{false};
 ghost use Prim.Native.Nat.{min};

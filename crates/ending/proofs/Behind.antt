@@ -10,7 +10,7 @@ use Rattle.gates.specs.All.{All}
 use Rattle.circuit.proofs.Steps.{gives-cnot}
 use Rattle.circuit.proofs.Circuits.{given-none, given-cons, given-append}
 use Rattle.columns.specs.Terms.{Inside}
-use Rattle.columns.specs.Gather.{Coupled, Within}
+use Rattle.gathering.specs.Gather.{Coupled, Within}
 
 module _ (near : List ℕ) (Q : ℕ) where
   -- gates inside Q as a way of laying promises them

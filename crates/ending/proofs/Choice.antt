@@ -22,8 +22,8 @@ use Rattle.chip.specs.Graph.{Symm, Joined}
 use Rattle.spares.specs.Spare.{spareOf}
 use Rattle.spares.proofs.Spares.{spare-in, spare-joined, spare-other}
 use Rattle.gates.specs.declared.gate.Gate.{Gate}
-use Rattle.columns.specs.Gather.{turns, flip, Coupled, Within, gatherOf}
-use Rattle.columns.proofs.GatherWorks.{coupled-within, gather-few}
+use Rattle.gathering.specs.Gather.{turns, flip, Coupled, Within, gatherOf}
+use Rattle.gathering.proofs.GatherWorks.{coupled-within, gather-few}
 use Rattle.ending.specs.Rows.{played}
 use Rattle.ending.specs.Clear.{followOf, rowsFirst, mirrorFirst, outOf, leastFrom, cheapestOf}
 use Rattle.ending.specs.Closing.{endingFrom, endingOf}

@@ -13,10 +13,10 @@ use Rattle.sets.specs.Pick.{pick, both}
 use Rattle.spares.specs.Spare.{spareOf}
 use Rattle.gates.specs.declared.gate.Gate.{Gate}
 use Rattle.gates.specs.declared.gate.Gate.the-variants.{Cnot, Rotation, Bad}
-use Rattle.columns.specs.declared.gather.Moves.{Moves}
-use Rattle.columns.specs.Gather.{flip, gatherOf, controlOf, targetOf, movesIn, cnotsIn, Plain}
-use Rattle.columns.proofs.GatherWorks.{gather-few}
-use Rattle.columns.proofs.GatherCode.{cnots-flip, moves-back, gather-back, gather-plain, moves-len}
+use Rattle.gathering.specs.declared.gather.Moves.{Moves}
+use Rattle.gathering.specs.Gather.{flip, gatherOf, controlOf, targetOf, movesIn, cnotsIn, Plain}
+use Rattle.gathering.proofs.GatherWorks.{gather-few}
+use Rattle.gathering.proofs.GatherCode.{cnots-flip, moves-back, gather-back, gather-plain, moves-len}
 use Rattle.ending.specs.declared.clearing.Best.{Best}
 use Rattle.ending.specs.declared.clearing.Standing.{Standing}
 use Rattle.ending.specs.Rows.{played}

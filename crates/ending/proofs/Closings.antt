@@ -28,9 +28,9 @@ use Rattle.gates.specs.Layout.{Good}
 use Rattle.circuit.specs.Circuit.{run}
 use Rattle.gates.specs.All.{All}
 use Rattle.tallies.specs.Tally.{tally, oneCnot, oneRotation, cnotsOf, rotationsOf}
-use Rattle.columns.specs.Gather.{turns, flip, Coupled, Within}
-use Rattle.columns.proofs.GatherWorks.{turns-append, coupled-append, coupled-within}
-use Rattle.columns.proofs.OrderParts.{sub-lt}
+use Rattle.gathering.specs.Gather.{turns, flip, Coupled, Within}
+use Rattle.gathering.proofs.GatherWorks.{turns-append, coupled-append, coupled-within}
+use Rattle.gathering.proofs.OrderParts.{sub-lt}
 use Rattle.ending.specs.Rows.{played}
 use Rattle.ending.specs.Closing.{endingOf, onwardOf, backOf, backFirst, closingOf}
 use Rattle.ending.specs.Ends.{Ready, Ends, Ended, spent, Brings, Closes}

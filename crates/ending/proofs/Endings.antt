@@ -19,8 +19,8 @@ use Rattle.sets.proofs.Ones.{ones-drop, ones-zero, drop-same}
 use Rattle.chip.specs.Graph.{Symm, Joined}
 use Rattle.gates.specs.declared.gate.Gate.{Gate}
 use Rattle.circuit.specs.Circuit.{run}
-use Rattle.columns.specs.Gather.{turns, flip, Coupled, Within}
-use Rattle.columns.proofs.GatherWorks.{turns-append, coupled-append, coupled-up, coupled-within}
+use Rattle.gathering.specs.Gather.{turns, flip, Coupled, Within}
+use Rattle.gathering.proofs.GatherWorks.{turns-append, coupled-append, coupled-up, coupled-within}
 use Rattle.ending.specs.Ends.{Ready, TakesOut, Ends, last, out, spent, Ended}
 use Rattle.ending.proofs.Turning.{turns-sub, back-sub, dot-turns, turns-out, row-turned}
 use Rattle.ending.proofs.Taking.{not-zero}

@@ -24,10 +24,10 @@ use Rattle.circuit.specs.Circuit.{step, run, start, finalOf}
 use Rattle.gates.specs.All.{All}
 use Rattle.circuit.proofs.Steps.{cnot-past-target, cnot-target, cnot-other, step-cnot, step-rotation, step-bad, step-length}
 use Rattle.circuit.proofs.Circuits.{run-none, run-cons, run-length, start-length, final-is}
-use Rattle.columns.specs.Gather.{turns, flip}
+use Rattle.gathering.specs.Gather.{turns, flip}
 use Rattle.ending.specs.Mirror.{mirrorsOf, mirrorOf, Paired, Bordered, Parted}
 use Rattle.ending.specs.Ends.{Ready}
-use Rattle.columns.proofs.OrderParts.{bits-lt}
+use Rattle.gathering.proofs.OrderParts.{bits-lt}
 
 pub mirror-is : (gs : List Gate) (j : ℕ) → mirrorOf gs j ≡ getD (mirrorsOf gs) j 0
 unfolding mirrorOf

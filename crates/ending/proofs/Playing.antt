@@ -12,9 +12,9 @@ use Rattle.gates.specs.declared.gate.Gate.{Gate}
 use Rattle.gates.specs.declared.gate.Gate.the-variants.{Cnot, Rotation, Bad}
 use Rattle.gates.specs.Layout.{gateOf, gatesOf}
 use Rattle.columns.specs.Turning.{turnedBy}
-use Rattle.columns.specs.Gather.{flip, cnotsIn}
+use Rattle.gathering.specs.Gather.{flip, cnotsIn}
 use Rattle.columns.proofs.Turns.{turned-zero}
-use Rattle.columns.proofs.GatherCode.{cnots-step, cnots-none}
+use Rattle.gathering.proofs.GatherCode.{cnots-step, cnots-none}
 use Rattle.ending.specs.Rows.{played, seen}
 
 pub played-append : (L M : List Gate) (x : ℕ) → played (L ++ M) x ≡ played M (played L x)

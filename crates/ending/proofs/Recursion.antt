@@ -17,9 +17,9 @@ use Rattle.sets.proofs.Ones.{ones-drop}
 use Rattle.sets.proofs.Words.{only-is, has-true}
 use Rattle.spares.specs.Spare.{connectedOf, spareOf}
 use Rattle.gates.specs.declared.gate.Gate.{Gate}
-use Rattle.columns.specs.Emit.{emitAt}
-use Rattle.columns.proofs.Emitting.{emit-at-room}
-use Rattle.columns.specs.Gather.{flip}
+use Rattle.emitting.specs.Emit.{emitAt}
+use Rattle.emitting.proofs.Emitting.{emit-at-room}
+use Rattle.gathering.specs.Gather.{flip}
 use Rattle.ending.specs.declared.clearing.Standing.{Standing}
 use Rattle.ending.specs.Rows.{played, seen}
 use Rattle.ending.specs.Clear.{outOf, cheapestOf}

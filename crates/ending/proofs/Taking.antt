@@ -12,8 +12,8 @@ use Rattle.sets.specs.Columns.{dot}
 use Rattle.sets.proofs.Dot.{dot-comm, dot-pow, dot-zero}
 use Rattle.chip.specs.Graph.{Symm, Joined}
 use Rattle.gates.specs.declared.gate.Gate.{Gate}
-use Rattle.columns.specs.Gather.{turns, flip, Coupled, Gathers, gatherOf}
-use Rattle.columns.proofs.GatherWorks.{gathers, gather-stands, turns-append, coupled-append, coupled-within}
+use Rattle.gathering.specs.Gather.{turns, flip, Coupled, Gathers, gatherOf}
+use Rattle.gathering.proofs.GatherWorks.{gathers, gather-stands, turns-append, coupled-append, coupled-within}
 use Rattle.ending.specs.Rows.{played}
 use Rattle.ending.specs.Clear.{followOf, rowsFirst, mirrorFirst}
 use Rattle.ending.specs.Ends.{Ready, TakesOut}

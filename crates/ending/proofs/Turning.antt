@@ -23,7 +23,7 @@ use Rattle.gates.specs.declared.gate.Gate.the-variants.{Cnot, Rotation, Bad}
 use Rattle.circuit.specs.Circuit.{step, run}
 use Rattle.circuit.proofs.Steps.{cnot-other, step-cnot, step-rotation, step-bad, step-length}
 use Rattle.circuit.proofs.Circuits.{run-none, run-cons}
-use Rattle.columns.specs.Gather.{turns, flip, On, Coupled, Within, Spares}
+use Rattle.gathering.specs.Gather.{turns, flip, On, Coupled, Within, Spares}
 use Rattle.columns.proofs.Turns.{turned-is}
 use Rattle.ending.specs.Rows.{played}
 

@@ -13,10 +13,10 @@ use Rattle.circuit.specs.declared.wires.Wires.{Wires}
 use Rattle.circuit.specs.State.{wiresOf}
 use Rattle.circuit.specs.Circuit.{run}
 use Rattle.circuit.proofs.Circuits.{run-append}
-use Rattle.columns.specs.Emit.{emit, emitAt}
-use Rattle.columns.proofs.Emitting.{emit-none, emit-at-none, emit-append, emit-at-append, emit-length}
-use Rattle.columns.specs.Gather.{flip, cnotsIn}
-use Rattle.columns.proofs.GatherCode.{cnots-step, cnots-none}
+use Rattle.emitting.specs.Emit.{emit, emitAt}
+use Rattle.emitting.proofs.Emitting.{emit-none, emit-at-none, emit-append, emit-at-append, emit-length}
+use Rattle.gathering.specs.Gather.{flip, cnotsIn}
+use Rattle.gathering.proofs.GatherCode.{cnots-step, cnots-none}
 use Rattle.ending.specs.Closing.{backOf}
 use Rattle.ending.specs.Mirror.{mirrorsOf}
 

@@ -7,7 +7,7 @@ use lib.ListN.{getD, length}
 use Rattle.sets.specs.Pick.{pick, both}
 use Rattle.spares.specs.Spare.{spareOf}
 use Rattle.gates.specs.declared.gate.Gate.{Gate}
-use Rattle.columns.specs.Gather.{flip, gatherOf}
+use Rattle.gathering.specs.Gather.{flip, gatherOf}
 use Rattle.ending.specs.Rows.{played}
 
 -- "clear rows at v": N_v, here x, is gathered at v. Then the mirror row y is cleared as the first moves left it

@@ -8,7 +8,7 @@ use Rattle.sets.specs.Pick.{pick}
 use Rattle.sets.specs.Size.{sizeOf, onlyOf}
 use Rattle.gates.specs.declared.gate.Gate.{Gate}
 use Rattle.gates.specs.declared.gate.Gate.the-variants.{Cnot, Rotation, Bad}
-use Rattle.columns.specs.Gather.{flip}
+use Rattle.gathering.specs.Gather.{flip}
 use Rattle.ending.specs.Rows.{played}
 use Rattle.ending.specs.Clear.{outOf, cheapestOf}
 

@@ -15,7 +15,7 @@ use Rattle.gates.specs.Layout.{Good}
 use Rattle.circuit.specs.Circuit.{run}
 use Rattle.gates.specs.All.{All}
 use Rattle.tallies.specs.Tally.{cnotsOf, rotationsOf}
-use Rattle.columns.specs.Gather.{turns, flip, Coupled}
+use Rattle.gathering.specs.Gather.{turns, flip, Coupled}
 
 -- asked rows N and mirror rows C of the island Q: inside it, and row i meets mirror row j in an odd number of wires exactly where i is j
 pub record Ready (Q : ℕ) (N C : List ℕ) : Type 0 where

@@ -6,8 +6,8 @@ use lib.ListN.{length}
 use Rattle.sets.specs.Pick.{pick, both}
 use Rattle.spares.specs.Spare.{spareOf}
 use Rattle.gates.specs.declared.gate.Gate.{Gate}
-use Rattle.columns.specs.declared.gather.Moves.{Moves}
-use Rattle.columns.specs.Gather.{flip}
+use Rattle.gathering.specs.declared.gather.Moves.{Moves}
+use Rattle.gathering.specs.Gather.{flip}
 use Rattle.ending.specs.declared.clearing.Standing.{Standing}
 use Rattle.ending.specs.declared.clearing.Best.{Best}
 use Rattle.ending.specs.Clear.{outOf}

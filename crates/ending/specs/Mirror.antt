@@ -9,7 +9,7 @@ use Rattle.sets.specs.Columns.{dot}
 use Rattle.gates.specs.declared.gate.Gate.{Gate}
 use Rattle.gates.specs.declared.gate.Gate.the-variants.{Cnot, Rotation, Bad}
 use Rattle.circuit.specs.Circuit.{run, start, finalOf}
-use Rattle.columns.specs.Gather.{flip}
+use Rattle.gathering.specs.Gather.{flip}
 
 -- "mirror[c] ^= mirror[t], starting from 2^i"
 unfoldable pub mirrorsOf : List Gate → List ℕ

@@ -6,7 +6,7 @@ use Rattle.gates.specs.declared.gate.Gate.{Gate}
 use Rattle.gates.specs.declared.gate.Gate.the-variants.{Cnot, Rotation, Bad}
 use Rattle.sets.specs.Pick.{pick}
 use Rattle.columns.specs.Turning.{turnedBy}
-use Rattle.columns.specs.Gather.{flip}
+use Rattle.gathering.specs.Gather.{flip}
 
 -- what a list of gates makes of a row
 abbrev pub played : List Gate → ℕ → ℕ

@@ -1,12 +1,12 @@
 // The ways to take one qubit out of an island, and the cheapest of them.
 use crate::rows;
-use columns::gather;
-use columns::gather::Moves;
 use gates::job::Job;
+use gathering::gather;
+use gathering::gather::Moves;
 ghost use mathlib.Core.Path.{_≡_};
 ghost use Prim.Native.Nat.{_<_};
 ghost use lib.ListN.{length};
-ghost use Rattle.columns.specs.Gather.{movesIn};
+ghost use Rattle.gathering.specs.Gather.{movesIn};
 ghost use Rattle.ending.specs.Clear.{followOf, leadOf, trailOf, outOf, cheapestOf};
 ghost use Rattle.ending.specs.Held.{swappedOf, takenOf, betterOf};
 

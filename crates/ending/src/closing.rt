@@ -1,19 +1,19 @@
 // The ending of an island, and its closing behind what was laid on it.
 use crate::clearing;
 use crate::rows;
-use columns::emit;
-use columns::gather;
+use emitting::emit;
 use gates::gate;
 use gates::gate::Gate;
 use gates::job::Job;
+use gathering::gather;
 ghost use mathlib.Core.Path.{_≡_};
 ghost use mathlib.Core.List.{[], _∷_};
 ghost use Prim.Native.Nat.{_+_, _≤_, _<_};
 ghost use lib.Dec.{ltb};
 ghost use lib.ListN.{length};
 ghost use Rattle.gates.specs.Layout.{gatesOf};
-ghost use Rattle.columns.specs.Emit.{emit, emitAt};
-ghost use Rattle.columns.specs.Gather.{cnotsIn};
+ghost use Rattle.emitting.specs.Emit.{emit, emitAt};
+ghost use Rattle.gathering.specs.Gather.{cnotsIn};
 ghost use Rattle.ending.specs.Clear.{outOf};
 ghost use Rattle.ending.specs.Closing.{endingOf, backOf, closingOf};
 

@@ -8,7 +8,7 @@ ghost use mathlib.Core.Path.{_≡_};
 ghost use mathlib.Core.List.{[], _∷_};
 ghost use Rattle.circuit.specs.Circuit.{run};
 ghost use Rattle.gates.specs.Layout.{gatesOf};
-ghost use Rattle.columns.specs.Gather.{flip};
+ghost use Rattle.gathering.specs.Gather.{flip};
 ghost use Rattle.ending.specs.Mirror.{mirrorsOf};
 
 fn after(rows: [u32; Job::QUBITS], g: Gate) -> [u32; Job::QUBITS]

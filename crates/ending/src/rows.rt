@@ -1,14 +1,14 @@
 // Asked rows and mirror rows under gates.
-use columns::gather;
 use columns::turning;
 use gates::gate;
 use gates::gate::Gate;
 use gates::job::Job;
+use gathering::gather;
 ghost use mathlib.Core.Path.{_≡_};
 ghost use mathlib.Core.List.{[], _∷_, map};
 ghost use Prim.Native.Nat.{_≤_};
 ghost use Rattle.gates.specs.Layout.{gatesOf};
-ghost use Rattle.columns.specs.Gather.{cnotsIn};
+ghost use Rattle.gathering.specs.Gather.{cnotsIn};
 ghost use Rattle.ending.specs.Rows.{played, seen};
 
 // A row after n moves.

@@ -15,8 +15,8 @@ use Rattle.gates.specs.Layout.{gatesOf, recordOf}
 use Rattle.verdicts.specs.Verdicts.{numberOf}
 use Rattle.verdicts.proofs.Judged.{then-stop}
 use Rattle.chip.specs.Couplers.{nearOf}
-use Rattle.columns.specs.Emit.{emit, emitAt}
-use Rattle.columns.proofs.Emitting.{emit-room}
+use Rattle.emitting.specs.Emit.{emit, emitAt}
+use Rattle.emitting.proofs.Emitting.{emit-room}
 use Rattle.steps.specs.declared.Laid.{Laid}
 use Rattle.steps.specs.declared.Laid.the-variants.{On, Stuck}
 use Rattle.laying.specs.declared.lay.Answer.{Answer}

@@ -20,7 +20,7 @@ use Rattle.gates.proofs.Alls.{all-none, all-cons, all-append, all-map}
 use Rattle.tallies.proofs.Tallies.{cnots-append, rotations-append}
 use Rattle.chip.specs.Graph.{Near, Symm, Joined}
 use Rattle.columns.specs.Terms.{Inside, Small, LaysTerms, totalOf}
-use Rattle.columns.specs.Gather.{On, Coupled, Within}
+use Rattle.gathering.specs.Gather.{On, Coupled, Within}
 use Rattle.ending.specs.Ends.{Ready, Closes}
 use Rattle.ending.specs.Closing.{closingOf}
 use Rattle.ending.proofs.Closings.{closing-closes}

@@ -23,9 +23,9 @@ use Rattle.circuit.specs.State.{wiresOf}
 use Rattle.chip.specs.Couplers.{nearOf}
 use Rattle.isles.specs.Islands.{islandOf, islandsOf}
 use Rattle.isles.proofs.Isles.{getD-islands}
-use Rattle.columns.specs.Emit.{emit, emitAt}
+use Rattle.emitting.specs.Emit.{emit, emitAt}
 use Rattle.columns.specs.Pieces.{Piece}
-use Rattle.columns.proofs.Emitting.{emit-none, emit-at-none, emit-length, emit-append, emit-at-append}
+use Rattle.emitting.proofs.Emitting.{emit-none, emit-at-none, emit-length, emit-append, emit-at-append}
 use Rattle.steps.specs.declared.Laid.{Laid}
 use Rattle.steps.specs.declared.Laid.the-variants.{On, Stuck}
 use Rattle.ending.specs.Mirror.{mirrorsOf}

@@ -15,7 +15,7 @@ ghost use mathlib.Core.Path.{_≡_};
 ghost use lib.ListN.{length};
 ghost use Rattle.gates.specs.Layout.{gatesOf};
 ghost use Rattle.laying.specs.Layable.{Layable};
-ghost use Rattle.columns.specs.Emit.{emit, emitAt};
+ghost use Rattle.emitting.specs.Emit.{emit, emitAt};
 ghost use Rattle.steps.specs.declared.Laid.the-variants.{On};
 ghost use Rattle.laying.specs.Verdict.{circuitOf, countsOf, answered, outputOf};
 

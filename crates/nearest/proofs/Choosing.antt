@@ -9,9 +9,9 @@ use lib.Seq.{getD-drop}
 use borrow.Author.Tests.{lt-ltb, le-ltb}
 use Rattle.sets.specs.Pick.{pick}
 use Rattle.sets.specs.Bit.{has}
-use Rattle.columns.specs.Order.{orderOf}
-use Rattle.columns.specs.Gather.{gatherFrom, gatherOf}
-use Rattle.columns.proofs.OrderGrows.{order-few}
+use Rattle.gathering.specs.Order.{orderOf}
+use Rattle.gathering.specs.Gather.{gatherFrom, gatherOf}
+use Rattle.gathering.proofs.OrderGrows.{order-few}
 use Rattle.nearest.specs.Orders.{Ordered}
 use Rattle.nearest.specs.Choice.{choice, far, nearer, gathered, triedAt, overQubits, overColumns, chosen}
 use Rattle.nearest.specs.declared.choice.Choice.{Choice}

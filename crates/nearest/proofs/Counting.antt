@@ -12,8 +12,8 @@ use borrow.Author.Tests.{eq-eqb, ne-eqb}
 use Rattle.sets.specs.Bit.{has}
 use Rattle.sets.specs.Size.{lowestOf, onlyOf}
 use Rattle.gates.specs.declared.gate.Gate.{Gate}
-use Rattle.columns.specs.Gather.{movesAt, leftAt, gatherFrom}
-use Rattle.columns.proofs.GatherWorks.{gather-step, gather-none, moves-few}
+use Rattle.gathering.specs.Gather.{movesAt, leftAt, gatherFrom}
+use Rattle.gathering.proofs.GatherWorks.{gather-step, gather-none, moves-few}
 use Rattle.nearest.specs.Choice.{outAt}
 use Rattle.nearest.specs.declared.choice.Out.{Out}
 

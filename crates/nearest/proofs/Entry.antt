@@ -7,7 +7,7 @@ use native.Mathlib.Omega.{arith}
 use lib.Dec.{ltb}
 use borrow.Author.Tests.{lt-ltb, le-ltb}
 use Rattle.sets.specs.Pick.{pick}
-use Rattle.columns.specs.Emit.{emit, emitAt}
+use Rattle.emitting.specs.Emit.{emit, emitAt}
 use Rattle.columns.specs.Pieces.{Piece, idle, andThen, Memory, held, wrote}
 use Rattle.columns.specs.Striking.{strikeOff}
 use Rattle.columns.proofs.Piecing.{wrote-on, wrote-none}

@@ -12,7 +12,7 @@ use borrow.Author.Tests.{ltb-true}
 use Rattle.sets.specs.Pick.{pick}
 use Rattle.sets.specs.Bit.{has, In}
 use Rattle.sets.proofs.Words.{in-has}
-use Rattle.columns.specs.Gather.{gatherOf}
+use Rattle.gathering.specs.Gather.{gatherOf}
 use Rattle.nearest.specs.Choice.{choice, far, nearer, gathered, triedAt, overQubits, overColumns, chosen}
 use Rattle.nearest.specs.declared.choice.Choice.{Choice}
 use Rattle.nearest.proofs.Choosing.{qubits-step, qubits-none, columns-step, columns-none}

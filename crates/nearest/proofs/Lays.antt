@@ -18,14 +18,14 @@ use Rattle.columns.specs.Tables.{sumTo}
 use Rattle.columns.specs.Pieces.{Piece, idle, after}
 use Rattle.columns.specs.Striking.{strikeOff}
 use Rattle.columns.specs.Terms.{LaysTerms, Laying, live, liveOne}
-use Rattle.columns.specs.Gather.{Gathers, gatherOf}
+use Rattle.gathering.specs.Gather.{Gathers, gatherOf}
 use Rattle.columns.proofs.Tabling.{sum-less, sum-ones}
 use Rattle.columns.proofs.Piecing.{then-on}
 use Rattle.columns.proofs.Gates.{cnots-none, cnots-append}
 use Rattle.columns.proofs.Layings.{live-one, live-none, laying-none, laying-then}
 use Rattle.columns.proofs.Laid.{sub-below, lays-terms}
 use Rattle.columns.proofs.Struck.{Strikes, strikes-off}
-use Rattle.columns.proofs.GatherWorks.{gathers}
+use Rattle.gathering.proofs.GatherWorks.{gathers}
 use Rattle.nearest.specs.Choice.{far, chosen}
 use Rattle.nearest.specs.Moves.{layMoves}
 use Rattle.nearest.specs.Nearest.{gatherNext, rounds, nearestFor}

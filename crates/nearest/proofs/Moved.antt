@@ -21,7 +21,7 @@ use Rattle.columns.specs.Pieces.{Piece, piece, idle, after, andThen}
 use Rattle.columns.specs.Turning.{turnAll}
 use Rattle.columns.specs.Striking.{strikeOff}
 use Rattle.columns.specs.Terms.{Laying}
-use Rattle.columns.specs.Gather.{On, Coupled, turns}
+use Rattle.gathering.specs.Gather.{On, Coupled, turns}
 use Rattle.columns.proofs.Piecing.{then-on}
 use Rattle.columns.proofs.Turns.{cnot-is, turn-all-at, turned-is}
 use Rattle.columns.proofs.Gates.{cnots-none, cnots-append, cnots-cnot}

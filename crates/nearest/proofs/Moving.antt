@@ -10,11 +10,11 @@ use Rattle.gates.specs.declared.gate.Gate.the-variants.{Cnot}
 use Rattle.columns.specs.Pieces.{idle, andThen, Memory, held, wrote}
 use Rattle.columns.specs.Turning.{layCnot}
 use Rattle.columns.specs.Striking.{strikeOff}
-use Rattle.columns.specs.Gather.{gatherOf, movesIn, cnotsIn}
-use Rattle.columns.specs.declared.gather.Moves.{Moves}
+use Rattle.gathering.specs.Gather.{gatherOf, movesIn, cnotsIn}
+use Rattle.gathering.specs.declared.gather.Moves.{Moves}
 use Rattle.columns.proofs.Piecing.{wrote-none, wrote-on}
-use Rattle.columns.proofs.GatherWorks.{gather-few}
-use Rattle.columns.proofs.GatherCode.{cnots-step, cnots-none, gather-back, moves-len}
+use Rattle.gathering.proofs.GatherWorks.{gather-few}
+use Rattle.gathering.proofs.GatherCode.{cnots-step, cnots-none, gather-back, moves-len}
 use Rattle.nearest.specs.Moves.{layMove, layMoves}
 use Rattle.nearest.specs.Nearest.{gatherNext}
 

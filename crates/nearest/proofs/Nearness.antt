@@ -13,8 +13,8 @@ use Rattle.sets.specs.Pick.{pick}
 use Rattle.sets.specs.Bit.{has, In}
 use Rattle.sets.specs.Size.{lowestOf}
 use Rattle.sets.proofs.Words.{has-true, in-has, lowest-in, lowest-below}
-use Rattle.columns.specs.Gather.{gatherOf}
-use Rattle.columns.proofs.GatherWorks.{gather-few}
+use Rattle.gathering.specs.Gather.{gatherOf}
+use Rattle.gathering.proofs.GatherWorks.{gather-few}
 use Rattle.nearest.specs.Choice.{choice, far, nearer, gathered, triedAt, overQubits, overColumns, chosen}
 use Rattle.nearest.specs.declared.choice.Choice.{Choice}
 use Rattle.nearest.proofs.Choosing.{qubits-step, qubits-none, columns-step, columns-none}

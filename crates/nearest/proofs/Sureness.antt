@@ -23,8 +23,8 @@ use Rattle.gates.specs.declared.gate.Gate.the-variants.{Cnot, Rotation, Bad}
 use Rattle.chip.specs.Graph.{Near, Symm}
 use Rattle.spares.specs.Spare.{connectedOf}
 use Rattle.spares.proofs.Spares.{connected-joined}
-use Rattle.columns.specs.Gather.{turns, gatherOf}
-use Rattle.columns.proofs.GatherWorks.{gathers}
+use Rattle.gathering.specs.Gather.{turns, gatherOf}
+use Rattle.gathering.proofs.GatherWorks.{gathers}
 use Rattle.nearest.specs.Choice.{triedAt, overQubits}
 use Rattle.nearest.specs.Sure.{Sure, Answered, Mutual, Told}
 use Rattle.nearest.specs.declared.choice.Choice.{Choice}

@@ -7,10 +7,10 @@ use native.Mathlib.Decide.{ℕ-discrete}
 use native.Mathlib.Numerals.{add-one}
 use lib.ListN.{length, getD, set, drop, replicate, length-set, length-replicate, drop-of-length-le}
 use lib.Seq.{sets, length-sets, drop-cons, getD-set-same, getD-set-other}
-use Rattle.columns.specs.Order.{orderOf, orderIn}
-use Rattle.columns.specs.declared.gather.Order.{Order}
-use Rattle.columns.proofs.OrderGrows.{order-few}
-use Rattle.columns.proofs.GatherCode.{sets-before, sets-at}
+use Rattle.gathering.specs.Order.{orderOf, orderIn}
+use Rattle.gathering.specs.declared.gather.Order.{Order}
+use Rattle.gathering.proofs.OrderGrows.{order-few}
+use Rattle.gathering.proofs.GatherCode.{sets-before, sets-at}
 use Rattle.nearest.specs.Orders.{Orderly}
 
 -- ---- one row

@@ -17,11 +17,11 @@ use Rattle.sets.proofs.Members.{in-and, and-in, in-lt, some-bit, put-other, put
 use Rattle.sets.proofs.Ones.{ones-pow, drop-same}
 use Rattle.sets.proofs.Words.{has-true, has-false, lowest-in, only-is}
 use Rattle.chip.specs.Graph.{Near, Symm}
-use Rattle.columns.specs.Order.{Along, root, then}
-use Rattle.columns.specs.Gather.{leftAt, gatherFrom}
-use Rattle.columns.proofs.OrderParts.{sub-lt}
-use Rattle.columns.proofs.OrderGrows.{order-along, order-few}
-use Rattle.columns.proofs.GatherWorks.{gathers-along, left-out}
+use Rattle.gathering.specs.Order.{Along, root, then}
+use Rattle.gathering.specs.Gather.{leftAt, gatherFrom}
+use Rattle.gathering.proofs.OrderParts.{sub-lt}
+use Rattle.gathering.proofs.OrderGrows.{order-along, order-few}
+use Rattle.gathering.proofs.GatherWorks.{gathers-along, left-out}
 use Rattle.nearest.specs.Choice.{outAt, leastOf}
 use Rattle.nearest.specs.Sure.{Sure, Works, Whole, Told}
 use Rattle.nearest.specs.Orders.{Ordered}

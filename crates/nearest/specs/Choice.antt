@@ -8,7 +8,7 @@ use Rattle.sets.specs.Pick.{pick}
 use Rattle.sets.specs.Bit.{has}
 use Rattle.sets.specs.Size.{sizeOf}
 use Rattle.gates.specs.Limits.{mostQubits}
-use Rattle.columns.specs.Gather.{movesAt, leftAt, gatherOf}
+use Rattle.gathering.specs.Gather.{movesAt, leftAt, gatherOf}
 use Rattle.nearest.specs.declared.choice.Choice.{Choice}
 use Rattle.nearest.specs.declared.choice.Out.{Out}
 

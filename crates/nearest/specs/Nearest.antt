@@ -7,7 +7,7 @@ use Rattle.sets.specs.Pick.{pick}
 use Rattle.gates.specs.Limits.{mostParities}
 use Rattle.columns.specs.Pieces.{Piece, idle, andThen}
 use Rattle.columns.specs.Striking.{strikeOff}
-use Rattle.columns.specs.Gather.{gatherOf}
+use Rattle.gathering.specs.Gather.{gatherOf}
 use Rattle.nearest.specs.Choice.{chosen, far}
 use Rattle.nearest.specs.Moves.{layMoves}
 

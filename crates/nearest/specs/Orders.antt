@@ -3,7 +3,7 @@ use mathlib.Core.Path.{_≡_}
 use mathlib.Core.List.{List}
 use Prim.Native.Nat.{ℕ, _+_, _*_, _<_}
 use lib.ListN.{length, getD}
-use Rattle.columns.specs.Order.{orderOf}
+use Rattle.gathering.specs.Order.{orderOf}
 
 -- for the first n qubits v: the order from v stands from 20 v on, and its length at v
 pub record Orderly (near : List ℕ) (Q n : ℕ) (qubit len : List ℕ) : Type 0 where

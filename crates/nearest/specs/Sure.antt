@@ -6,7 +6,7 @@ use mathlib.Core.List.{List}
 use Prim.Native.Nat.{ℕ, _^_, _<_}
 use lib.ListN.{drop}
 use Rattle.sets.specs.Bit.{Sub}
-use Rattle.columns.specs.Order.{Along}
+use Rattle.gathering.specs.Order.{Along}
 use Rattle.chip.specs.Graph.{Near, Symm, Joined}
 
 pub record Sure (near : List ℕ) (Q : ℕ) : Type 0 where

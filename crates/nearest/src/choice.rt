@@ -1,11 +1,11 @@
 // Which column is gathered next, and at which of its qubits: the nearest.
-use columns::gather;
 use columns::turning;
 use gates::job::Job;
+use gathering::gather;
 ghost use mathlib.Core.Path.{_≡_};
 ghost use Prim.Native.Nat.{_+_, _-_, _*_, _≤_, _<_, min};
 ghost use lib.ListN.{length, getD, drop};
-ghost use Rattle.columns.specs.Gather.{gatherFrom};
+ghost use Rattle.gathering.specs.Gather.{gatherFrom};
 ghost use Rattle.nearest.specs.Choice.{triedAt, overQubits, chosen, outAt, leastOf};
 ghost use Rattle.nearest.specs.Sure.{Sure, Works, Whole, Told};
 ghost use Rattle.nearest.specs.Orders.{Ordered};

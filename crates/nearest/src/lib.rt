@@ -5,7 +5,7 @@ use gates::job::Job;
 ghost use mathlib.Core.Path.{_≡_};
 ghost use mathlib.Core.Bool.{false};
 ghost use lib.ListN.{take};
-ghost use Rattle.columns.specs.Emit.{emit, emitAt};
+ghost use Rattle.emitting.specs.Emit.{emit, emitAt};
 ghost use Rattle.columns.specs.Pieces.{held, wrote};
 ghost use Rattle.nearest.specs.Nearest.{rounds, nearestFor};
 ghost use Rattle.nearest.specs.Sure.{Sure, Told};

@@ -1,13 +1,13 @@
 // Moves are laid, and columns that become single are struck off after each of them.
-use columns::gather;
 use columns::striking;
 use columns::turning;
 use gates::job::Job;
+use gathering::gather;
 ghost use mathlib.Core.Path.{_≡_};
 ghost use mathlib.Core.Bool.{false};
 ghost use Prim.Native.Nat.{_≤_};
 ghost use Rattle.columns.specs.Pieces.{held, wrote};
-ghost use Rattle.columns.specs.Gather.{cnotsIn};
+ghost use Rattle.gathering.specs.Gather.{cnotsIn};
 ghost use Rattle.nearest.specs.Moves.{layMove, layMoves};
 ghost use Rattle.nearest.specs.Nearest.{gatherNext};
 

@@ -1,6 +1,6 @@
 // The orders from all qubits, worked out once.
-use columns::gather;
 use gates::job::Job;
+use gathering::gather;
 ghost use mathlib.Core.Path.{_≡_};
 ghost use Prim.Native.Nat.{_*_, _<_};
 ghost use lib.Seq.{sets};

@@ -5,7 +5,7 @@ use mathlib.Core.List.{List}
 use Prim.Native.Nat.{ℕ}
 use Rattle.sets.specs.Pick.{pick}
 use Rattle.sets.specs.Size.{sizeOf}
-use Rattle.columns.specs.Emit.{emit}
+use Rattle.emitting.specs.Emit.{emit}
 use Rattle.columns.specs.Pieces.{Piece, Memory, held, wrote}
 use Rattle.columns.specs.Striking.{strikeOff}
 use Rattle.columns.proofs.Piecing.{wrote-on}

@@ -14,7 +14,7 @@ use Rattle.sets.specs.Size.{singleOf, sizeOf}
 use Rattle.tallies.specs.Tally.{cnotsOf}
 use Rattle.chip.specs.Graph.{Symm, Joined}
 use Rattle.columns.specs.Tables.{sumTo, one}
-use Rattle.columns.specs.Emit.{emitAt}
+use Rattle.emitting.specs.Emit.{emitAt}
 use Rattle.columns.specs.Pieces.{Piece, after}
 use Rattle.columns.specs.Striking.{strikeOff}
 use Rattle.columns.specs.Terms.{LaysTerms}

@@ -6,7 +6,7 @@ use lib.Dec.{eqb, ltb}
 use Rattle.sets.specs.Pick.{pick}
 use Rattle.sets.specs.Size.{sizeOf}
 use Rattle.gates.specs.Limits.{mostQubits}
-use Rattle.columns.specs.Emit.{emitAt}
+use Rattle.emitting.specs.Emit.{emitAt}
 use Rattle.columns.specs.Pieces.{Piece, idle, halted, andThen, Memory, held}
 use Rattle.columns.specs.Turning.{layCnot}
 use Rattle.columns.specs.Striking.{strikeOff}

@@ -4,7 +4,7 @@ use columns::turning;
 use gates::job::Job;
 ghost use mathlib.Core.Path.{_≡_};
 ghost use lib.ListN.{take};
-ghost use Rattle.columns.specs.Emit.{emit};
+ghost use Rattle.emitting.specs.Emit.{emit};
 ghost use Rattle.columns.specs.Pieces.{wrote};
 ghost use Rattle.steps.specs.Steps.{stepsFor, ended, answerOf};
 

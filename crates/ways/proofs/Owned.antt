@@ -11,9 +11,9 @@ use borrow.Author.Tests.{lt-ltb, le-ltb}
 use Rattle.sets.specs.Pick.{pick}
 use Rattle.gates.specs.declared.gate.Gate.{Gate}
 use Rattle.gates.specs.Layout.{gatesOf}
-use Rattle.columns.specs.Emit.{emit, emitAt}
+use Rattle.emitting.specs.Emit.{emit, emitAt}
 use Rattle.columns.specs.Pieces.{Piece}
-use Rattle.columns.proofs.Emitting.{emit-length, emit-append, emit-at-append}
+use Rattle.emitting.proofs.Emitting.{emit-length, emit-append, emit-at-append}
 use Rattle.steps.specs.Steps.{answerOf}
 use Rattle.steps.specs.declared.Laid.{Laid}
 use Rattle.steps.specs.declared.Laid.the-variants.{On, Stuck}

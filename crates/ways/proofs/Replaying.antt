@@ -11,8 +11,8 @@ use Rattle.gates.specs.declared.gate.Gate.{Gate}
 use Rattle.gates.specs.Layout.{gateOf, gatesOf, recordOf, Good}
 use Rattle.gates.specs.All.{All}
 use Rattle.gates.proofs.Alls.{records-gates}
-use Rattle.columns.specs.Emit.{emit, emitAt}
-use Rattle.columns.proofs.Emitting.{emit-none, emit-at-none, emit-append, emit-at-append, emit-at-room, emit-room}
+use Rattle.emitting.specs.Emit.{emit, emitAt}
+use Rattle.emitting.proofs.Emitting.{emit-none, emit-at-none, emit-append, emit-at-append, emit-at-room, emit-room}
 use Rattle.ways.specs.Memory.{Fine}
 
 map-append : (n : ℕ) (xs ys : List ℕ) → gatesOf n (xs ++ ys) ≡ gatesOf n xs ++ gatesOf n ys

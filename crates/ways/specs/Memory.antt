@@ -7,7 +7,7 @@ use Rattle.sets.specs.Pick.{pick}
 use Rattle.gates.specs.declared.gate.Gate.{Gate}
 use Rattle.gates.specs.Layout.{Good}
 use Rattle.gates.specs.All.{All}
-use Rattle.columns.specs.Emit.{emit, emitAt}
+use Rattle.emitting.specs.Emit.{emit, emitAt}
 use Rattle.columns.specs.Pieces.{Piece}
 use Rattle.steps.specs.Steps.{stepsFor}
 use Rattle.steps.specs.declared.Laid.{Laid}

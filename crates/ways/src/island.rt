@@ -1,5 +1,5 @@
 // One island: its terms laid in two ways, each with its closing; the shorter is kept.
-use columns::emit;
+use emitting::emit;
 use ending::closing;
 use gates::gate;
 use gates::job::Job;
@@ -8,7 +8,7 @@ use steps::Laid;
 ghost use mathlib.Core.Path.{_≡_};
 ghost use lib.ListN.{length};
 ghost use Rattle.gates.specs.Layout.{gatesOf};
-ghost use Rattle.columns.specs.Emit.{emit, emitAt};
+ghost use Rattle.emitting.specs.Emit.{emit, emitAt};
 ghost use Rattle.ways.specs.Memory.{Fine, closedBy, stepsOwn, nearestOwn, pieceOwn, answerAt, memoryAt};
 
 // The largest B.

@@ -2,7 +2,7 @@
 use mathlib.Core.Path.{_≡_, refl, sym, _∙_}
 use Prim.Native.Nat.{_≤_, _-_}
 use lib.ListN.{length}
-use Rattle.columns.specs.Gather.{cnotsIn}
+use Rattle.gathering.specs.Gather.{cnotsIn}
 use Rattle.ending.proofs.Writing.{Writes, writes-start, writes-on, writes-end, moves-more, moves-done, moves-all}
 use borrow.Author.Needs.{needs}
 use Rattle.ending.proofs.closing.put_moves.Statement.{statement}

@@ -3,7 +3,7 @@ use mathlib.Core.Path.{sym, ap, _∙_}
 use mathlib.Core.List.{List, [], _∷_}
 use Rattle.gates.specs.declared.gate.Gate.{Gate}
 use Rattle.circuit.specs.Circuit.{run, step}
-use Rattle.columns.specs.Gather.{flip}
+use Rattle.gathering.specs.Gather.{flip}
 use borrow.Author.Needs.{needs}
 use Rattle.ending.proofs.mirror.after.Statement.{statement}
 use Rattle.ending.proofs.mirror.after.Tie as tie

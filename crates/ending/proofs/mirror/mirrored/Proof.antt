@@ -4,7 +4,7 @@ use Prim.Native.Nat.{_≤_, _-_}
 use lib.ListN.{length, drop}
 use Rattle.gates.specs.Layout.{gatesOf}
 use Rattle.circuit.specs.Circuit.{run}
-use Rattle.columns.specs.Gather.{flip}
+use Rattle.gathering.specs.Gather.{flip}
 use Rattle.ending.specs.Mirror.{mirrorsOf}
 use Rattle.ending.proofs.Writing.{mirror-start, mirror-next, mirror-end}
 use borrow.Author.Needs.{needs}

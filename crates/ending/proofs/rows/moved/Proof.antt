@@ -1,7 +1,7 @@
 -- `ending::rows::moved` meets its contract: the moves passed and those to come. Assumes nothing.
 use mathlib.Core.Path.{_≡_}
 use Prim.Native.Nat.{_≤_, _-_}
-use Rattle.columns.specs.Gather.{cnotsIn}
+use Rattle.gathering.specs.Gather.{cnotsIn}
 use Rattle.ending.specs.Rows.{played}
 use Rattle.ending.proofs.Playing.{moved-start, moved-next, moved-end}
 use borrow.Author.Needs.{needs}

@@ -1,6 +1,6 @@
 -- `ending::rows::moved_all` meets its contract. Assumes nothing.
 use Prim.Native.Nat.{_-_}
-use Rattle.columns.specs.Gather.{cnotsIn}
+use Rattle.gathering.specs.Gather.{cnotsIn}
 use Rattle.ending.proofs.Playing.{Rowed, rowed-start, rowed-next, rowed-end}
 use borrow.Author.Needs.{needs}
 use Rattle.ending.proofs.rows.moved_all.Statement.{statement}

@@ -1,7 +1,7 @@
 -- `nearest::choice::count` meets its contract: what is counted and what is still to come. Assumes nothing.
 use Prim.Native.Nat.{_-_, _≤_, _<_}
 use lib.ListN.{length, drop}
-use Rattle.columns.specs.Gather.{gatherFrom}
+use Rattle.gathering.specs.Gather.{gatherFrom}
 use Rattle.nearest.specs.Sure.{Whole, Told}
 use Rattle.nearest.proofs.Counting.{Counting, counting-start, counting-next, counting-few, counting-most, counting-over, counting-end}
 use Rattle.nearest.proofs.Wholes.{whole-next, whole-most}

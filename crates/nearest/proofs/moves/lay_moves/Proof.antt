@@ -4,7 +4,7 @@ use Prim.Native.Nat.{_-_, _≤_}
 use lib.ListN.{length}
 use native.Mathlib.Nat.{sub-zero}
 use Rattle.columns.specs.Pieces.{wrote}
-use Rattle.columns.specs.Gather.{cnotsIn}
+use Rattle.gathering.specs.Gather.{cnotsIn}
 use Rattle.nearest.specs.Moves.{layMoves}
 use Rattle.nearest.proofs.Moving.{move-next, move-end}
 use borrow.Author.Needs.{needs}

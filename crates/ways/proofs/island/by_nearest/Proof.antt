@@ -2,7 +2,7 @@
 use mathlib.Core.Path.{ap, _∙_}
 use mathlib.Core.List.{List}
 use Rattle.gates.specs.declared.gate.Gate.{Gate}
-use Rattle.columns.specs.Emit.{emit, emitAt}
+use Rattle.emitting.specs.Emit.{emit, emitAt}
 use Rattle.ways.specs.Memory.{parities, angles, nearestOwn, closedBy}
 use Rattle.ways.proofs.Owned.{part-fits, part-long, part-gates}
 use borrow.Author.Needs.{needs}

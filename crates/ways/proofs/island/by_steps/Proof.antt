@@ -2,7 +2,7 @@
 use mathlib.Core.Path.{ap, sym, _∙_}
 use mathlib.Core.List.{List}
 use Rattle.gates.specs.declared.gate.Gate.{Gate}
-use Rattle.columns.specs.Emit.{emit, emitAt}
+use Rattle.emitting.specs.Emit.{emit, emitAt}
 use Rattle.steps.specs.declared.Laid.the-variants.{On}
 use Rattle.ways.specs.Memory.{parities, angles, stepsOwn, closedBy}
 use Rattle.ways.proofs.Owned.{part-fits, part-long, part-gates, steps-on, steps-stuck, memory-on, memory-stuck, answer-on, answer-stuck}

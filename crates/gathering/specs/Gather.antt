@@ -1,0 +1,136 @@
+-- Gathering a set at one of its qubits by moves along couplers (our own way; docs/LAYING.md). A move "u by p" is CNOT u,p.
+use mathlib.Core.Path.{_≡_}
+use mathlib.Core.Logic.{_≢_}
+use mathlib.Core.Bool.{Bool}
+use mathlib.Core.List.{List, [], _∷_, _++_, map}
+use Prim.Native.Nat.{ℕ, zero, suc, _+_, _-_, _*_, _^_, _≤_}
+use lib.Bits.{bitAnd, bitXor}
+use lib.Count.{ones}
+use lib.Dec.{eqb}
+use lib.ListN.{getD, length, replicate}
+use lib.Seq.{sets}
+use Rattle.sets.specs.Pick.{pick}
+use Rattle.sets.specs.Bit.{bit, has, In}
+use Rattle.sets.specs.Size.{lowestOf, onlyOf}
+use Rattle.sets.specs.Columns.{turn}
+use Rattle.chip.specs.Graph.{Near}
+use Rattle.gates.specs.declared.gate.Gate.{Gate}
+use Rattle.gates.specs.declared.gate.Gate.the-variants.{Cnot, Rotation, Bad}
+use Rattle.gathering.specs.declared.gather.Moves.{Moves}
+use Rattle.gathering.specs.declared.gather.Gathering.{Gathering}
+use Rattle.gathering.specs.Order.{orderOf}
+
+-- ---- what gates do to sets of wires, and which gates they are
+
+-- "A laid CNOT adds the target's row to the control's row": what a list of gates makes of a column or an asked row
+abbrev pub turns : List Gate → ℕ → ℕ
+turns [] x = x
+turns (Cnot c t ∷ gs) x = turns gs (turn x c t)
+turns (Rotation q a ∷ gs) x = turns gs x
+turns (Bad ∷ gs) x = turns gs x
+
+-- control and target change places: what is done to the rows so is done to the mirror rows
+abbrev pub flip : List Gate → List Gate
+flip [] = []
+flip (Cnot c t ∷ gs) = Cnot t c ∷ flip gs
+flip (Rotation q a ∷ gs) = Rotation q a ∷ flip gs
+flip (Bad ∷ gs) = Bad ∷ flip gs
+
+-- a CNOT on a coupler whose ends are in Q
+abbrev pub On : List ℕ → ℕ → ℕ → ℕ → Type 0
+On near Q c t = In c Q × In t Q × (c ≢ t) × Near near c t
+
+-- nothing but CNOTs, each on a coupler inside Q
+abbrev pub Coupled : List ℕ → ℕ → List Gate → Type 0
+Coupled near Q [] = Unit {0}
+Coupled near Q (Cnot c t ∷ gs) = On near Q c t × Coupled near Q gs
+Coupled near Q (Rotation q a ∷ gs) = ⊥
+Coupled near Q (Bad ∷ gs) = ⊥
+
+-- every CNOT is on a coupler inside Q; other gates are free
+abbrev pub Within : List ℕ → ℕ → List Gate → Type 0
+Within near Q [] = Unit {0}
+Within near Q (Cnot c t ∷ gs) = On near Q c t × Within near Q gs
+Within near Q (Rotation q a ∷ gs) = Within near Q gs
+Within near Q (Bad ∷ gs) = Within near Q gs
+
+-- v is the control of none: the sets' bit v stays
+abbrev pub Spares : ℕ → List Gate → Type 0
+Spares v [] = Unit {0}
+Spares v (Cnot c t ∷ gs) = (c ≢ v) × Spares v gs
+Spares v (Rotation q a ∷ gs) = Spares v gs
+Spares v (Bad ∷ gs) = Spares v gs
+
+-- ---- gathering
+
+-- the moves that take u out of x; a is the set of the neighbours of u among the earlier ones
+unfoldable pub movesAt : ℕ → ℕ → ℕ → List Gate
+movesAt a u x =
+    pick (has x u)
+    (pick (eqb (bitAnd a x) 0) (pick (eqb a 0) [] (Cnot (lowestOf a) u ∷ Cnot u (lowestOf a) ∷ [])) (Cnot u (lowestOf (bitAnd a x)) ∷ []))
+    []
+
+-- and what becomes of x
+unfoldable pub leftAt : ℕ → ℕ → ℕ → ℕ
+leftAt a u x =
+    pick (has x u)
+    (pick (eqb (bitAnd a x) 0) (pick (eqb a 0) x (bitXor (bitXor x (onlyOf (lowestOf a))) (onlyOf u))) (bitXor x (onlyOf u)))
+    x
+
+-- the members k, k - 1, .., 1 of the order os are taken out of x one after another; S has the first k + 1
+unfoldable pub gatherFrom : List ℕ → List ℕ → ℕ → ℕ → ℕ → List Gate
+gatherFrom near os zero S x = []
+gatherFrom near os (suc k) S x =
+    let u = getD os (suc k) 0 in
+    let E = bitXor S (onlyOf u) in
+    let a = bitAnd (getD near u 0) E in
+    movesAt a u x ++ gatherFrom near os k E (leftAt a u x)
+
+-- "gather x at v" in Q
+unfoldable pub gatherOf : List ℕ → ℕ → ℕ → ℕ → List Gate
+gatherOf near Q v x = gatherFrom near (orderOf near Q v) (length (orderOf near Q v) - 1) Q x
+
+-- the moves L bring x to v alone, by two for each other member of S at most; v itself stays if it is in x
+pub record Gathers (near : List ℕ) (v S x : ℕ) (L : List Gate) : Type 0 where
+  pub coupled : Coupled near S L
+  pub short : length L + 2 ≤ 2 * ones S
+  pub done : turns L x ≡ 2 ^ v
+  pub spares : In v x → Spares v L
+
+-- ---- as the code holds moves: the changed qubits and those they are changed by, in front; 0 behind them
+
+abbrev pub controlOf : Gate → ℕ
+controlOf (Cnot c t) = c
+controlOf (Rotation q a) = 0
+controlOf Bad = 0
+
+abbrev pub targetOf : Gate → ℕ
+targetOf (Cnot c t) = t
+targetOf (Rotation q a) = 0
+targetOf Bad = 0
+
+unfoldable pub movesIn : List Gate → Moves
+movesIn gs = record {
+  to = sets (replicate 38 0) 0 (map controlOf gs);
+  by = sets (replicate 38 0) 0 (map targetOf gs);
+  len = length gs;
+}
+
+-- the moves that take u out are added to those that are there: ts and bs are the arrays afterwards
+pub record Stepped (to by : List ℕ) (len a u x : ℕ) (ts bs : List ℕ) (r : Gathering) : Type 0 where
+  pub tos : ts ≡ sets to len (map controlOf (movesAt a u x))
+  pub bys : bs ≡ sets by len (map targetOf (movesAt a u x))
+  pub count : r .len ≡ len + length (movesAt a u x)
+  pub left : r .x ≡ leftAt a u x
+
+-- n moves from place k on, as CNOTs
+unfoldable pub cnotsIn : List ℕ → List ℕ → ℕ → ℕ → List Gate
+cnotsIn to by k zero = []
+cnotsIn to by k (suc n) = Cnot (getD to k 0) (getD by k 0) ∷ cnotsIn to by (k + 1) n
+
+-- nothing but CNOTs
+abbrev pub Plain : List Gate → Type 0
+Plain [] = Unit {0}
+Plain (Cnot c t ∷ gs) = Plain gs
+Plain (Rotation q a ∷ gs) = ⊥
+Plain (Bad ∷ gs) = ⊥
