@@ -7,8 +7,8 @@ use Prim.Native.Nat.{ℕ, zero, suc, _+_, _≤_, _<_}
 use native.Mathlib.Nat.{le-of-suc-le-suc, not-suc-le-zero}
 use native.Mathlib.Omega.{arith}
 use native.Mathlib.Numerals.{add-one}
-use native.Mathlib.Decide.{ℕ-discrete}
-use lib.ListN.{length, getD, set}
+use native.Mathlib.Decide.{ℕ-discrete, decLt}
+use lib.ListN.{length, getD, set, replicate, length-replicate, getD-replicate, List·getD-eq-default}
 use lib.Seq.{ext-getD, getD-set-same, getD-set-other}
 use Rattle.columns.specs.Tables.{tab, sumTo, one}
 
@@ -37,6 +37,31 @@ filled-next d f i z v h e g k l = at (ℕ-discrete i k)
 pub filled-all : {A : Type 0} (d : A) (f : ℕ → A) (n i : ℕ) (z : List A) → length z ≡ n → n ≤ i → Filled d f i z → z ≡ tab n f
 filled-all d f n i z e h g =
     ext-getD d z (tab n f) (e ∙ sym (tab-length n f)) (λ k (l : k < length z). g k (omega arith) ∙ sym (tab-at n f k d (omega arith)))
+
+-- z marks those of the first i places where f holds, and no other
+pub record Marked (f : ℕ → Bool) (i : ℕ) (z : List Bool) : Type 0 where
+  pub here : Filled false f i z
+  pub behind : (k : ℕ) → i ≤ k → getD z k false ≡ false
+
+pub marked-none : (f : ℕ → Bool) (n : ℕ) → Marked f 0 (replicate n false)
+marked-none f n = record { here = λ k (l : k < 0). absurd (omega arith); behind = λ k h. none (decLt k n) }
+  where
+    none : {k : ℕ} → Dec (k < n) → getD (replicate n false) k false ≡ false
+    none {k} (yes l) = getD-replicate n k false false l
+    none {k} (no l) = List·getD-eq-default (replicate n false) false {n = k} (omega (arith, length-replicate {A = Bool} n false))
+
+pub marked-next : (f : ℕ → Bool) (i : ℕ) (z : List Bool) (v : Bool) → i < length z → v ≡ f i → Marked f i z → Marked f (i + 1) (set z i v)
+marked-next f i z v h e m = record {
+  here = filled-next false f i z v h e (m .here);
+  behind = λ k (l : i + 1 ≤ k). getD-set-other z i k v false (λ (q : k ≡ i). omega arith) ∙ m .behind k (omega arith);
+}
+
+pub marked-all : (f : ℕ → Bool) (n i : ℕ) (z : List Bool) → length z ≡ n → Marked f i z → ((k : ℕ) → i ≤ k → k < n → f k ≡ false) → z ≡ tab n f
+marked-all f n i z e m h = filled-all false f n n z e (omega arith) (λ k l. go k l (decLt k i))
+  where
+    go : (k : ℕ) → k < n → Dec (k < i) → getD z k false ≡ f k
+    go k l (yes b) = m .here k b
+    go k l (no b) = let c : i ≤ k = omega arith in m .behind k c ∙ sym (h k c l)
 
 pub tab-ext : {A : Type 0} (n : ℕ) (f g : ℕ → A) → ((k : ℕ) → k < n → f k ≡ g k) → tab n f ≡ tab n g
 unfolding tab

@@ -2,7 +2,7 @@
 use mathlib.Core.Path.{_≡_, refl, sym, ap, ap₂, _∙_}
 use mathlib.Core.Bool.{Bool, true, false, not}
 use mathlib.Core.List.{List}
-use Prim.Native.Nat.{ℕ, _+_, _-_, _≤_, _<_}
+use Prim.Native.Nat.{ℕ, _+_, _-_, _≤_, _<_, min}
 use native.Mathlib.Omega.{arith}
 use lib.Dec.{eqb}
 use native.Mathlib.Decide.{decLt}
@@ -10,9 +10,11 @@ use lib.ListN.{length, getD, replicate, length-replicate, getD-replicate, List·
 use borrow.Author.Tests.{eq-eqb, ne-eqb}
 use Rattle.sets.specs.Pick.{both}
 use Rattle.sets.specs.Bit.{has}
+use Rattle.sets.proofs.Bits.{bit-of-zero}
+use Rattle.sets.proofs.Words.{out-has}
 use Rattle.columns.specs.Tables.{tab, sumTo, one}
-use Rattle.columns.proofs.Tabling.{Filled, filled-all, tab-length, tab-at, tab-ext, sum-zero, sum-next, sum-ones, one-le}
-use Rattle.steps.specs.Selection.{countOf, zeroAt, oneAt, rowOf, Few, talliedOf}
+use Rattle.columns.proofs.Tabling.{Filled, filled-all, Marked, marked-all, tab-length, tab-at, tab-ext, sum-zero, sum-next, sum-front, sum-ones, one-le}
+use Rattle.steps.specs.Selection.{countOf, zeroAt, oneAt, zerosOf, onesOf, liveOf, rowOf, Few, talliedOf}
 use Rattle.steps.specs.Choice.{moreOf, equalOf}
 
 pub one-yes : (r x : ℕ) (s b : Bool) → s ≡ true → b ≡ has x r → b ≡ oneAt r s x
@@ -22,6 +24,10 @@ one-yes r x s b e h = h ∙ sym (ap (λ (t : Bool). both t (has x r)) e)
 pub one-no : (r x : ℕ) (s : Bool) → s ≡ false → false ≡ oneAt r s x
 unfolding oneAt
 one-no r x s e = sym (ap (λ (t : Bool). both t (has x r)) e)
+
+both-no : (b : Bool) → both b false ≡ false
+both-no true = refl
+both-no false = refl
 
 pub one-at-le : (r : ℕ) (s : Bool) (x : ℕ) → one (oneAt r s x) ≤ one s
 unfolding oneAt
@@ -44,6 +50,36 @@ module _ (r x : ℕ) (s : Bool) where
   pub zero-yes : s ≡ true → (x ≡ 0 → ⊥) → has x r ≡ false → true ≡ zeroAt r s x
   unfolding zeroAt
   zero-yes e n h = rw (e, ne-eqb x 0 n, h)
+
+-- ---- marking, to the end of the columns
+
+module _ (xs : List ℕ) (n k : ℕ) (en : n ≡ min (length xs) 256) (all : n ≤ k) where
+  past : (j : ℕ) → k ≤ j → j < 256 → getD xs j 0 ≡ 0
+  past j h l = List·getD-eq-default xs 0 {n = j} (omega (arith, en, all))
+
+  ones-past : (r : ℕ) (sel : List Bool) (j : ℕ) → k ≤ j → j < 256 → oneAt r (getD sel j false) (getD xs j 0) ≡ false
+  unfolding oneAt
+  ones-past r sel j h l = ap (λ (x : ℕ). both (getD sel j false) (has x r)) (past j h l) ∙ ap (both (getD sel j false)) (out-has 0 r (bit-of-zero r)) ∙ both-no (getD sel j false)
+
+  zeros-past : (r : ℕ) (sel : List Bool) (j : ℕ) → k ≤ j → j < 256 → zeroAt r (getD sel j false) (getD xs j 0) ≡ false
+  zeros-past r sel j h l = go (getD sel j false) refl
+    where
+      go : (s : Bool) → getD sel j false ≡ s → zeroAt r (getD sel j false) (getD xs j 0) ≡ false
+      go true e = sym (zero-struck r (getD xs j 0) (getD sel j false) e (past j h l))
+      go false e = sym (zero-no r (getD xs j 0) (getD sel j false) e)
+
+  module _ (z : List Bool) (wide : length z ≡ 256) where
+    pub ones-all : (r : ℕ) (sel : List Bool) → Marked (λ j. oneAt r (getD sel j false) (getD xs j 0)) k z → z ≡ onesOf r sel xs
+    unfolding onesOf
+    ones-all r sel m = marked-all (λ j. oneAt r (getD sel j false) (getD xs j 0)) 256 k z wide m (ones-past r sel)
+
+    pub zeros-all : (r : ℕ) (sel : List Bool) → Marked (λ j. zeroAt r (getD sel j false) (getD xs j 0)) k z → z ≡ zerosOf r sel xs
+    unfolding zerosOf
+    zeros-all r sel m = marked-all (λ j. zeroAt r (getD sel j false) (getD xs j 0)) 256 k z wide m (zeros-past r sel)
+
+    pub live-all : Marked (λ j. not (eqb (getD xs j 0) 0)) k z → z ≡ liveOf xs
+    unfolding liveOf
+    live-all m = marked-all (λ j. not (eqb (getD xs j 0) 0)) 256 k z wide m (λ j h l. ap not (eq-eqb (getD xs j 0) 0 (past j h l)))
 
 -- ---- counting
 
@@ -91,9 +127,10 @@ module _ (q : ℕ) (sel : List Bool) (xs : List ℕ) where
   unfolding rowTo
   row-small k n e = omega (arith, e, sum-ones k (λ j. one (oneAt q (getD sel j false) (getD xs j 0))) (λ j l. one-le (oneAt q (getD sel j false) (getD xs j 0))))
 
-  pub row-all : (k n : ℕ) → 256 ≤ k → k ≤ 256 → n ≡ rowTo q sel xs k → n ≡ rowOf sel xs q
+  pub row-all : (n k m : ℕ) → n ≡ min (length xs) 256 → n ≤ k → k ≤ n → m ≡ rowTo q sel xs k → m ≡ rowOf sel xs q
   unfolding rowTo rowOf
-  row-all k n h l e = e ∙ ap (λ (i : ℕ). sumTo i (λ j. one (oneAt q (getD sel j false) (getD xs j 0)))) (omega arith)
+  row-all n k m en h l e =
+      e ∙ sym (sum-front 256 k (λ j. one (oneAt q (getD sel j false) (getD xs j 0))) (omega (arith, en)) (λ j a b. ap one (ones-past xs n k en h q sel j a b)))
 
 -- ---- the ones of all rows
 
@@ -128,8 +165,8 @@ module _ (sel : List Bool) (xs : List ℕ) where
     ones = λ q l. row-next q sel xs k (getD z q 0) (getD z q 0) (getD xs k 0) false (one-no q (getD xs k 0) (getD sel k false) e) refl (r .ones q l) (omega arith);
   }
 
-  pub rows-all : (k : ℕ) (z : List ℕ) → 256 ≤ k → k ≤ 256 → Rows k z → z ≡ tab 20 (rowOf sel xs)
-  rows-all k z h l r = filled-all 0 (rowOf sel xs) 20 20 z (r .wide) (omega arith) (λ q b. row-all q sel xs k (getD z q 0) h l (r .ones q b))
+  pub rows-all : (n k : ℕ) (z : List ℕ) → n ≡ min (length xs) 256 → n ≤ k → k ≤ n → Rows k z → z ≡ tab 20 (rowOf sel xs)
+  rows-all n k z en h l r = filled-all 0 (rowOf sel xs) 20 20 z (r .wide) (omega arith) (λ q b. row-all q sel xs n k (getD z q 0) en h l (r .ones q b))
 
 -- ---- equal entries
 

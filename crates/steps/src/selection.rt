@@ -52,8 +52,9 @@ pub fn zeros(r: usize, sel: [bool; Job::PARITIES], cols: &[u32]) -> [bool; Job::
     ensures { λ z. ⌜ z ≡ zerosOf r sel (now (cols .entry)) ⌝ }
 {
     let mut z = [false; Job::PARITIES];
-    for k in 0..Job::PARITIES {
-        z[k] = is_zero(r, sel[k], turning::entry(cols, k));
+    let n = turning::at_most(cols.len(), Job::PARITIES);
+    for k in 0..n {
+        z[k] = is_zero(r, sel[k], cols[k]);
     }
     z
 }
@@ -63,8 +64,9 @@ pub fn with_one(r: usize, sel: [bool; Job::PARITIES], cols: &[u32]) -> [bool; Jo
     ensures { λ z. ⌜ z ≡ onesOf r sel (now (cols .entry)) ⌝ }
 {
     let mut z = [false; Job::PARITIES];
-    for k in 0..Job::PARITIES {
-        z[k] = is_one(r, sel[k], turning::entry(cols, k));
+    let n = turning::at_most(cols.len(), Job::PARITIES);
+    for k in 0..n {
+        z[k] = is_one(r, sel[k], cols[k]);
     }
     z
 }
@@ -74,8 +76,9 @@ pub fn live(cols: &[u32]) -> [bool; Job::PARITIES]
     ensures { λ z. ⌜ z ≡ liveOf (now (cols .entry)) ⌝ }
 {
     let mut z = [false; Job::PARITIES];
-    for k in 0..Job::PARITIES {
-        z[k] = turning::entry(cols, k) != 0;
+    let n = turning::at_most(cols.len(), Job::PARITIES);
+    for k in 0..n {
+        z[k] = cols[k] != 0;
     }
     z
 }
@@ -105,9 +108,10 @@ pub fn rows(sel: [bool; Job::PARITIES], cols: &[u32]) -> [usize; Job::QUBITS]
     ensures { λ z. ⌜ z ≡ tab mostQubits (rowOf sel (now (cols .entry))) ⌝ }
 {
     let mut z = [0; Job::QUBITS];
-    for k in 0..Job::PARITIES {
+    let n = turning::at_most(cols.len(), Job::PARITIES);
+    for k in 0..n {
         if sel[k] {
-            let next = tallied(z, turning::entry(cols, k));
+            let next = tallied(z, cols[k]);
             z = next;
         }
     }
@@ -118,11 +122,12 @@ pub fn rows(sel: [bool; Job::PARITIES], cols: &[u32]) -> [usize; Job::QUBITS]
 pub fn row(q: usize, sel: [bool; Job::PARITIES], cols: &[u32]) -> usize
     ensures { λ r. ⌜ r ≡ rowOf sel (now (cols .entry)) q ⌝ }
 {
-    let mut n = 0;
-    for k in 0..Job::PARITIES {
-        if is_one(q, sel[k], turning::entry(cols, k)) {
-            n += 1;
+    let n = turning::at_most(cols.len(), Job::PARITIES);
+    let mut ones = 0;
+    for k in 0..n {
+        if is_one(q, sel[k], cols[k]) {
+            ones += 1;
         }
     }
-    n
+    ones
 }
