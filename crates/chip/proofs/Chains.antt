@@ -1,13 +1,10 @@
 -- Chains: their ends, joined and turned round. Assumes nothing.
-use mathlib.Core.Path.{_≡_, refl, sym, ap, _∙_, subst}
-use mathlib.Core.Logic.{_≢_, _⊎_, inl, inr}
-use mathlib.Core.List.{List, [], _∷_}
-use Prim.Native.Nat.{ℕ, zero, suc, _+_, _/_, _%_, _^_, _≤_, _<_}
+use mathlib.Core.Path.{_≡_}
+use mathlib.Core.Logic.{_⊎_, inl, inr}
+use mathlib.Core.List.{List}
+use Prim.Native.Nat.{ℕ}
 use native.Mathlib.Omega.{arith}
-use lib.ListN.{getD}
-use lib.Bits.{bitAnd, bitOr, bitXor}
-use lib.Count.{ones}
-use Rattle.sets.specs.Bit.{bit, In, Sub}
+use Rattle.sets.specs.Bit.{bit, In}
 use Rattle.sets.proofs.Bits.{bit-cases}
 use Rattle.chip.specs.Graph.{Near, Symm, Chain, here, next}
 

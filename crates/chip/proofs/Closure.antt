@@ -1,11 +1,10 @@
 -- The closure of a set under neighbours: what chains reach. Assumes nothing.
 use mathlib.Core.Path.{_≡_, refl, sym, ap, _∙_, subst}
-use mathlib.Core.Logic.{_≢_, _⊎_, inl, inr}
+use mathlib.Core.Logic.{_⊎_, inl, inr}
 use mathlib.Core.List.{List, [], _∷_}
 use Prim.Native.Nat.{ℕ, zero, suc, _+_, _/_, _%_, _^_, _≤_, _<_}
 use native.Mathlib.Omega.{arith}
-use lib.ListN.{getD}
-use lib.Bits.{bitAnd, bitOr, bitXor}
+use lib.Bits.{bitAnd}
 use lib.Count.{ones}
 use native.Mathlib.Nat.{mod-lt, zero-lt-suc}
 use Rattle.sets.specs.Bit.{bit, In, Sub, when}

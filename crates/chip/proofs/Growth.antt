@@ -1,11 +1,10 @@
 -- Growth orders: the last one in can be spared, and every member has a neighbour. Assumes nothing.
 use mathlib.Core.Path.{_≡_, refl, sym, ap, _∙_, subst}
 use mathlib.Core.Logic.{_≢_, _⊎_, inl, inr}
-use mathlib.Core.List.{List, [], _∷_}
-use Prim.Native.Nat.{ℕ, zero, suc, _+_, _/_, _%_, _^_, _≤_, _<_}
+use mathlib.Core.List.{List}
+use Prim.Native.Nat.{ℕ, zero, suc, _+_, _^_, _≤_, _<_}
 use native.Mathlib.Omega.{arith}
-use lib.ListN.{getD}
-use lib.Bits.{bitAnd, bitOr, bitXor}
+use lib.Bits.{bitXor}
 use lib.Count.{ones}
 use Rattle.sets.specs.Bit.{bit, In, Sub}
 use Rattle.sets.proofs.Bits.{bit-pow-same, bit-cases, bit-xor, bit-lt, xor-cancel}

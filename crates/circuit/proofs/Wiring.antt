@@ -2,25 +2,24 @@
 use mathlib.Core.Path.{_≡_, refl, sym, ap, ap₂, _∙_, subst}
 use mathlib.Core.Logic.{_≢_}
 use mathlib.Core.List.{List, [], _∷_}
-use Prim.Native.Nat.{ℕ, zero, suc, _+_, _^_, _≤_, _<_}
-use native.Mathlib.Nat.{lt-of-lt-of-le}
+use Prim.Native.Nat.{ℕ, zero, suc, _^_, _≤_, _<_}
 use native.Mathlib.Omega.{arith}
-use native.Mathlib.Decide.{ℕ-discrete, decLt}
+use native.Mathlib.Decide.{ℕ-discrete}
 use lib.ListN.{length, getD}
-use lib.Pow.{pow-pos, pow-lt, pow-mono}
+use lib.Pow.{pow-pos, pow-lt}
 use lib.Bits.{bitXor, xor-lt, xor-self}
 use Rattle.sets.specs.Bit.{bit, when}
-use Rattle.sets.specs.Columns.{turn, comb, cnot, units}
+use Rattle.sets.specs.Columns.{turn, comb, cnot}
 use Rattle.sets.proofs.Bits.{bit-pow-same, bit-pow-other, bit-xor, bit-of-zero}
-use Rattle.sets.proofs.Comb.{comb-turn, comb-xor, comb-zero, comb-pow, comb-units, length-units, getD-units}
+use Rattle.sets.proofs.Comb.{comb-turn, comb-xor, comb-pow, comb-units, getD-units}
 use Rattle.sets.proofs.Turn.{turn-zero, turn-back}
 use Rattle.gates.specs.declared.gate.Gate.{Gate}
 use Rattle.gates.specs.declared.gate.Gate.the-variants.{Cnot, Rotation, Bad}
 use Rattle.gates.specs.Layout.{Good}
 use Rattle.circuit.specs.Circuit.{step, run, start}
 use Rattle.gates.specs.All.{All}
-use Rattle.circuit.proofs.Steps.{cnot-target, cnot-other, cnot-length, step-length}
-use Rattle.circuit.proofs.Circuits.{run-length, start-length}
+use Rattle.circuit.proofs.Steps.{cnot-target, cnot-other, step-length}
+use Rattle.circuit.proofs.Circuits.{start-length}
 
 -- ---- below 2^n
 

@@ -1,8 +1,7 @@
 -- What a list of gates does to the wires, and the angle that it gives to each parity (document 01, "Meaning of a circuit").
-use mathlib.Core.Path.{_≡_}
 use mathlib.Core.Logic.{_≢_}
 use mathlib.Core.List.{List, [], _∷_}
-use Prim.Native.Nat.{ℕ, zero, _+_, _%_}
+use Prim.Native.Nat.{ℕ, _+_, _%_}
 use lib.Dec.{eqb}
 use lib.ListN.{getD}
 use Rattle.sets.specs.Pick.{pick}

@@ -1,11 +1,10 @@
 -- In the room that the programs lend the writer accepts every laid job, so that its text is printed whole. Assumes nothing.
 use mathlib.Core.Path.{_≡_, refl, sym, ap, ap₂, _∙_}
-use mathlib.Core.Logic.{_≢_}
 use mathlib.Core.Bool.{Bool, true, false}
 use mathlib.Core.List.{List, [], _∷_, _++_, map}
 use Prim.Native.Nat.{ℕ, zero, suc, _+_, _*_, _/_, _%_, _≤_, _<_}
 use native.Mathlib.Omega.{arith}
-use lib.Dec.{ltb, leb, eqb}
+use lib.Dec.{ltb, eqb}
 use lib.ListN.{length, getD, length-append, length-map}
 use borrow.Author.Tests.{ltb-true, ltb-false, le-ltb, le-leb, eqb-true, eqb-false}
 use Rattle.sets.specs.Pick.{pick}
@@ -29,13 +28,13 @@ use Rattle.judging.specs.Tests.{judgedJob}
 use Rattle.laying.specs.Verdict.{verdictOf, circuitOf}
 use Rattle.laying.proofs.Accepting.{job-layable}
 use Rattle.laying.proofs.Accepted.{circuit-good, circuit-fine}
-use Rattle.lines.specs.Lines.{digits, fieldsText, lineText, recordText, recordsText, textOf}
+use Rattle.lines.specs.Lines.{digits, fieldsText, recordText, recordsText, textOf}
 use Rattle.reading.specs.Parsing.{parsed}
 use Rattle.reading.specs.Readings.{couplersIn, gatesIn, jobIn, judgedReading}
-use Rattle.text.specs.Writings.{judgedRoom, judgedText}
+use Rattle.text.specs.Writings.{judgedText}
 use Rattle.text.proofs.Judging.{judged-room}
 use Rattle.lines.proofs.Writes.{width-small, width-big, line-length, record-length, text-length}
-use Rattle.console.specs.Printed.{mostLines, largest, mostPrinted, refusalOf, unless, jobText, laidJob, laidText, wholeJob, wholeText}
+use Rattle.console.specs.Printed.{mostLines, largest, mostPrinted, unless, jobText, laidJob, laidText, wholeJob, wholeText}
 use Rattle.console.proofs.Choosing.{unless-passed, unless-refused}
 
 -- ---- a line of two numbers has at most 12 bytes

@@ -4,9 +4,8 @@ use mathlib.Core.Bool.{Bool, true, false}
 use mathlib.Core.List.{List}
 use Prim.Native.Nat.{ℕ, _≤_}
 use native.Mathlib.Omega.{arith}
-use lib.Dec.{eqb, leb}
+use lib.Dec.{eqb}
 use lib.ListN.{length, take, length-take}
-use lib.Seq.{length-take-le}
 use borrow.Author.Tests.{eqb-true, eqb-false, ne-eqb, le-leb}
 use Rattle.sets.specs.Pick.{pick}
 use Rattle.verdicts.specs.declared.verdict.Verdict.{Verdict}
@@ -16,11 +15,11 @@ use Rattle.chip.specs.Couplers.{nearOf}
 use Rattle.chip.specs.Ordered.{orderedOf, orderedList}
 use Rattle.chip.proofs.Order.{ordered-take, ordered-len}
 use Rattle.lines.specs.Lines.{textOf}
-use Rattle.lines.specs.Lent.{onto, lineLength, lineAfter}
+use Rattle.lines.specs.Lent.{onto}
 use Rattle.text.specs.Writings.{judgedText, writingOf, textAfter}
 use Rattle.text.specs.declared.write.Writing.{Writing}
 use Rattle.text.specs.declared.write.Writing.the-variants.{Written, Refused}
-use Rattle.text.proofs.Judging.{Accepts, written}
+use Rattle.text.proofs.Judging.{written}
 use Rattle.console.specs.Printed.{refusalOf, unless, jobText}
 use Rattle.console.proofs.Choosing.{Prints, prints-same, unless-passed, unless-refused}
 

@@ -1,8 +1,8 @@
 -- The cheapest choice is a choice: the ending of the definition is an ending. Assumes nothing.
 use mathlib.Core.Path.{_≡_, refl, sym, ap, ap₂, _∙_, subst}
-use mathlib.Core.Logic.{_≢_, _⊎_, inl, inr}
+use mathlib.Core.Logic.{_⊎_, inl, inr}
 use mathlib.Core.Bool.{Bool, true, false}
-use mathlib.Core.List.{List, [], _∷_, _++_, map}
+use mathlib.Core.List.{List, [], _++_, map}
 use Prim.Native.Nat.{ℕ, zero, suc, _+_, _*_, _-_, _/_, _%_, _^_, _≤_, _<_}
 use native.Mathlib.Omega.{arith}
 use native.Mathlib.Decide.{ℕ-discrete}
@@ -11,9 +11,9 @@ use lib.Count.{ones}
 use lib.Dec.{eqb, ltb}
 use lib.ListN.{length, getD, length-append}
 use lib.Pow.{pow-lt}
-use borrow.Author.Tests.{lt-ltb, le-ltb, ltb-true, ltb-false}
+use borrow.Author.Tests.{lt-ltb}
 use Rattle.sets.specs.Pick.{pick, both}
-use Rattle.sets.specs.Bit.{bit, In, Sub}
+use Rattle.sets.specs.Bit.{In}
 use Rattle.sets.specs.Size.{sizeOf, onlyOf}
 use Rattle.sets.proofs.Members.{in-lt, some-bit}
 use Rattle.sets.proofs.Ones.{ones-drop, ones-of-zero}
@@ -22,7 +22,7 @@ use Rattle.chip.specs.Graph.{Symm, Joined}
 use Rattle.spares.specs.Spare.{spareOf}
 use Rattle.spares.proofs.Spares.{spare-in, spare-joined, spare-other}
 use Rattle.gates.specs.declared.gate.Gate.{Gate}
-use Rattle.gathering.specs.Gather.{turns, flip, Coupled, Within, gatherOf}
+use Rattle.gathering.specs.Gather.{turns, flip, Within, gatherOf}
 use Rattle.gathering.proofs.GatherWorks.{coupled-within, gather-few}
 use Rattle.ending.specs.Rows.{played}
 use Rattle.ending.specs.Clear.{followOf, rowsFirst, mirrorFirst, outOf, leastFrom, cheapestOf}

@@ -2,24 +2,24 @@
 use mathlib.Core.Path.{_≡_, refl, sym, ap, ap₂, _∙_, subst}
 use mathlib.Core.Logic.{_≢_, _⊎_, inl, inr}
 use mathlib.Core.Bool.{Bool, true, false}
-use mathlib.Core.List.{List, [], _∷_, _++_, map, append-assoc}
-use Prim.Native.Nat.{ℕ, zero, suc, _+_, _*_, _-_, _^_, _≤_, _<_}
+use mathlib.Core.List.{List, [], _∷_, _++_, map}
+use Prim.Native.Nat.{ℕ, _+_, _^_, _≤_, _<_}
 use native.Mathlib.Omega.{arith}
 use native.Mathlib.Decide.{ℕ-discrete}
 use lib.Bits.{bitXor, xor-self, xor-zero-l}
 use lib.Count.{ones}
 use lib.Dec.{ltb}
-use lib.ListN.{length, getD, length-append}
-use borrow.Author.Tests.{ltb-true, ltb-false}
+use lib.ListN.{length, getD}
+use borrow.Author.Tests.{ltb-true}
 use Rattle.sets.specs.Pick.{pick}
 use Rattle.sets.specs.Bit.{bit, In, Sub}
 use Rattle.sets.specs.Size.{sizeOf}
 use Rattle.sets.specs.Columns.{turn, comb, dot}
 use Rattle.sets.proofs.Bits.{bit-cases, bit-pow-same, xor-cancel}
 use Rattle.sets.proofs.Comb.{comb-pow, comb-xor}
-use Rattle.sets.proofs.Dot.{dot-comm, dot-pow}
+use Rattle.sets.proofs.Dot.{dot-pow}
 use Rattle.sets.proofs.Turn.{turn-on, turn-off, turn-other}
-use Rattle.sets.proofs.Members.{in-lt, sub-eq, xor-sub, in-pow}
+use Rattle.sets.proofs.Members.{in-lt, sub-eq, xor-sub}
 use Rattle.chip.specs.Graph.{Symm, Joined}
 use Rattle.chip.proofs.Growth.{pow-sub}
 use Rattle.gates.specs.declared.gate.Gate.{Gate}
@@ -31,9 +31,8 @@ use Rattle.tallies.specs.Tally.{tally, oneCnot, oneRotation, cnotsOf, rotations
 use Rattle.gathering.specs.Gather.{turns, flip, Coupled, Within}
 use Rattle.gathering.proofs.GatherWorks.{turns-append, coupled-append, coupled-within}
 use Rattle.gathering.proofs.OrderParts.{sub-lt}
-use Rattle.ending.specs.Rows.{played}
 use Rattle.ending.specs.Closing.{endingOf, onwardOf, backOf, backFirst, closingOf}
-use Rattle.ending.specs.Ends.{Ready, Ends, Ended, spent, Brings, Closes}
+use Rattle.ending.specs.Ends.{Ready, Ends, Ended, Brings, Closes}
 use Rattle.ending.proofs.Turning.{within-append, flip-within, turns-sub, comb-turns, wires-out, all-played, turns-zero, row-turned, comb-own}
 use Rattle.ending.proofs.Endings.{ready-turns, ends-right, ends-none, spent-is}
 use Rattle.ending.proofs.Choice.{ending-ends}

@@ -1,25 +1,22 @@
 -- Every ending, whichever qubits it takes out first and how, brings each row of the island to its own wire. Assumes nothing.
 use mathlib.Core.Path.{_≡_, refl, sym, ap, ap₂, _∙_, subst}
-use mathlib.Core.Logic.{_≢_, _⊎_, inl, inr}
-use mathlib.Core.List.{List, [], _∷_, _++_, map}
-use Prim.Native.Nat.{ℕ, zero, suc, _+_, _*_, _-_, _^_, _≤_, _<_}
+use mathlib.Core.Logic.{_≢_}
+use mathlib.Core.List.{List, [], _++_, map}
+use Prim.Native.Nat.{ℕ, zero, suc, _+_, _*_, _-_, _^_, _≤_}
 use native.Mathlib.Nat.{mul-suc, suc-mul}
 use native.Mathlib.Omega.{arith}
 use native.Mathlib.Decide.{ℕ-discrete}
 use lib.Bits.{bitXor}
 use lib.Count.{ones}
-use lib.ListN.{length, getD, length-append}
+use lib.ListN.{getD, length-append}
 use Rattle.sets.specs.Bit.{bit, In, Sub}
-use Rattle.sets.specs.Columns.{dot, comb}
-use Rattle.sets.proofs.Bits.{bit-of-zero, bit-pow-same, bit-pow-other}
-use Rattle.sets.proofs.Comb.{comb-pow}
+use Rattle.sets.specs.Columns.{dot}
+use Rattle.sets.proofs.Bits.{bit-of-zero, bit-pow-same}
 use Rattle.sets.proofs.Dot.{dot-comm, dot-pow}
 use Rattle.sets.proofs.Members.{put-other, sub-drop, sub-eq, single-sub, in-pow}
 use Rattle.sets.proofs.Ones.{ones-drop, ones-zero, drop-same}
-use Rattle.chip.specs.Graph.{Symm, Joined}
 use Rattle.gates.specs.declared.gate.Gate.{Gate}
-use Rattle.circuit.specs.Circuit.{run}
-use Rattle.gathering.specs.Gather.{turns, flip, Coupled, Within}
+use Rattle.gathering.specs.Gather.{turns, flip, Within}
 use Rattle.gathering.proofs.GatherWorks.{turns-append, coupled-append, coupled-up, coupled-within}
 use Rattle.ending.specs.Ends.{Ready, TakesOut, Ends, last, out, spent, Ended}
 use Rattle.ending.proofs.Turning.{turns-sub, back-sub, dot-turns, turns-out, row-turned}

@@ -3,18 +3,17 @@ use mathlib.Core.Path.{_≡_, refl, sym, ap, ap₂, _∙_, subst}
 use mathlib.Core.Logic.{_≢_, _⊎_, inl, inr}
 use mathlib.Core.List.{List, [], _∷_}
 use Prim.Native.Nat.{ℕ, zero, suc, _+_, _*_, _/_, _%_, _^_, _≤_, _<_}
-use native.Mathlib.Nat.{mod-lt, zero-lt-suc}
 use native.Mathlib.Omega.{arith}
 use native.Mathlib.Decide.{ℕ-discrete, decLt}
 use lib.Bits.{bitXor, bitAnd, xor-lt, xor-zero-l}
 use lib.Count.{ones}
-use lib.ListN.{length, getD, set, List·getD-eq-default}
+use lib.ListN.{length, getD, List·getD-eq-default}
 use lib.Pow.{pow-lt, pow-pos}
 use Rattle.sets.specs.Bit.{bit, when, In, Sub}
-use Rattle.sets.specs.Columns.{turn, comb, dot, cnot, units}
-use Rattle.sets.proofs.Bits.{bit-pow-same, bit-pow-other, bit-lt, bit-cases, bit-xor, bit-and, bit-of-zero, bit-high, zero-ext, by-bit, xor-cancel}
+use Rattle.sets.specs.Columns.{turn, comb, dot, cnot}
+use Rattle.sets.proofs.Bits.{bit-pow-same, bit-pow-other, bit-lt, bit-cases, bit-xor, bit-and, bit-of-zero, bit-high, zero-ext, xor-cancel}
 use Rattle.sets.proofs.Comb.{comb-turn, comb-pow, getD-units}
-use Rattle.sets.proofs.Dot.{dot-xor, dot-comm, dot-pow, dot-lt, dot-zero, dot-when}
+use Rattle.sets.proofs.Dot.{dot-xor, dot-comm, dot-pow, dot-zero, dot-when}
 use Rattle.sets.proofs.Members.{in-lt, in-and, xor-sub, in-pow}
 use Rattle.sets.proofs.Ones.{ones-of-zero}
 use Rattle.gates.specs.declared.gate.Gate.{Gate}
@@ -22,8 +21,8 @@ use Rattle.gates.specs.declared.gate.Gate.the-variants.{Cnot, Rotation, Bad}
 use Rattle.gates.specs.Layout.{Good}
 use Rattle.circuit.specs.Circuit.{step, run, start, finalOf}
 use Rattle.gates.specs.All.{All}
-use Rattle.circuit.proofs.Steps.{cnot-past-target, cnot-target, cnot-other, step-cnot, step-rotation, step-bad, step-length}
-use Rattle.circuit.proofs.Circuits.{run-none, run-cons, run-length, start-length, final-is}
+use Rattle.circuit.proofs.Steps.{cnot-past-target, cnot-target, cnot-other, step-length}
+use Rattle.circuit.proofs.Circuits.{run-length, start-length, final-is}
 use Rattle.gathering.specs.Gather.{turns, flip}
 use Rattle.ending.specs.Mirror.{mirrorsOf, mirrorOf, Paired, Bordered, Parted}
 use Rattle.ending.specs.Ends.{Ready}

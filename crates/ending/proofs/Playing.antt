@@ -1,18 +1,18 @@
 -- Rows under gates one after another, as loops play them. Assumes nothing.
-use mathlib.Core.Path.{_≡_, refl, sym, ap, ap₂, _∙_, subst}
+use mathlib.Core.Path.{_≡_, refl, sym, ap, ap₂, _∙_}
 use mathlib.Core.Bool.{Bool, true, false}
 use mathlib.Core.List.{List, [], _∷_, _++_, map}
 use Prim.Native.Nat.{ℕ, zero, suc, _+_, _-_, _≤_, _<_}
 use native.Mathlib.Omega.{arith}
 use native.Mathlib.Numerals.{add-one}
 use native.Mathlib.Decide.{ℕ-discrete}
-use lib.ListN.{getD, length, drop, set, length-set, length-map, List·getD-map, length-drop}
-use lib.Seq.{getD-set-same, getD-set-other, drop-cons, ext-getD, drop-length}
+use lib.ListN.{getD, length, drop, set, length-set, length-map, List·getD-map}
+use lib.Seq.{getD-set-same, getD-set-other, drop-cons, ext-getD}
 use Rattle.gates.specs.declared.gate.Gate.{Gate}
 use Rattle.gates.specs.declared.gate.Gate.the-variants.{Cnot, Rotation, Bad}
 use Rattle.gates.specs.Layout.{gateOf, gatesOf}
 use Rattle.columns.specs.Turning.{turnedBy}
-use Rattle.gathering.specs.Gather.{flip, cnotsIn}
+use Rattle.gathering.specs.Gather.{cnotsIn}
 use Rattle.columns.proofs.Turns.{turned-zero}
 use Rattle.gathering.proofs.GatherCode.{cnots-step, cnots-none}
 use Rattle.ending.specs.Rows.{played, seen}

@@ -1,13 +1,12 @@
 -- Clearing row and mirror row of a qubit, in either order, takes it out. Assumes nothing.
-use mathlib.Core.Path.{_≡_, refl, sym, ap, ap₂, _∙_, subst}
-use mathlib.Core.Logic.{_≢_, _⊎_, inl, inr}
-use mathlib.Core.List.{List, [], _∷_, _++_, map}
-use Prim.Native.Nat.{ℕ, zero, suc, _+_, _*_, _^_, _≤_, _<_}
+use mathlib.Core.Path.{_≡_, sym, ap, ap₂, _∙_, subst}
+use mathlib.Core.Logic.{_≢_}
+use mathlib.Core.List.{List, [], _++_}
+use Prim.Native.Nat.{ℕ, _+_, _*_, _^_, _≤_, _<_}
 use native.Mathlib.Omega.{arith}
-use lib.Bits.{bitXor}
 use lib.Count.{ones}
 use lib.ListN.{length, getD, length-append}
-use Rattle.sets.specs.Bit.{bit, In, Sub}
+use Rattle.sets.specs.Bit.{In, Sub}
 use Rattle.sets.specs.Columns.{dot}
 use Rattle.sets.proofs.Dot.{dot-comm, dot-pow, dot-zero}
 use Rattle.chip.specs.Graph.{Symm, Joined}
@@ -17,7 +16,7 @@ use Rattle.gathering.proofs.GatherWorks.{gathers, gather-stands, turns-append, 
 use Rattle.ending.specs.Rows.{played}
 use Rattle.ending.specs.Clear.{followOf, rowsFirst, mirrorFirst}
 use Rattle.ending.specs.Ends.{Ready, TakesOut}
-use Rattle.ending.proofs.Turning.{flip-flip, flip-append, flip-length, flip-coupled, turns-sub, back-sub, dot-turns, played-is, flip-within, flip-spares}
+use Rattle.ending.proofs.Turning.{flip-flip, flip-append, flip-length, flip-coupled, back-sub, dot-turns, played-is, flip-within, flip-spares}
 
 -- what meets something is not empty
 pub not-zero : (a b : ℕ) → dot a b ≡ 1 → a ≢ 0

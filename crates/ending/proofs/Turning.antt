@@ -1,29 +1,26 @@
 -- What laid gates keep: rows inside the island, their products with mirror rows, the parities they stand for, and all wires outside.
 -- Assumes nothing.
-use mathlib.Core.Path.{_≡_, refl, sym, ap, ap₂, _∙_, subst}
-use mathlib.Core.Logic.{_≢_, _⊎_, inl, inr}
+use mathlib.Core.Path.{_≡_, refl, sym, ap, ap₂, _∙_}
 use mathlib.Core.List.{List, [], _∷_, _++_, map}
-use Prim.Native.Nat.{ℕ, zero, suc, _+_, _*_, _/_, _%_, _^_, _≤_, _<_}
-use native.Mathlib.Nat.{mod-lt, zero-lt-suc, le-of-suc-le-suc, suc-inj}
+use Prim.Native.Nat.{ℕ, zero, suc, _+_, _/_, _%_, _^_, _<_}
+use native.Mathlib.Nat.{mod-lt, zero-lt-suc, suc-inj}
 use native.Mathlib.Omega.{arith}
-use native.Mathlib.Decide.{ℕ-discrete}
 use lib.Bits.{bitXor}
-use lib.Count.{ones}
-use lib.ListN.{length, getD, length-append, List·getD-map}
+use lib.ListN.{length, getD, List·getD-map}
 use Rattle.sets.specs.Bit.{bit, when, In, Sub}
-use Rattle.sets.specs.Columns.{turn, comb, dot, units, cnot}
-use Rattle.sets.proofs.Bits.{bit-zero, bit-suc, bit-lt, bit-of-zero, bit-pow-other, bit-cases, by-bit}
+use Rattle.sets.specs.Columns.{turn, comb, dot, units}
+use Rattle.sets.proofs.Bits.{bit-zero, bit-suc, bit-of-zero, bit-pow-other}
 use Rattle.sets.proofs.Turn.{turn-sub, turn-off}
 use Rattle.sets.proofs.Dot.{dot-turn}
-use Rattle.sets.proofs.Comb.{comb-turn, comb-pow, comb-units, length-units, getD-units}
+use Rattle.sets.proofs.Comb.{comb-turn, comb-units, length-units, getD-units}
 use Rattle.sets.proofs.Members.{in-lt}
-use Rattle.chip.specs.Graph.{Near, Symm}
+use Rattle.chip.specs.Graph.{Symm}
 use Rattle.gates.specs.declared.gate.Gate.{Gate}
 use Rattle.gates.specs.declared.gate.Gate.the-variants.{Cnot, Rotation, Bad}
 use Rattle.circuit.specs.Circuit.{step, run}
 use Rattle.circuit.proofs.Steps.{cnot-other, step-cnot, step-rotation, step-bad, step-length}
 use Rattle.circuit.proofs.Circuits.{run-none, run-cons}
-use Rattle.gathering.specs.Gather.{turns, flip, On, Coupled, Within, Spares}
+use Rattle.gathering.specs.Gather.{turns, flip, Coupled, Within, Spares}
 use Rattle.columns.proofs.Turns.{turned-is}
 use Rattle.ending.specs.Rows.{played}
 

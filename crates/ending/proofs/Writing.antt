@@ -1,6 +1,6 @@
 -- Gates written in a loop: those written so far, and those still to come. Assumes nothing.
-use mathlib.Core.Path.{_≡_, refl, sym, ap, ap₂, _∙_, subst}
-use mathlib.Core.List.{List, [], _∷_, _++_, map, append-assoc, append-nil}
+use mathlib.Core.Path.{_≡_, refl, sym, ap, ap₂, _∙_}
+use mathlib.Core.List.{List, [], _∷_, _++_, append-assoc, append-nil}
 use Prim.Native.Nat.{ℕ, zero, suc, _+_, _-_, _≤_, _<_}
 use native.Mathlib.Omega.{arith}
 use native.Mathlib.Numerals.{add-one}
@@ -14,7 +14,7 @@ use Rattle.circuit.specs.State.{wiresOf}
 use Rattle.circuit.specs.Circuit.{run}
 use Rattle.circuit.proofs.Circuits.{run-append}
 use Rattle.emitting.specs.Emit.{emit, emitAt}
-use Rattle.emitting.proofs.Emitting.{emit-none, emit-at-none, emit-append, emit-at-append, emit-length}
+use Rattle.emitting.proofs.Emitting.{emit-none, emit-at-none, emit-append, emit-at-append}
 use Rattle.gathering.specs.Gather.{flip, cnotsIn}
 use Rattle.gathering.proofs.GatherCode.{cnots-step, cnots-none}
 use Rattle.ending.specs.Closing.{backOf}

@@ -1,7 +1,7 @@
 -- What an ending has to be, whichever qubit goes first and in whichever order rows and mirror rows are cleared.
 use mathlib.Core.Path.{_≡_}
 use mathlib.Core.Logic.{_≢_}
-use mathlib.Core.List.{List, [], _∷_, _++_, map}
+use mathlib.Core.List.{List, [], _++_, map}
 use Prim.Native.Nat.{ℕ, zero, suc, _+_, _-_, _*_, _^_, _≤_}
 use lib.Bits.{bitXor}
 use lib.Count.{ones}

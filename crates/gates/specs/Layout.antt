@@ -1,5 +1,4 @@
 -- Records: what a 32-bit number says, and the number of a gate (document 01, "Records and refusals").
-use mathlib.Core.Path.{_≡_}
 use mathlib.Core.Logic.{_≢_}
 use mathlib.Core.Bool.{Bool, true, false}
 use mathlib.Core.List.{List, map}

@@ -13,21 +13,21 @@ use lib.Count.{ones}
 use lib.Dec.{eqb}
 use lib.ListN.{getD, length, length-append}
 use lib.Pow.{pow-mono}
-use borrow.Author.Tests.{eq-eqb, ne-eqb, eqb-true, eqb-false}
+use borrow.Author.Tests.{eq-eqb, ne-eqb}
 use Rattle.sets.specs.Pick.{pick}
 use Rattle.sets.specs.Bit.{bit, has, In, Sub}
 use Rattle.sets.specs.Size.{lowestOf, onlyOf}
 use Rattle.sets.specs.Columns.{turn}
-use Rattle.sets.proofs.Bits.{bit-lt, bit-cases, bit-of-zero, bit-pow-other, xor-cancel}
+use Rattle.sets.proofs.Bits.{bit-cases, bit-of-zero, bit-pow-other, xor-cancel}
 use Rattle.sets.proofs.Members.{in-and, and-in, in-lt, put-other, put-same, put-keeps, put-cases, single-sub}
 use Rattle.sets.proofs.Ones.{ones-pow, ones-put, drop-same}
-use Rattle.sets.proofs.Turn.{turn-on, turn-off, turn-other, turn-sub}
-use Rattle.sets.proofs.Words.{has-true, has-false, in-has, out-has, lowest-in, only-is}
+use Rattle.sets.proofs.Turn.{turn-on}
+use Rattle.sets.proofs.Words.{has-true, has-false, out-has, lowest-in, only-is}
 use Rattle.chip.specs.Graph.{Near, Symm, Joined}
 use Rattle.gates.specs.declared.gate.Gate.{Gate}
 use Rattle.gates.specs.declared.gate.Gate.the-variants.{Cnot, Rotation, Bad}
 use Rattle.gathering.specs.Order.{orderOf, Along, root, then}
-use Rattle.gathering.specs.Gather.{turns, flip, On, Coupled, Within, Spares, movesAt, leftAt, gatherFrom, gatherOf, Gathers}
+use Rattle.gathering.specs.Gather.{turns, Coupled, Within, Spares, movesAt, leftAt, gatherFrom, gatherOf, Gathers}
 use Rattle.gathering.proofs.OrderParts.{sub-lt}
 use Rattle.gathering.proofs.OrderGrows.{order-along, order-first, order-few, along-in, along-once}
 

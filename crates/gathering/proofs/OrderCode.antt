@@ -1,20 +1,19 @@
 -- What the loop that puts the members in order keeps. Assumes nothing.
-use mathlib.Core.Path.{_≡_, refl, sym, ap, ap₂, _∙_, subst}
+use mathlib.Core.Path.{_≡_, sym, ap, ap₂, _∙_}
 use mathlib.Core.Logic.{_≢_}
 use mathlib.Core.List.{List, [], _∷_}
-use Prim.Native.Nat.{ℕ, zero, suc, _+_, _-_, _^_, _≤_, _<_}
+use Prim.Native.Nat.{ℕ, suc, _+_, _-_, _^_, _≤_, _<_}
 use native.Mathlib.Omega.{arith}
 use native.Mathlib.Numerals.{add-one}
 use lib.Bits.{bitXor}
 use lib.Dec.{eqb}
-use lib.ListN.{getD, length, set, replicate, length-set, length-replicate}
+use lib.ListN.{length, set, replicate, length-set, length-replicate}
 use lib.Seq.{sets}
 use borrow.Author.Tests.{eq-eqb, ne-eqb}
 use Rattle.sets.specs.Pick.{pick}
 use Rattle.sets.specs.Size.{lowestOf, onlyOf}
 use Rattle.sets.proofs.Words.{only-is, lowest-below}
 use Rattle.chip.specs.Graph.{grow}
-use Rattle.gathering.specs.declared.gather.Order.{Order}
 use Rattle.gathering.specs.Order.{beyondOf, layerOf, orderFrom, orderOf, orderIn}
 use Rattle.gathering.proofs.OrderGrows.{order-zero, order-step}
 

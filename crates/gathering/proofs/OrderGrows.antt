@@ -13,16 +13,15 @@ use lib.Count.{ones, ones-le}
 use lib.Dec.{eqb}
 use lib.ListN.{getD, length, drop}
 use lib.Pow.{pow-mono}
-use lib.Seq.{getD-drop, drop-drop}
-use borrow.Author.Tests.{eq-eqb, ne-eqb, eqb-true, eqb-false}
+use borrow.Author.Tests.{eq-eqb, ne-eqb, eqb-false}
 use Rattle.sets.specs.Pick.{pick}
 use Rattle.sets.specs.Bit.{bit, In, Sub}
 use Rattle.sets.specs.Size.{lowestOf, onlyOf}
 use Rattle.sets.proofs.Bits.{bit-lt, bit-cases, bit-xor, bit-of-zero, bit-pow-same, xor-cancel}
-use Rattle.sets.proofs.Members.{in-or, or-left, in-and, in-lt, sub-eq, sub-cases, put-other, put-same, put-keeps, put-cases, in-pow, some-bit}
+use Rattle.sets.proofs.Members.{in-or, or-left, in-and, in-lt, sub-eq, sub-cases, put-other, put-same, put-keeps, put-cases, in-pow}
 use Rattle.sets.proofs.Ones.{ones-pow, ones-put, drop-same}
 use Rattle.sets.proofs.Words.{lowest-in, only-is}
-use Rattle.chip.specs.Graph.{Near, Symm, Chain, Joined, nbrs, grow}
+use Rattle.chip.specs.Graph.{Near, Joined, nbrs, grow}
 use Rattle.chip.proofs.Closure.{nbrs-sound, fixed-chain}
 use Rattle.chip.proofs.Growth.{pow-sub}
 use Rattle.gathering.proofs.OrderParts.{sub-lt}

@@ -1,10 +1,10 @@
 -- A part of a small set is small. Assumes nothing.
-use mathlib.Core.Path.{_≡_, refl, sym, ap, _∙_}
+use mathlib.Core.Path.{_≡_, sym, _∙_}
 use mathlib.Core.Logic.{_⊎_, inl, inr}
-use Prim.Native.Nat.{ℕ, zero, suc, _+_, _*_, _/_, _^_, _≤_, _<_, suc-le-suc}
-use native.Mathlib.Nat.{pow-suc, zero-lt-suc}
+use Prim.Native.Nat.{ℕ, zero, suc, _/_, _^_, _≤_, _<_, suc-le-suc}
+use native.Mathlib.Nat.{pow-suc}
 use native.Mathlib.Omega.{arith}
-use Rattle.sets.specs.Bit.{bit, In, Sub}
+use Rattle.sets.specs.Bit.{bit, Sub}
 use Rattle.sets.proofs.Bits.{bit-suc, bit-cases, bit-high, zero-ext}
 
 pub bits-lt : (k x : ℕ) → ((i : ℕ) → k ≤ i → bit x i ≡ 0) → x < 2 ^ k

@@ -1,7 +1,6 @@
 -- Gathering a set at one of its qubits by moves along couplers (our own way; docs/LAYING.md). A move "u by p" is CNOT u,p.
 use mathlib.Core.Path.{_≡_}
 use mathlib.Core.Logic.{_≢_}
-use mathlib.Core.Bool.{Bool}
 use mathlib.Core.List.{List, [], _∷_, _++_, map}
 use Prim.Native.Nat.{ℕ, zero, suc, _+_, _-_, _*_, _^_, _≤_}
 use lib.Bits.{bitAnd, bitXor}
@@ -10,7 +9,7 @@ use lib.Dec.{eqb}
 use lib.ListN.{getD, length, replicate}
 use lib.Seq.{sets}
 use Rattle.sets.specs.Pick.{pick}
-use Rattle.sets.specs.Bit.{bit, has, In}
+use Rattle.sets.specs.Bit.{has, In}
 use Rattle.sets.specs.Size.{lowestOf, onlyOf}
 use Rattle.sets.specs.Columns.{turn}
 use Rattle.chip.specs.Graph.{Near}

@@ -1,6 +1,5 @@
 -- The members of a connected set by distance inside it from one of them, then by number (our own order for gathering; docs/LAYING.md).
 use mathlib.Core.Path.{_≡_}
-use mathlib.Core.Bool.{Bool}
 use mathlib.Core.List.{List, [], _∷_}
 use Prim.Native.Nat.{ℕ, zero, suc, _^_}
 use lib.Bits.{bitXor}

@@ -1,32 +1,28 @@
 -- Tests 1 to 8 as the code makes them. Assumes nothing.
 use mathlib.Core.Path.{_≡_, refl, sym, ap, ap₂, _∙_, subst}
 use mathlib.Core.Bool.{Bool, true, false}
-use mathlib.Core.List.{List, map}
-use Prim.Native.Nat.{ℕ, zero, suc, _+_, _-_, _≤_, _<_}
+use mathlib.Core.List.{List}
+use Prim.Native.Nat.{ℕ, zero, suc, _+_, _≤_, _<_}
 use native.Mathlib.Omega.{arith}
-use native.Mathlib.Numerals.{add-one}
-use lib.Dec.{ltb, leb, eqb}
-use lib.ListN.{length, getD, take, length-map}
+use lib.Dec.{ltb, leb}
+use lib.ListN.{length, take, length-map}
 use lib.Seq.{take-all}
-use borrow.Author.Tests.{lt-ltb, le-ltb, ltb-false, leb-true, leb-false}
+use borrow.Author.Tests.{lt-ltb, le-ltb, ltb-false, leb-true}
 use Rattle.sets.specs.Pick.{pick, both}
-use Rattle.sets.specs.Search.{firstOf}
 use Rattle.sets.proofs.Finding.{first-le, first-before}
 use Rattle.gates.specs.declared.gate.Gate.{Gate}
 use Rattle.table.specs.declared.sums.Sums.{Sums}
 use Rattle.meaning.specs.declared.told.Told.{Told}
 use Rattle.meaning.specs.declared.told.Meaning.{Meaning}
-use Rattle.verdicts.specs.declared.verdict.Verdict.{Verdict}
 use Rattle.verdicts.specs.declared.verdict.Verdict.the-variants.{Accepted, Qubits, ManyGates, ManyParities, Unreachable, Room}
 use Rattle.gates.specs.Layout.{gateOf, gatesOf}
 use Rattle.circuit.specs.Circuit.{run, start}
-use Rattle.meaning.specs.Borne.{borne, borneFrom, overAt, terms, sumsOf}
-use Rattle.table.specs.Table.{padded, termsIn}
+use Rattle.meaning.specs.Borne.{borne, borneFrom, overAt, terms}
+use Rattle.table.specs.Table.{termsIn}
 use Rattle.meaning.specs.Told.{toldOf, meaningOf, tableOf, termTable}
 use Rattle.circuit.specs.State.{wiresOf}
 use Rattle.tallies.specs.Tally.{boundOf}
 use Rattle.verdicts.specs.Verdicts.{numberOf, judgedQubits, judgedCouplers, judgedGates}
-use Rattle.verdicts.specs.InOrder.{andThen}
 use Rattle.verdicts.proofs.Judged.{then-on, then-stop}
 use Rattle.meaning.proofs.Bearing.{terms-few}
 use Rattle.meaning.proofs.Terms.{terms-table}

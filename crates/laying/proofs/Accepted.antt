@@ -1,12 +1,11 @@
 -- The circuit of a job that can be laid: its meaning, its couplers, its size; and test 9 is always passed. Assumes nothing.
-use mathlib.Core.Path.{_≡_, refl, sym, ap, _∙_, subst}
+use mathlib.Core.Path.{_≡_, refl, sym, ap, _∙_}
 use mathlib.Core.Bool.{Bool, true, false}
 use mathlib.Core.List.{List, [], _∷_}
 use Prim.Native.Nat.{ℕ, _+_, _-_, _*_, _≤_, _<_}
 use native.Mathlib.Omega.{arith}
 use lib.ListN.{length}
 use Rattle.sets.specs.Pick.{pick, both}
-use Rattle.sets.specs.Search.{someOf}
 use Rattle.sets.proofs.Finding.{first-is, some-no}
 use Rattle.gates.specs.declared.gate.Gate.{Gate}
 use Rattle.gates.specs.declared.gate.Gate.the-variants.{Cnot, Rotation, Bad}
@@ -31,7 +30,7 @@ use Rattle.laying.specs.Layable.{Layable}
 use Rattle.ways.specs.Memory.{Fine}
 use Rattle.judging.specs.Tests.{judgedJob}
 use Rattle.laying.specs.Verdict.{judgedStuck, verdictOf, circuitOf}
-use Rattle.laying.proofs.Job.{laid-same, laid-good, laid-coupled, laid-reaches, laid-rotations, laid-cnots}
+use Rattle.laying.proofs.Job.{laid-same, laid-good, laid-coupled, laid-rotations, laid-cnots}
 use Rattle.laying.proofs.Both.{island-lays, island-placed, never-stuck}
 use Rattle.laying.proofs.Accepting.{job-layable}
 

@@ -1,9 +1,9 @@
 -- What passing the tests means: test 7 is passed exactly where the meaning is within the islands, and a job that passed 1 to 8 can be laid. Assumes nothing.
-use mathlib.Core.Path.{_≡_, refl, sym, ap, ap₂, _∙_, subst}
+use mathlib.Core.Path.{_≡_, refl, sym, ap, _∙_, subst}
 use mathlib.Core.Logic.{_≢_}
 use mathlib.Core.Bool.{Bool, true, false, not}
 use mathlib.Core.List.{List}
-use Prim.Native.Nat.{ℕ, zero, suc, _+_, _-_, _*_, _^_, _≤_, _<_}
+use Prim.Native.Nat.{ℕ, _^_, _≤_, _<_}
 use native.Mathlib.Nat.{lt-of-lt-of-le}
 use native.Mathlib.Omega.{arith}
 use lib.Dec.{ltb, leb, eqb}
@@ -11,7 +11,7 @@ use lib.ListN.{length, getD}
 use lib.Pow.{pow-mono}
 use borrow.Author.Tests.{ltb-true, ltb-false}
 use Rattle.sets.specs.Pick.{pick, both}
-use Rattle.sets.specs.Bit.{In, Sub}
+use Rattle.sets.specs.Bit.{Sub}
 use Rattle.sets.specs.Size.{lowestOf}
 use Rattle.sets.specs.Search.{firstOf, someOf}
 use Rattle.sets.proofs.Finding.{first-true, first-before, first-is, some-no}
@@ -20,8 +20,8 @@ use Rattle.gates.specs.declared.gate.Gate.{Gate}
 use Rattle.verdicts.specs.declared.verdict.Verdict.{Verdict}
 use Rattle.verdicts.specs.declared.verdict.Verdict.the-variants.{Accepted, Qubits, ManyCouplers, WrongCoupler, ManyGates, BadGate, ManyParities, Unreachable, Room}
 use Rattle.gates.specs.Layout.{gatesOf, Good}
-use Rattle.circuit.specs.Circuit.{run, start, finalOf, Term}
-use Rattle.meaning.specs.Borne.{Among, borne, terms, overAt}
+use Rattle.circuit.specs.Circuit.{run, start, finalOf}
+use Rattle.meaning.specs.Borne.{Among, terms, overAt}
 use Rattle.gates.specs.All.{All}
 use Rattle.tallies.specs.Tally.{boundOf}
 use Rattle.verdicts.specs.Verdicts.{numberOf, placeOf, wrongAt, badAt, judgedQubits, judgedCouplers, judgedGates}
@@ -38,7 +38,7 @@ use Rattle.share.specs.Own.{insideOf}
 use Rattle.laying.specs.Reach.{Within}
 use Rattle.laying.specs.Layable.{Layable}
 use Rattle.judging.specs.Tests.{judgedCount, judgedParities, leavesAt, strayAt, scatters, scattered, judgedReach, judgedRoom, judgedMeaning, judgedJob}
-use Rattle.laying.proofs.Parting.{Parts, inside-sub, sub-inside}
+use Rattle.laying.proofs.Parting.{inside-sub, sub-inside}
 use Rattle.laying.proofs.Job.{parts}
 use Rattle.judging.proofs.Judging.{over-le, over-few, reach-pass, qubits-few}
 

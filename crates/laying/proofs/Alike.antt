@@ -2,31 +2,28 @@
 use mathlib.Core.Path.{_≡_, refl, sym, ap, ap₂, _∙_, subst}
 use mathlib.Core.Logic.{_≢_, _⊎_, inl, inr}
 use mathlib.Core.Bool.{Bool, true, false}
-use mathlib.Core.List.{List, [], _∷_, _++_, append-nil, map}
-use Prim.Native.Nat.{ℕ, zero, suc, _+_, _^_, _≤_, _<_}
+use mathlib.Core.List.{List, [], _∷_, _++_, append-nil}
+use Prim.Native.Nat.{ℕ, zero, suc, _+_, _≤_, _<_}
 use native.Mathlib.Omega.{arith}
-use native.Mathlib.Decide.{ℕ-discrete, decLt}
-use lib.ListN.{length, getD}
+use native.Mathlib.Decide.{ℕ-discrete}
+use lib.ListN.{getD}
 use lib.Bits.{bitAnd}
 use Rattle.sets.specs.Pick.{pick}
-use Rattle.sets.specs.Bit.{bit, has, In, Sub}
-use Rattle.sets.specs.Size.{lowestOf}
+use Rattle.sets.specs.Bit.{bit, In, Sub}
 use Rattle.sets.proofs.Bits.{bit-cases}
 use Rattle.sets.proofs.Members.{in-and, and-in, sub-eq}
 use Rattle.sets.proofs.Words.{in-has, out-has}
 use Rattle.gates.specs.declared.gate.Gate.{Gate}
 use Rattle.gates.specs.declared.gate.Gate.the-variants.{Cnot, Rotation, Bad}
 use Rattle.gates.specs.All.{All}
-use Rattle.gates.specs.Listed.{Listed}
-use Rattle.circuit.specs.Circuit.{sumOf}
-use Rattle.meaning.specs.Borne.{Among, sumsOf}
+use Rattle.meaning.specs.Borne.{Among}
 use Rattle.meaning.proofs.Lists.{Up, ascending-same}
-use Rattle.chip.specs.Graph.{Near, Symm, Chain, here, next}
+use Rattle.chip.specs.Graph.{Near}
 use Rattle.columns.specs.Terms.{Inside}
 use Rattle.share.specs.Own.{ownSets, ownTerms}
 use Rattle.laying.specs.Islands.{leads, laidTo}
 use Rattle.laying.specs.Demands.{isOn, gatesOn}
-use Rattle.laying.proofs.Parting.{Parts, on-led, leads-is}
+use Rattle.laying.proofs.Parting.{Parts, on-led}
 use Rattle.laying.proofs.Composing.{laid-led, laid-not}
 use Rattle.laying.proofs.Restricting.{own-same}
 use Rattle.laying.proofs.Owning.{own-up, own-has, own-back}

@@ -1,8 +1,8 @@
 -- What the entry point answers and leaves is what the definitions say. Assumes nothing.
-use mathlib.Core.Path.{_≡_, refl, sym, ap, ap₂, _∙_, subst}
+use mathlib.Core.Path.{_≡_, sym, ap, ap₂, _∙_}
 use mathlib.Core.Bool.{Bool, true, false}
 use mathlib.Core.List.{List, _++_, map}
-use Prim.Native.Nat.{ℕ, _+_, _≤_, _<_}
+use Prim.Native.Nat.{ℕ, _+_}
 use native.Mathlib.Omega.{arith}
 use lib.Dec.{eqb}
 use lib.ListN.{length, take, drop, replicate}
@@ -10,11 +10,9 @@ use borrow.Author.Tests.{eq-eqb, ne-eqb}
 use Rattle.sets.specs.Pick.{pick}
 use Rattle.gates.specs.declared.gate.Gate.{Gate}
 use Rattle.verdicts.specs.declared.verdict.Verdict.{Verdict}
-use Rattle.verdicts.specs.declared.verdict.Verdict.the-variants.{Accepted}
 use Rattle.gates.specs.Layout.{gatesOf, recordOf}
 use Rattle.verdicts.specs.Verdicts.{numberOf}
 use Rattle.verdicts.proofs.Judged.{then-stop}
-use Rattle.chip.specs.Couplers.{nearOf}
 use Rattle.emitting.specs.Emit.{emit, emitAt}
 use Rattle.emitting.proofs.Emitting.{emit-room}
 use Rattle.steps.specs.declared.Laid.{Laid}
@@ -23,7 +21,7 @@ use Rattle.laying.specs.declared.lay.Answer.{Answer}
 use Rattle.laying.specs.declared.lay.Answer.the-variants.{Refused}
 use Rattle.laying.specs.Layable.{Layable}
 use Rattle.judging.specs.Tests.{judgedJob}
-use Rattle.laying.specs.Verdict.{judgedStuck, verdictOf, circuitOf, countsOf, answered, outputOf}
+use Rattle.laying.specs.Verdict.{verdictOf, circuitOf, countsOf, answered, outputOf}
 use Rattle.ways.proofs.Replaying.{gates-read, gates-back}
 use Rattle.laying.proofs.Accepting.{job-layable, job-room}
 use Rattle.laying.proofs.Accepted.{circuit-good, circuit-fine, circuit-bounded, job-accepted}

@@ -1,5 +1,5 @@
 -- A job that passed tests 1 to 7 is laid by the shorter of the two ways on each island: never stuck, and all that `Job` says. Assumes nothing.
-use mathlib.Core.Path.{_≡_, refl, sym, ap, _∙_, subst}
+use mathlib.Core.Path.{_≡_, refl}
 use mathlib.Core.Logic.{_≢_}
 use mathlib.Core.Bool.{Bool, true, false}
 use mathlib.Core.List.{List}
@@ -11,12 +11,9 @@ use lib.Count.{ones, ones-le}
 use Rattle.sets.specs.Pick.{pick}
 use Rattle.sets.specs.Bit.{Sub}
 use Rattle.gates.specs.declared.gate.Gate.{Gate}
-use Rattle.gates.specs.Layout.{gatesOf, Good}
+use Rattle.gates.specs.Layout.{gatesOf}
 use Rattle.circuit.specs.Circuit.{run, start, finalOf}
-use Rattle.meaning.specs.Borne.{Among, borne, terms, sumsOf}
-use Rattle.gates.specs.All.{All}
-use Rattle.gates.specs.Listed.{OnCoupler}
-use Rattle.meaning.specs.Same.{SameMeaning, Reachable}
+use Rattle.meaning.specs.Borne.{Among, terms, sumsOf}
 use Rattle.tallies.specs.Tally.{cnotsOf, rotationsOf}
 use Rattle.meaning.proofs.Lists.{among-at}
 use Rattle.tallies.proofs.Tallies.{product-le}

@@ -1,11 +1,11 @@
 -- Islands laid one after another: each brings its own wires to what is asked, leaves the others, and gives its own angles. Assumes nothing.
 use mathlib.Core.Path.{_≡_, refl, sym, ap, ap₂, _∙_, subst}
-use mathlib.Core.Logic.{_≢_, _⊎_, inl, inr}
+use mathlib.Core.Logic.{_⊎_, inl, inr}
 use mathlib.Core.Bool.{Bool, true, false}
-use mathlib.Core.List.{List, [], _∷_, _++_, append-nil}
+use mathlib.Core.List.{List, [], _++_, append-nil}
 use Prim.Native.Nat.{ℕ, zero, suc, _+_, _^_, _≤_, _<_}
 use native.Mathlib.Omega.{arith}
-use native.Mathlib.Decide.{ℕ-discrete, decLt}
+use native.Mathlib.Decide.{ℕ-discrete}
 use lib.ListN.{length, getD}
 use Rattle.sets.specs.Pick.{pick}
 use Rattle.sets.specs.Bit.{bit, In}
@@ -18,9 +18,8 @@ use Rattle.gates.specs.All.{All}
 use Rattle.circuit.proofs.Circuits.{run-none, run-append, run-length, given-none, given-append, start-length}
 use Rattle.gates.proofs.Alls.{all-none, all-append}
 use Rattle.columns.specs.Tables.{sumTo}
-use Rattle.columns.proofs.Tabling.{sum-zero}
 use Rattle.laying.specs.Islands.{leads, laidTo}
-use Rattle.laying.proofs.Parting.{Parts, on-led, led-on, leader-below, leader-leads}
+use Rattle.laying.proofs.Parting.{Parts, on-led, led-on, leader-leads}
 
 -- what the gates on an island Q do: its wires come to F, the others stay, and parity p gets T p
 pub record Lays (Q : ℕ) (F T : ℕ → ℕ) (gs : List Gate) : Type 0 where

@@ -2,17 +2,16 @@
 use mathlib.Core.Path.{_≡_, refl, sym, ap, ap₂, _∙_, subst}
 use mathlib.Core.Logic.{_≢_, _⊎_, inl, inr}
 use mathlib.Core.Bool.{Bool, true, false}
-use mathlib.Core.List.{List, [], _∷_, _++_}
-use Prim.Native.Nat.{ℕ, zero, suc, _+_, _-_, _*_, _^_, _≤_, _<_}
+use mathlib.Core.List.{List, [], _∷_}
+use Prim.Native.Nat.{ℕ, zero, suc, _+_, _-_, _*_, _≤_, _<_}
 use native.Mathlib.Nat.{mul-le-mul-left, mul-le-mul-right}
 use native.Mathlib.Omega.{arith}
-use native.Mathlib.Decide.{ℕ-discrete}
 use lib.ListN.{length}
 use lib.Count.{ones, ones-le}
 use Rattle.sets.specs.Pick.{pick}
-use Rattle.sets.specs.Bit.{bit, In, Sub}
+use Rattle.sets.specs.Bit.{bit, Sub}
 use Rattle.sets.specs.Size.{lowestOf}
-use Rattle.sets.proofs.Bits.{bit-cases, bit-lt}
+use Rattle.sets.proofs.Bits.{bit-cases}
 use Rattle.gates.specs.declared.gate.Gate.{Gate}
 use Rattle.meaning.specs.Borne.{Among}
 use Rattle.tallies.specs.Tally.{tally}
@@ -23,7 +22,7 @@ use Rattle.columns.proofs.Tabling.{sum-ext, sum-none, sum-le}
 use Rattle.share.specs.Own.{insideOf, ownTerms}
 use Rattle.laying.specs.Islands.{leads, laidTo}
 use Rattle.laying.proofs.Adding.{sum-one, sum-plus, sum-times, sum-swap, sum-units, ones-bits}
-use Rattle.laying.proofs.Parting.{Parts, leader-in, leader-below, leader-same, leader-leads, on-led, led-on, inside-one, inside-sub, sub-inside, not-inside}
+use Rattle.laying.proofs.Parting.{Parts, leader-below, leader-same, leader-leads, on-led, led-on, inside-one, sub-inside, not-inside}
 use Rattle.laying.proofs.Owning.{own-none, own-length}
 
 pick-plus : (b : Bool) (x y : ℕ) → pick b (x + y) 0 ≡ pick b x 0 + pick b y 0

@@ -3,7 +3,7 @@ use mathlib.Core.Path.{_≡_, refl, sym, ap, ap₂, _∙_, subst}
 use mathlib.Core.Logic.{_≢_}
 use mathlib.Core.Bool.{Bool, true, false}
 use mathlib.Core.List.{List, _++_, map}
-use Prim.Native.Nat.{ℕ, _≤_, _<_}
+use Prim.Native.Nat.{ℕ, _≤_}
 use native.Mathlib.Omega.{arith}
 use native.Mathlib.Decide.{ℕ-discrete}
 use lib.Dec.{eqb}
@@ -23,12 +23,12 @@ use Rattle.verdicts.specs.InOrder.{andThen}
 use Rattle.verdicts.proofs.Judged.{zero-accepted, then-on, then-stop, then-zero}
 use Rattle.verdicts.proofs.Passing.{accepted-good}
 use Rattle.chip.specs.Couplers.{nearOf}
-use Rattle.isles.specs.Islands.{islandOf, islandsOf}
+use Rattle.isles.specs.Islands.{islandsOf}
 use Rattle.laying.specs.declared.lay.Answer.{Answer}
 use Rattle.laying.specs.declared.lay.Answer.the-variants.{Laid, Refused}
 use Rattle.laying.specs.Layable.{Layable}
 use Rattle.judging.specs.Tests.{judgedCount, judgedParities, judgedReach, judgedRoom, judgedMeaning, judgedJob}
-use Rattle.laying.specs.Verdict.{judgedStuck, verdictOf, circuitOf, countsOf, answered, outputOf, verdictIn, numberIn, placeIn, recordsIn, cnotsIn, rotationsIn, depthIn}
+use Rattle.laying.specs.Verdict.{judgedStuck, verdictOf, circuitOf, countsOf, answered, outputOf, verdictIn, recordsIn, cnotsIn, rotationsIn, depthIn}
 use Rattle.laying.specs.Demands.{Island, gatesOn, Faithful, judgedSix, Stays, Strays, Agree}
 use Rattle.laying.proofs.Job.{only-inside}
 use Rattle.judging.proofs.Judging.{qubits-few, over-few}

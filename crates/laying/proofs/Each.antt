@@ -1,24 +1,24 @@
 -- As many rotations as terms, and none of them missing: each term has one, no other parity has any. Assumes nothing.
 use mathlib.Core.Path.{_≡_, refl, sym, ap, _∙_, subst}
-use mathlib.Core.Logic.{_≢_, _⊎_, inl, inr}
+use mathlib.Core.Logic.{_⊎_, inl, inr}
 use mathlib.Core.Bool.{Bool, true, false}
 use mathlib.Core.List.{List, [], _∷_}
-use Prim.Native.Nat.{ℕ, suc, _+_, _%_, _≤_, _<_}
+use Prim.Native.Nat.{ℕ, suc, _+_, _%_, _≤_}
 use native.Mathlib.Omega.{arith}
 use native.Mathlib.Decide.{ℕ-discrete}
 use lib.Dec.{eqb}
 use lib.ListN.{length, getD}
-use borrow.Author.Tests.{eqb-true, eqb-false}
+use borrow.Author.Tests.{eqb-true}
 use Rattle.sets.specs.Pick.{pick}
 use Rattle.gates.specs.declared.gate.Gate.{Gate}
 use Rattle.gates.specs.declared.gate.Gate.the-variants.{Cnot, Rotation, Bad}
-use Rattle.circuit.specs.Circuit.{step, start, gives, given, sumOf, Term}
+use Rattle.circuit.specs.Circuit.{step, start, gives, given, Term}
 use Rattle.meaning.specs.Borne.{Among, terms}
 use Rattle.meaning.specs.Same.{SameMeaning}
 use Rattle.tallies.specs.Tally.{tally, rotationsOf, oneRotation}
 use Rattle.circuit.proofs.Circuits.{given-none, given-cons, sum-is}
 use Rattle.meaning.proofs.Bearing.{terms-up, term-among, among-term}
-use Rattle.meaning.proofs.Lists.{Up, up-head, up-tail, up-among, among-none, among-first, among-rest, among-cases}
+use Rattle.meaning.proofs.Lists.{Up, up-tail, up-among, among-none, among-first, among-rest, among-cases}
 use Rattle.laying.specs.Demands.{oneOn, rotationsOn}
 
 -- ---- sums over a list in which each number is once

@@ -1,12 +1,11 @@
 -- One island laid: the terms' gates and the closing behind them do what composing islands asks for. Assumes nothing.
-use mathlib.Core.Path.{_≡_, refl, sym, ap, ap₂, _∙_, subst}
-use mathlib.Core.Logic.{_≢_, _⊎_, inl, inr}
+use mathlib.Core.Path.{_≡_, _∙_}
 use mathlib.Core.List.{List, [], _∷_, _++_}
-use Prim.Native.Nat.{ℕ, zero, suc, _+_, _-_, _*_, _^_, _≤_, _<_}
+use Prim.Native.Nat.{ℕ, _+_, _-_, _*_, _^_, _≤_, _<_}
 use native.Mathlib.Omega.{arith}
 use lib.ListN.{length, getD}
 use lib.Count.{ones}
-use Rattle.sets.specs.Bit.{bit, In, Sub}
+use Rattle.sets.specs.Bit.{In}
 use Rattle.sets.specs.Size.{sizeOf}
 use Rattle.gates.specs.declared.gate.Gate.{Gate}
 use Rattle.gates.specs.declared.gate.Gate.the-variants.{Cnot, Rotation, Bad}
@@ -14,13 +13,13 @@ use Rattle.gates.specs.Layout.{Good}
 use Rattle.circuit.specs.Circuit.{step, run, given}
 use Rattle.gates.specs.All.{All}
 use Rattle.tallies.specs.Tally.{cnotsOf, rotationsOf}
-use Rattle.circuit.proofs.Circuits.{given-none, given-cons, given-append, run-append}
+use Rattle.circuit.proofs.Circuits.{given-none, given-cons, given-append}
 use Rattle.circuit.proofs.Steps.{gives-cnot}
-use Rattle.gates.proofs.Alls.{all-none, all-cons, all-append, all-map}
+use Rattle.gates.proofs.Alls.{all-append}
 use Rattle.tallies.proofs.Tallies.{cnots-append, rotations-append}
-use Rattle.chip.specs.Graph.{Near, Symm, Joined}
+use Rattle.chip.specs.Graph.{Symm, Joined}
 use Rattle.columns.specs.Terms.{Inside, Small, LaysTerms, totalOf}
-use Rattle.gathering.specs.Gather.{On, Coupled, Within}
+use Rattle.gathering.specs.Gather.{Coupled, Within}
 use Rattle.ending.specs.Ends.{Ready, Closes}
 use Rattle.ending.specs.Closing.{closingOf}
 use Rattle.ending.proofs.Closings.{closing-closes}

@@ -1,16 +1,12 @@
 -- A job laid: equal meaning, couplers, counts; for any way of laying terms that meets the one statement of `columns`. Assumes nothing.
-use mathlib.Core.Path.{_≡_, refl, sym, ap, ap₂, _∙_, subst}
-use mathlib.Core.Logic.{_≢_, _⊎_, inl, inr, ⊎-elim}
-use mathlib.Core.Bool.{Bool, true, false}
-use mathlib.Core.List.{List, [], _∷_, _++_, map}
-use Prim.Native.Nat.{ℕ, zero, suc, _+_, _-_, _*_, _%_, _^_, _≤_, _<_}
-use native.Mathlib.Nat.{lt-of-lt-of-le}
+use mathlib.Core.Path.{_≡_, refl, sym, ap, _∙_, subst}
+use mathlib.Core.Logic.{_≢_, _⊎_, inl, inr}
+use mathlib.Core.Bool.{true}
+use mathlib.Core.List.{List}
+use Prim.Native.Nat.{ℕ, _+_, _-_, _*_, _%_, _^_, _≤_, _<_}
 use native.Mathlib.Omega.{arith}
 use native.Mathlib.Decide.{ℕ-discrete, decLt}
 use lib.ListN.{length, getD, length-map, List·getD-eq-default}
-use lib.Pow.{pow-mono}
-use lib.Count.{ones}
-use Rattle.sets.specs.Pick.{pick}
 use Rattle.sets.specs.Bit.{bit, In, Sub}
 use Rattle.sets.specs.Size.{lowestOf}
 use Rattle.sets.proofs.Bits.{bit-cases}
@@ -27,7 +23,7 @@ use Rattle.gates.specs.Listed.{Listed, OnCoupler}
 use Rattle.meaning.specs.Same.{SameMeaning, Reachable}
 use Rattle.tallies.specs.Tally.{tally, cnotsOf, rotationsOf, oneCnot, oneRotation}
 use Rattle.verdicts.specs.Verdicts.{judgedCouplers}
-use Rattle.circuit.proofs.Circuits.{start-length, run-length, final-is, sum-is}
+use Rattle.circuit.proofs.Circuits.{final-is, sum-is}
 use Rattle.circuit.proofs.Wiring.{wires-past, good-up}
 use Rattle.meaning.proofs.Bearing.{borne-not-empty, terms-up, term-among, among-term, terms-borne, terms-few}
 use Rattle.gates.proofs.Alls.{all-map}
@@ -37,19 +33,17 @@ use Rattle.chip.specs.Graph.{Near, Symm, Joined}
 use Rattle.isles.specs.Islands.{islandOf}
 use Rattle.chip.specs.Couplers.{nearOf}
 use Rattle.chip.proofs.Neighbours.{near-symm, near-below, near-listed, accepted-near}
-use Rattle.isles.proofs.Isles.{island-self, island-same, island-below, island-fits, island-low, island-lt, island-joined, island-near}
-use Rattle.columns.specs.Pieces.{Piece}
-use Rattle.columns.specs.Terms.{Inside, Small, LaysTerms, totalOf}
+use Rattle.isles.proofs.Isles.{island-self, island-same, island-below, island-fits, island-lt, island-joined, island-near}
+use Rattle.columns.specs.Terms.{Inside, LaysTerms, totalOf}
 use Rattle.ending.specs.Ends.{Ready}
 use Rattle.ending.specs.Mirror.{mirrorsOf, mirrorOf, Bordered}
-use Rattle.ending.specs.Closing.{closingOf}
 use Rattle.ending.proofs.Mirrors.{bordered-ready, mirror-inside}
 use Rattle.share.specs.Own.{ownSets, ownTerms}
 use Rattle.laying.specs.Islands.{leads, laidTo}
 use Rattle.ways.specs.Ways.{withClosing}
 use Rattle.laying.specs.Reach.{Within}
 use Rattle.laying.proofs.Parting.{Parts, leader-below, leader-leads, leader-same, inside-one}
-use Rattle.laying.proofs.Restricting.{own-whole, own-in, own-symm, own-joined, own-near}
+use Rattle.laying.proofs.Restricting.{own-whole, own-symm, own-joined, own-near}
 use Rattle.laying.proofs.Owning.{own-up, own-has, own-back, own-few, total-own, total-none}
 use Rattle.laying.proofs.Islanding.{Placed, closed-lays, closed-placed, inside-good}
 use Rattle.laying.proofs.Composing.{Lays, wired, given-laid, laid-all}

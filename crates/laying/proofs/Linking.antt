@@ -1,14 +1,13 @@
 -- Chains of listed couplers and the islands that the chip finds are the same. Assumes nothing.
-use mathlib.Core.Path.{_≡_, refl, sym, _∙_, subst}
+use mathlib.Core.Path.{_≡_}
 use mathlib.Core.List.{List}
 use Prim.Native.Nat.{ℕ, _≤_, _<_}
 use native.Mathlib.Omega.{arith}
 use Rattle.sets.specs.Bit.{In}
 use Rattle.sets.proofs.Members.{sub-eq}
 use Rattle.verdicts.specs.declared.verdict.Verdict.the-variants.{Accepted}
-use Rattle.gates.specs.Listed.{Listed}
 use Rattle.verdicts.specs.Verdicts.{judgedCouplers}
-use Rattle.chip.specs.Graph.{Near, Chain, here, next}
+use Rattle.chip.specs.Graph.{Chain, here, next}
 use Rattle.chip.specs.Couplers.{nearOf}
 use Rattle.isles.specs.Islands.{everyQubit, islandOf}
 use Rattle.chip.proofs.Neighbours.{near-below, near-listed, accepted-near}

@@ -1,23 +1,19 @@
 -- An island's own terms: which they are, in which order, and what sums they ask for. Assumes nothing.
-use mathlib.Core.Path.{_≡_, refl, sym, ap, ap₂, _∙_, subst}
+use mathlib.Core.Path.{_≡_, refl, sym, ap, _∙_, subst}
 use mathlib.Core.Logic.{_≢_, _⊎_, inl, inr, ⊎-elim}
 use mathlib.Core.Bool.{Bool, true, false}
 use mathlib.Core.List.{List, [], _∷_, map}
-use Prim.Native.Nat.{ℕ, zero, suc, _+_, _≤_, _<_, suc-le-suc}
-use native.Mathlib.Nat.{not-suc-le-zero, le-of-suc-le-suc, zero-lt-suc}
+use Prim.Native.Nat.{ℕ, suc, _+_, _≤_, _<_}
 use native.Mathlib.Omega.{arith}
-use native.Mathlib.Decide.{ℕ-discrete}
 use lib.Dec.{eqb}
-use lib.ListN.{length, getD, length-map}
+use lib.ListN.{length, getD}
 use borrow.Author.Tests.{eq-eqb, ne-eqb}
 use Rattle.sets.specs.Pick.{pick}
-use Rattle.sets.specs.Bit.{In, Sub}
-use Rattle.gates.specs.declared.gate.Gate.{Gate}
-use Rattle.circuit.specs.Circuit.{sumOf}
-use Rattle.meaning.specs.Borne.{Among, sumsOf}
-use Rattle.meaning.proofs.Lists.{Up, up-none, up-weaken, among-at, at-among, among-none, among-first, among-rest, among-cases, up-cons, up-head, up-tail, up-once}
+use Rattle.sets.specs.Bit.{Sub}
+use Rattle.meaning.specs.Borne.{Among}
+use Rattle.meaning.proofs.Lists.{Up, up-weaken, among-at, at-among, among-none, among-first, among-rest, among-cases, up-cons, up-head, up-tail, up-once}
 use Rattle.meaning.proofs.Tables.{map-at}
-use Rattle.columns.specs.Tables.{sumTo, one}
+use Rattle.columns.specs.Tables.{one}
 use Rattle.columns.specs.Terms.{totalOf}
 use Rattle.columns.proofs.Tabling.{sum-none, one-le}
 use Rattle.share.specs.Own.{insideOf, ownTerms}

@@ -1,18 +1,16 @@
 -- Islands part the qubits: each qubit has one leader, and a set of qubits is inside one island at most. Assumes nothing.
 use mathlib.Core.Path.{_≡_, refl, sym, ap, _∙_, subst}
-use mathlib.Core.Logic.{_≢_, _⊎_, inl, inr}
+use mathlib.Core.Logic.{_≢_}
 use mathlib.Core.Bool.{Bool, true, false}
-use Prim.Native.Nat.{ℕ, zero, suc, _+_, _^_, _≤_, _<_}
+use Prim.Native.Nat.{ℕ, _^_, _≤_, _<_}
 use native.Mathlib.Nat.{lt-of-lt-of-le}
 use native.Mathlib.Omega.{arith}
-use native.Mathlib.Decide.{ℕ-discrete}
-use lib.Dec.{eqb}
 use lib.Bits.{bitAnd}
 use lib.Pow.{pow-mono}
-use borrow.Author.Tests.{eq-eqb, ne-eqb, eqb-true, eqb-false}
+use borrow.Author.Tests.{eq-eqb, eqb-true}
 use Rattle.sets.specs.Bit.{bit, In, Sub}
 use Rattle.sets.specs.Size.{lowestOf}
-use Rattle.sets.proofs.Bits.{bit-of-zero, bit-and, bit-cases}
+use Rattle.sets.proofs.Bits.{bit-of-zero}
 use Rattle.sets.proofs.Members.{in-and, and-in, sub-eq, some-bit}
 use Rattle.sets.proofs.Words.{lowest-in}
 use Rattle.share.specs.Own.{insideOf}

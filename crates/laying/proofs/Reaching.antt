@@ -1,13 +1,12 @@
 -- Coupler CNOTs keep parities inside islands: what is reachable is inside. Assumes nothing.
 use mathlib.Core.Path.{_≡_, refl, sym, ap, _∙_, subst}
-use mathlib.Core.Logic.{_≢_, _⊎_, inl, inr}
+use mathlib.Core.Logic.{_≢_}
 use mathlib.Core.List.{List, [], _∷_}
-use Prim.Native.Nat.{ℕ, zero, suc, _+_, _%_, _^_, _≤_, _<_}
+use Prim.Native.Nat.{ℕ, _%_, _≤_, _<_}
 use native.Mathlib.Omega.{arith}
 use native.Mathlib.Decide.{ℕ-discrete}
 use lib.ListN.{length, getD}
-use lib.Bits.{bitXor}
-use Rattle.sets.specs.Bit.{bit, In, Sub}
+use Rattle.sets.specs.Bit.{In, Sub}
 use Rattle.sets.specs.Columns.{cnot}
 use Rattle.sets.proofs.Members.{xor-sub, in-pow}
 use Rattle.sets.proofs.Comb.{getD-units}
@@ -17,7 +16,7 @@ use Rattle.gates.specs.Layout.{Good}
 use Rattle.circuit.specs.Circuit.{step, run, start, finalOf, gives, given, sumOf, Term}
 use Rattle.gates.specs.All.{All}
 use Rattle.gates.specs.Listed.{Listed, OnCoupler}
-use Rattle.meaning.specs.Same.{Reachable, SameMeaning}
+use Rattle.meaning.specs.Same.{Reachable}
 use Rattle.circuit.proofs.Steps.{cnot-target, cnot-other, step-length, gives-cnot, gives-bad, gives-other}
 use Rattle.circuit.proofs.Circuits.{start-length}
 use Rattle.laying.specs.Reach.{Within}

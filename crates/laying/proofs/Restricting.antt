@@ -1,9 +1,9 @@
 -- Sets handed to an island: those of its own qubits, with its own qubits only. Assumes nothing.
-use mathlib.Core.Path.{_≡_, refl, sym, ap, ap₂, _∙_, subst}
-use mathlib.Core.Logic.{_≢_, _⊎_, inl, inr}
-use mathlib.Core.Bool.{Bool, true, false}
+use mathlib.Core.Path.{_≡_, sym, ap, _∙_, subst}
+use mathlib.Core.Logic.{_⊎_, inl, inr}
+use mathlib.Core.Bool.{Bool}
 use mathlib.Core.List.{List}
-use Prim.Native.Nat.{ℕ, _+_, _^_, _≤_, _<_}
+use Prim.Native.Nat.{ℕ, _≤_, _<_}
 use native.Mathlib.Omega.{arith}
 use native.Mathlib.Decide.{decLt}
 use lib.ListN.{length, getD, List·getD-eq-default}
@@ -16,7 +16,6 @@ use Rattle.sets.proofs.Members.{in-and, and-in, sub-eq}
 use Rattle.sets.proofs.Words.{in-has, out-has}
 use Rattle.chip.specs.Graph.{Near, Symm, Chain, here, next, Joined}
 use Rattle.chip.proofs.Chains.{chain-end}
-use Rattle.columns.specs.Tables.{tab}
 use Rattle.columns.proofs.Tabling.{tab-length, tab-at}
 use Rattle.share.specs.Own.{mine, ownSets}
 

@@ -1,11 +1,11 @@
 -- The table of an island's own terms holds what the definition hands to the island. Assumes nothing.
-use mathlib.Core.Path.{_≡_, refl, sym, ap, ap₂, _∙_, subst}
+use mathlib.Core.Path.{_≡_, refl, sym, ap, ap₂, _∙_}
 use mathlib.Core.Bool.{Bool, true, false}
-use mathlib.Core.List.{List, [], _∷_, _++_, map}
-use Prim.Native.Nat.{ℕ, zero, suc, _+_, _≤_, _<_}
+use mathlib.Core.List.{List, [], _∷_, map}
+use Prim.Native.Nat.{ℕ, _≤_, _<_}
 use native.Mathlib.Omega.{arith}
 use lib.Dec.{eqb}
-use lib.ListN.{length, getD, take, length-map, length-take}
+use lib.ListN.{length, getD, take, length-map}
 use lib.Seq.{ext-getD, getD-take, length-take-le}
 use borrow.Author.Tests.{eqb-true, eqb-false}
 use Rattle.sets.specs.Pick.{pick}
@@ -15,7 +15,7 @@ use Rattle.circuit.specs.Circuit.{run, start, sumOf}
 use Rattle.meaning.specs.Borne.{borne, sumsOf, terms}
 use Rattle.table.specs.Table.{kept, padded, keptTable, termsIn}
 use Rattle.meaning.specs.Told.{tableOf}
-use Rattle.meaning.proofs.Tables.{map-at, padded-at, padded-length}
+use Rattle.meaning.proofs.Tables.{map-at, padded-at}
 use Rattle.table.proofs.Keeping.{kept-map, take-padded}
 use Rattle.meaning.proofs.Lists.{kept-drop, kept-take, kept-nil}
 use Rattle.columns.specs.Tables.{tab}

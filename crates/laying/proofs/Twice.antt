@@ -1,26 +1,21 @@
 -- An island of two jobs that agree on it gets the same gates in both. Assumes nothing.
 use mathlib.Core.Path.{_≡_, refl, sym, ap, ap₂, _∙_, subst}
-use mathlib.Core.Logic.{_≢_}
-use mathlib.Core.Bool.{Bool, true, false}
 use mathlib.Core.List.{List, [], _∷_, map}
-use Prim.Native.Nat.{ℕ, _^_, _≤_, _<_}
+use Prim.Native.Nat.{ℕ, _^_, _<_}
 use native.Mathlib.Omega.{arith}
 use lib.Bits.{bitAnd}
-use lib.ListN.{getD}
-use Rattle.sets.specs.Bit.{In, Sub}
+use Rattle.sets.specs.Bit.{In}
 use Rattle.sets.specs.Size.{lowestOf}
 use Rattle.gates.specs.declared.gate.Gate.{Gate}
 use Rattle.verdicts.specs.declared.verdict.Verdict.the-variants.{Accepted}
 use Rattle.gates.specs.Layout.{gatesOf, Good}
-use Rattle.circuit.specs.Circuit.{run, start, finalOf, sumOf, Term}
+use Rattle.circuit.specs.Circuit.{run, start, sumOf, Term}
 use Rattle.meaning.specs.Borne.{Among, terms, sumsOf}
 use Rattle.gates.specs.All.{All}
-use Rattle.gates.specs.Listed.{Listed}
 use Rattle.verdicts.specs.Verdicts.{judgedCouplers}
 use Rattle.circuit.proofs.Circuits.{final-is}
 use Rattle.meaning.proofs.Bearing.{terms-up, term-among, among-term}
 use Rattle.meaning.proofs.Lists.{among-first, among-rest}
-use Rattle.chip.specs.Graph.{Near}
 use Rattle.chip.specs.Couplers.{nearOf}
 use Rattle.isles.specs.Islands.{islandOf}
 use Rattle.chip.proofs.Neighbours.{near-listed, accepted-near}

@@ -1,18 +1,16 @@
 -- The walk over the qubits that lays each island at its lowest qubit. Assumes nothing.
 use mathlib.Core.Path.{_≡_, refl, sym, ap, ap₂, _∙_, subst}
 use mathlib.Core.Bool.{Bool, true, false}
-use mathlib.Core.List.{List, [], _++_}
-use Prim.Native.Nat.{ℕ, zero, suc, _+_, _≤_, _<_}
+use mathlib.Core.List.{List, _++_}
+use Prim.Native.Nat.{ℕ, suc, _+_, _≤_, _<_}
 use native.Mathlib.Omega.{arith}
 use native.Mathlib.Numerals.{add-one}
 use lib.ListN.{length, getD}
 use lib.Seq.{take-all}
-use lib.Dec.{eqb}
 use borrow.Author.Tests.{eq-eqb, ne-eqb}
 use Rattle.sets.specs.Pick.{pick}
 use Rattle.sets.specs.Size.{lowestOf}
 use Rattle.gates.specs.declared.gate.Gate.{Gate}
-use Rattle.table.specs.declared.sums.Sums.{Sums}
 use Rattle.meaning.specs.declared.told.Told.{Told}
 use Rattle.meaning.specs.declared.told.Meaning.{Meaning}
 use Rattle.gates.specs.Layout.{gatesOf}

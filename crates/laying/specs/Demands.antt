@@ -1,6 +1,6 @@
 -- The words of the demands: islands as chains of listed couplers, the gates on a set of qubits, and what each demand says of a job.
 use mathlib.Core.Path.{_≡_}
-use mathlib.Core.Bool.{Bool, true, false}
+use mathlib.Core.Bool.{Bool, false}
 use mathlib.Core.List.{List, [], _∷_}
 use Prim.Native.Nat.{ℕ, _-_, _+_, _*_, _≤_, _<_}
 use lib.Dec.{eqb}

@@ -1,8 +1,8 @@
 -- The parities that bear a rotation: how they grow with the gates, and that no other has an angle. Assumes nothing.
-use mathlib.Core.Path.{_≡_, refl, sym, ap, ap₂, _∙_, subst}
-use mathlib.Core.Logic.{_≢_, _⊎_, inl, inr, ⊎-elim}
-use mathlib.Core.List.{List, [], _∷_, _++_, map}
-use Prim.Native.Nat.{ℕ, zero, suc, _+_, _^_, _%_, _≤_, _<_, zero-le}
+use mathlib.Core.Path.{_≡_, refl, ap, _∙_, subst}
+use mathlib.Core.Logic.{_≢_, ⊎-elim}
+use mathlib.Core.List.{List, [], _∷_, _++_}
+use Prim.Native.Nat.{ℕ, suc, _+_, _^_, _%_, _≤_, _<_, zero-le}
 use native.Mathlib.Omega.{arith}
 use native.Mathlib.Decide.{ℕ-discrete}
 use lib.Dec.{eqb}
@@ -17,7 +17,7 @@ use Rattle.table.specs.Table.{kept}
 use Rattle.gates.specs.Layout.{Good}
 use Rattle.gates.specs.All.{All}
 use Rattle.circuit.proofs.Steps.{gives-cnot, gives-bad, gives-other, step-length}
-use Rattle.circuit.proofs.Circuits.{run-snoc, given-append, start-length}
+use Rattle.circuit.proofs.Circuits.{start-length}
 use Rattle.circuit.proofs.Wiring.{Below, below-step, below-start, Apart, apart-step, apart-start, apart-not-empty}
 use Rattle.meaning.proofs.Lists.{Up, up-none, up-ascending, up-insert, up-kept, insert-has, insert-keeps, insert-back, kept-has, kept-back, among-none}
 

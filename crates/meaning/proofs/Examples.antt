@@ -1,6 +1,5 @@
 -- The examples of document 01 that speak of meaning, sums, depth and B hold, by computing them. Assumes nothing.
-use mathlib.Core.Path.{_≡_, refl}
-use mathlib.Core.List.{[], _∷_}
+use mathlib.Core.Path.{refl}
 use Rattle.sets.specs.Columns.{units, cnot}
 use Rattle.gates.specs.Layout.{packed, kindIn, aIn, bIn, cnotOf, rotationOf, gateOf}
 use Rattle.circuit.specs.Circuit.{step, run, start, finalOf, gives, given, sumOf}

@@ -1,24 +1,23 @@
 -- The table of sums holds the meaning: after one rotation more it is the table of one gate more, or it is full. Assumes nothing.
-use mathlib.Core.Path.{_≡_, refl, sym, ap, ap₂, _∙_, subst}
+use mathlib.Core.Path.{_≡_, refl, sym, ap, ap₂, _∙_}
 use mathlib.Core.Logic.{_≢_, _⊎_, inl, inr, ⊎-elim}
 use mathlib.Core.Bool.{Bool, true, false}
 use mathlib.Core.List.{List, [], _∷_, _++_, map, append-assoc}
-use Prim.Native.Nat.{ℕ, zero, suc, _+_, _-_, _*_, _%_, _≤_, _<_, zero-le, suc-le-suc}
+use Prim.Native.Nat.{ℕ, zero, suc, _+_, _-_, _%_, _≤_, _<_, zero-le, suc-le-suc}
 use native.Mathlib.Nat.{le-of-suc-le-suc, not-suc-le-zero, zero-lt-suc}
 use native.Mathlib.Omega.{arith}
-use native.Mathlib.Decide.{ℕ-discrete, decLt, decLe}
-use native.Mathlib.Numerals.{add-one}
-use lib.Dec.{eqb, ltb, leb}
-use lib.ListN.{length, getD, set, take, drop, replicate, length-append, length-map, length-set, length-take, length-drop, length-replicate, List·getD-append, List·getD-map}
-use lib.Seq.{ext-getD, getD-set-same, getD-set-other, set-append-left, take-append-le, drop-append-le, take-append-seam, drop-append-add, length-take-le}
-use borrow.Author.Tests.{leb-true, leb-false, ltb-true, ltb-false, eqb-true, eqb-false}
-use Rattle.sets.specs.Pick.{pick, either, both}
+use native.Mathlib.Decide.{ℕ-discrete, decLt}
+use lib.Dec.{leb}
+use lib.ListN.{length, getD, set, take, drop, replicate, length-append, length-map, length-set, length-take, length-drop, length-replicate, List·getD-append}
+use lib.Seq.{ext-getD, getD-set-same, getD-set-other, set-append-left, take-append-le, drop-append-le, take-append-seam, drop-append-add}
+use borrow.Author.Tests.{leb-true, leb-false}
+use Rattle.sets.specs.Pick.{pick, either}
 use Rattle.sets.proofs.Finding.{first-true, first-before}
 use Rattle.gates.specs.declared.gate.Gate.{Gate}
-use Rattle.gates.specs.declared.gate.Gate.the-variants.{Cnot, Rotation, Bad}
+use Rattle.gates.specs.declared.gate.Gate.the-variants.{Rotation}
 use Rattle.table.specs.declared.sums.Sums.{Sums}
-use Rattle.circuit.specs.Circuit.{run, start, gives, given, sumOf}
-use Rattle.meaning.specs.Borne.{insert, borne, sumsOf, Ascending, Among}
+use Rattle.circuit.specs.Circuit.{run, start, given, sumOf}
+use Rattle.meaning.specs.Borne.{insert, borne, sumsOf, Ascending}
 use Rattle.table.specs.Table.{padded, Added, stopsAt, rankOf, putIn, movedIn, heldAt, grownAt, newAt, addedTo}
 use Rattle.meaning.specs.Told.{tableOf}
 use Rattle.circuit.proofs.Steps.{gives-borne, gives-other}

@@ -1,15 +1,15 @@
 -- Feeding gates one by one tells the meaning of the list, up to the gate that brings the 257th parity. Assumes nothing.
-use mathlib.Core.Path.{_≡_, refl, sym, ap, ap₂, _∙_, subst}
+use mathlib.Core.Path.{_≡_, refl, sym, ap, ap₂, _∙_}
 use mathlib.Core.Bool.{Bool, true, false}
-use mathlib.Core.List.{List, [], _∷_, _++_, map}
+use mathlib.Core.List.{List, [], _∷_, _++_}
 use Prim.Native.Nat.{ℕ, zero, suc, _+_, _-_, _%_, _≤_, _<_}
 use native.Mathlib.Nat.{not-suc-le-zero, le-of-suc-le-suc}
 use native.Mathlib.Omega.{arith}
 use native.Mathlib.Numerals.{add-one}
 use lib.Dec.{ltb}
 use lib.ListN.{length, getD, take, replicate, length-map}
-use lib.Seq.{take-suc, take-all}
-use borrow.Author.Tests.{lt-ltb, le-ltb, ltb-true, ltb-false}
+use lib.Seq.{take-suc}
+use borrow.Author.Tests.{ltb-true, ltb-false}
 use Rattle.sets.specs.Pick.{pick}
 use Rattle.sets.specs.Search.{firstOf}
 use Rattle.sets.proofs.Finding.{first-all, first-here, first-next, first-end}
@@ -21,7 +21,7 @@ use Rattle.meaning.specs.declared.told.Meaning.{Meaning}
 use Rattle.meaning.specs.declared.told.Told.{Told}
 use Rattle.gates.specs.Layout.{gateOf, gatesOf}
 use Rattle.circuit.specs.Circuit.{step, run, start, given, sumOf}
-use Rattle.meaning.specs.Borne.{bears, borne, borneFrom, sumsOf, overAt}
+use Rattle.meaning.specs.Borne.{borne, borneFrom, sumsOf, overAt}
 use Rattle.table.specs.Table.{padded, Added, tabled, addedTo}
 use Rattle.meaning.specs.Told.{Fed, fedMeaning, tableOf, meaningOf, toldOf}
 use Rattle.circuit.specs.State.{fedWires, wiresOf}

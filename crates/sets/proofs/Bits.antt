@@ -1,7 +1,6 @@
 -- The bits of a number, and of xor, and, or: a law of sets is shown bit by bit (`ext`). Assumes nothing.
 use mathlib.Core.Path.{_≡_, refl, sym, ap, _∙_}
 use mathlib.Core.Logic.{_≢_, _⊎_, inl, inr}
-use mathlib.Core.Bool.{Bool, true, false}
 use Prim.Native.Nat.{ℕ, zero, suc, _+_, _*_, _/_, _%_, _^_, _≤_, _<_, suc-le-suc, max}
 use native.Mathlib.Nat.{le-of-suc-le-suc, zero-lt-suc, mod-lt, pow-suc}
 use native.Mathlib.Omega.{arith}

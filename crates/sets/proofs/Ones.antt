@@ -1,13 +1,13 @@
 -- The number of members, the lowest member, and sets of one member. Assumes nothing.
-use mathlib.Core.Path.{_≡_, refl, sym, ap, ap₂, _∙_, subst}
-use mathlib.Core.Logic.{_≢_, _⊎_, inl, inr}
-use Prim.Native.Nat.{ℕ, zero, suc, _+_, _*_, _/_, _%_, _^_, _≤_, _<_, suc-le-suc}
+use mathlib.Core.Path.{_≡_, refl, sym, ap, _∙_}
+use mathlib.Core.Logic.{_≢_}
+use Prim.Native.Nat.{ℕ, zero, suc, _*_, _/_, _%_, _^_, _<_, suc-le-suc}
 use native.Mathlib.Nat.{le-of-suc-le-suc, not-suc-le-zero, zero-lt-suc, mod-lt, pow-suc}
 use native.Mathlib.Omega.{arith}
 use lib.Arith.{bin-ind, lt-one}
 use lib.Bits.{bitXor, xor-zero-r}
 use lib.Count.{ones, ones-step, trailingZeros, under}
-use Rattle.sets.specs.Bit.{bit, In, Sub}
+use Rattle.sets.specs.Bit.{bit, In}
 use Rattle.sets.proofs.Bits.{bit-zero, bit-suc, bit-xor, xor-low, xor-half, xor-cancel, pow-half, pow-even, bit-pow-same}
 
 pub ones-zero : (n : ℕ) → ones n ≡ 0 → n ≡ 0

@@ -2,7 +2,6 @@
 ghost use mathlib.Core.Path.{_≡_};
 ghost use Rattle.sets.specs.Bit.{has};
 ghost use Rattle.sets.specs.Size.{sizeOf, lowestOf, singleOf, onlyOf};
-ghost use Rattle.sets.specs.Columns.{turn, dot};
 
 // How many qubits x has.
 pub fn size(x: u32) -> usize

@@ -1,8 +1,6 @@
 -- An island's own as the code holds it.
-use mathlib.Core.Bool.{Bool}
 use mathlib.Core.List.{List}
 use Prim.Native.Nat.{ℕ}
-use lib.Bits.{bitAnd}
 use lib.ListN.{getD}
 use Rattle.sets.specs.Pick.{pick}
 use Rattle.gates.specs.Limits.{mostParities}

@@ -1,23 +1,22 @@
 -- The tests of connected sets, and what the crates above use: a spare member, a neighbour. Assumes nothing.
 use mathlib.Core.Path.{_≡_, refl, sym, ap, _∙_, subst}
-use mathlib.Core.Logic.{_≢_, _⊎_, inl, inr}
+use mathlib.Core.Logic.{_≢_}
 use mathlib.Core.Bool.{Bool, true, false}
 use mathlib.Core.List.{List}
-use Prim.Native.Nat.{ℕ, zero, suc, _+_, _^_, _≤_, _<_}
+use Prim.Native.Nat.{ℕ, _^_, _≤_, _<_}
 use native.Mathlib.Nat.{lt-of-lt-of-le}
 use native.Mathlib.Omega.{arith}
-use native.Mathlib.Decide.{ℕ-discrete, decLe}
+use native.Mathlib.Decide.{ℕ-discrete}
 use lib.Dec.{eqb}
 use lib.Bits.{bitXor, xor-lt}
 use lib.Pow.{pow-lt, pow-mono}
 use lib.Count.{ones, ones-le}
 use borrow.Author.Tests.{eq-eqb, ne-eqb, eqb-true}
 use Rattle.sets.specs.Pick.{both, either}
-use Rattle.sets.specs.Bit.{bit, has, In, Sub}
+use Rattle.sets.specs.Bit.{has, In}
 use Rattle.sets.specs.Size.{lowestOf}
 use Rattle.sets.proofs.Bits.{bit-of-zero}
-use Rattle.sets.proofs.Members.{in-lt, put-other}
-use Rattle.sets.proofs.Ones.{ones-zero, ones-of-zero, ones-drop}
+use Rattle.sets.proofs.Members.{in-lt}
 use Rattle.sets.proofs.Words.{has-true, in-has, lowest-in}
 use Rattle.chip.specs.Graph.{Near, Symm, Joined, closure}
 use Rattle.spares.specs.Spare.{reachOf, connectedOf, spareOf}

@@ -1,14 +1,14 @@
 -- Keeping the entries whose sum is not 0. Assumes nothing.
 use mathlib.Core.Path.{_≡_, refl, sym, ap, ap₂, _∙_}
-use mathlib.Core.Logic.{_≢_, _⊎_, inl, inr}
+use mathlib.Core.Logic.{_≢_}
 use mathlib.Core.Bool.{Bool, true, false}
 use mathlib.Core.List.{List, [], _∷_, _++_, map, append-assoc, append-nil}
-use Prim.Native.Nat.{ℕ, zero, suc, _+_, _-_, _≤_, _<_}
+use Prim.Native.Nat.{ℕ, suc, _+_, _-_, _≤_, _<_}
 use native.Mathlib.Omega.{arith}
 use native.Mathlib.Numerals.{add-one}
 use lib.Dec.{eqb}
-use lib.ListN.{length, getD, set, take, drop, replicate, length-append, length-map, length-take}
-use lib.Seq.{take-suc, take-all, take-take, getD-take, take-append-seam, length-take-le, set-at}
+use lib.ListN.{length, getD, set, take, replicate, length-append, length-take}
+use lib.Seq.{take-suc, take-all, getD-take, take-append-seam, length-take-le, set-at}
 use borrow.Author.Tests.{eq-eqb, ne-eqb}
 use Rattle.sets.specs.Pick.{pick}
 use Rattle.table.specs.declared.sums.Sums.{Sums}

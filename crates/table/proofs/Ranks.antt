@@ -2,13 +2,13 @@
 use mathlib.Core.Path.{_≡_, refl, sym, ap, _∙_}
 use mathlib.Core.Bool.{Bool, true, false}
 use mathlib.Core.List.{List}
-use Prim.Native.Nat.{ℕ, _+_, _≤_, _<_, zero-le}
+use Prim.Native.Nat.{ℕ, _≤_, _<_, zero-le}
 use native.Mathlib.Omega.{arith}
 use native.Mathlib.Nat.{le-refl}
-use lib.Dec.{ltb, eqb}
+use lib.Dec.{ltb}
 use lib.ListN.{getD}
 use borrow.Author.Tests.{lt-ltb, le-ltb, le-leb, lt-leb, eq-eqb, ne-eqb, ltb-true, ltb-false}
-use Rattle.sets.specs.Pick.{pick, both}
+use Rattle.sets.specs.Pick.{pick}
 use Rattle.sets.proofs.Finding.{first-before}
 use Rattle.table.specs.declared.sums.Sums.{Sums}
 use Rattle.table.specs.Table.{Added, stopsAt, rankOf, heldAt, grownAt, newAt, addedAt, addedTo}

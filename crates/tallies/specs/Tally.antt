@@ -1,6 +1,6 @@
 -- Counts, depth and the bound of a list of gates (document 01, "Records and refusals").
 use mathlib.Core.List.{List, [], _∷_}
-use Prim.Native.Nat.{ℕ, zero, suc, _+_, _-_, _*_, max}
+use Prim.Native.Nat.{ℕ, suc, _+_, _-_, _*_, max}
 use lib.ListN.{getD, set, replicate}
 use Rattle.gates.specs.Limits.{mostQubits}
 use Rattle.gates.specs.declared.gate.Gate.{Gate}

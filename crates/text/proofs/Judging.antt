@@ -1,5 +1,5 @@
 -- The writer's tests: the first refusal decides, and an acceptance passed them all. Assumes nothing.
-use mathlib.Core.Path.{_≡_, refl, sym, ap, _∙_}
+use mathlib.Core.Path.{_≡_, refl, _∙_}
 use mathlib.Core.Bool.{Bool, true, false}
 use mathlib.Core.List.{List}
 use Prim.Native.Nat.{ℕ, _≤_}
@@ -9,7 +9,6 @@ use lib.ListN.{length}
 use borrow.Author.Tests.{eqb-true, eq-eqb, ne-eqb, leb-true}
 use Rattle.sets.specs.Pick.{pick}
 use Rattle.verdicts.specs.Verdicts.{numberOf, judgedQubits, judgedCouplers, judgedGates}
-use Rattle.verdicts.specs.declared.verdict.Verdict.{Verdict}
 use Rattle.verdicts.specs.declared.verdict.Verdict.the-variants.{Accepted, Room}
 use Rattle.verdicts.specs.InOrder.{andThen}
 use Rattle.verdicts.proofs.Judged.{then-on, then-stop, then-zero}

@@ -1,11 +1,10 @@
 -- What the two ways and their closings leave in memory, for one island's own. Assumes nothing.
-use mathlib.Core.Path.{_≡_, refl, sym, ap, ap₂, _∙_, subst}
+use mathlib.Core.Path.{_≡_, refl, sym, ap, ap₂, _∙_}
 use mathlib.Core.Bool.{Bool, true, false}
-use mathlib.Core.List.{List, [], _∷_, _++_}
-use Prim.Native.Nat.{ℕ, _+_, _≤_, _<_, max, min}
+use mathlib.Core.List.{List, _++_}
+use Prim.Native.Nat.{ℕ, _+_, _≤_, _<_}
 use native.Mathlib.Omega.{arith}
-use lib.Dec.{ltb}
-use lib.ListN.{length, take, replicate, length-replicate}
+use lib.ListN.{length, take, replicate}
 use lib.Seq.{length-take-le}
 use borrow.Author.Tests.{lt-ltb, le-ltb}
 use Rattle.sets.specs.Pick.{pick}
@@ -19,7 +18,7 @@ use Rattle.steps.specs.declared.Laid.{Laid}
 use Rattle.steps.specs.declared.Laid.the-variants.{On, Stuck}
 use Rattle.share.specs.declared.own.Own.{Own}
 use Rattle.ways.specs.Ways.{withClosing, shorter, islandLaid}
-use Rattle.ways.specs.Memory.{Fine, parities, angles, stepsOwn, nearestOwn, closedBy, pieceOwn, memoryAt, answerAt}
+use Rattle.ways.specs.Memory.{Fine, stepsOwn, nearestOwn, closedBy, pieceOwn, memoryAt, answerAt}
 use Rattle.ways.proofs.Replaying.{count-back, gates-back}
 
 abbrev zeros : List ℕ

@@ -1,5 +1,4 @@
 -- What is laid for one island's own, and the lent memory behind it.
-use mathlib.Core.Bool.{Bool}
 use mathlib.Core.List.{List, _++_}
 use Prim.Native.Nat.{ℕ, _≤_}
 use lib.ListN.{length, take}

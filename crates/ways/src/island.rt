@@ -6,7 +6,6 @@ use gates::job::Job;
 use share::own::Own;
 use steps::Laid;
 ghost use mathlib.Core.Path.{_≡_};
-ghost use lib.ListN.{length};
 ghost use Rattle.gates.specs.Layout.{gatesOf};
 ghost use Rattle.emitting.specs.Emit.{emit, emitAt};
 ghost use Rattle.ways.specs.Memory.{Fine, closedBy, stepsOwn, nearestOwn, pieceOwn, answerAt, memoryAt};

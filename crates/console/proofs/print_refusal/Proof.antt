@@ -1,7 +1,5 @@
 -- `console::print_refusal` meets its contract. Assumes nothing.
 use mathlib.Core.Path.{ap₂}
-use mathlib.Core.List.{List}
-use Prim.Native.Nat.{ℕ}
 use Rattle.lines.specs.Lines.{refusalText}
 use Rattle.console.specs.Printed.{refusalOf}
 use Rattle.console.proofs.Choosing.{prints-same}

@@ -1,6 +1,5 @@
 -- `nearest::all_rounds` meets its contract: the rounds left lead to the same memory. Assumes nothing.
 use mathlib.Core.Path.{_≡_, refl, _∙_}
-use Prim.Native.Nat.{_-_}
 use lib.ListN.{length}
 use Rattle.columns.specs.Pieces.{wrote}
 use Rattle.nearest.specs.Nearest.{rounds}

@@ -3,7 +3,6 @@ use mathlib.Core.Path.{refl}
 use native.Mathlib.Omega.{arith}
 use lib.Count.{trailing-le}
 use Rattle.sets.specs.Size.{lowestOf}
-use borrow.Author.Needs.{needs}
 use Rattle.sets.proofs.lowest.Statement.{statement}
 use Rattle.sets.proofs.lowest.Tie as tie
 

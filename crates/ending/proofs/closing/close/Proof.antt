@@ -1,7 +1,6 @@
 -- `ending::closing::close` meets its contract. Assumes nothing.
-use mathlib.Core.Path.{sym, ap, _∙_}
+use mathlib.Core.Path.{sym, _∙_}
 use Rattle.gates.specs.Layout.{gatesOf}
-use Rattle.emitting.specs.Emit.{emit, emitAt}
 use Rattle.ending.proofs.Writing.{written-both, written-same}
 use Rattle.ending.proofs.Recursion.{closing-back, closing-onward}
 use borrow.Author.Needs.{needs}

@@ -1,5 +1,5 @@
 -- `ending::closing::cnots` meets its contract: the CNOTs counted and those to come. Assumes nothing.
-use mathlib.Core.Path.{_≡_, refl}
+use mathlib.Core.Path.{_≡_}
 use Prim.Native.Nat.{_≤_, _+_, _-_}
 use lib.ListN.{length, drop}
 use Rattle.gates.specs.Layout.{gatesOf}

@@ -1,5 +1,5 @@
 -- `ending::closing::put_back` meets its contract: the CNOTs written and those of the records in front. Assumes nothing.
-use mathlib.Core.Path.{_≡_, refl, sym, _∙_}
+use mathlib.Core.Path.{_≡_, refl, _∙_}
 use Prim.Native.Nat.{_≤_}
 use lib.ListN.{length, take}
 use Rattle.gates.specs.Layout.{gatesOf}

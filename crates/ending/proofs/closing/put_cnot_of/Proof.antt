@@ -1,6 +1,6 @@
 -- `ending::closing::put_cnot_of` meets its contract. Assumes nothing.
 use mathlib.Core.Path.{sym, ap, _∙_}
-use mathlib.Core.List.{List, [], _∷_}
+use mathlib.Core.List.{[], _∷_}
 use Rattle.gates.specs.declared.gate.Gate.{Gate}
 use Rattle.emitting.specs.Emit.{emit, emitAt}
 use Rattle.ending.specs.Closing.{backOf}

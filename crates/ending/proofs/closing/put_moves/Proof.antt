@@ -1,5 +1,5 @@
 -- `ending::closing::put_moves` meets its contract: the moves written and those to come. Assumes nothing.
-use mathlib.Core.Path.{_≡_, refl, sym, _∙_}
+use mathlib.Core.Path.{_≡_, refl, _∙_}
 use Prim.Native.Nat.{_≤_, _-_}
 use lib.ListN.{length}
 use Rattle.gathering.specs.Gather.{cnotsIn}

@@ -1,5 +1,5 @@
 -- `ending::mirror::mirrored` meets its contract: the rows so far, and then the gates that are left. Assumes nothing.
-use mathlib.Core.Path.{_≡_, refl, ap}
+use mathlib.Core.Path.{_≡_}
 use Prim.Native.Nat.{_≤_, _-_}
 use lib.ListN.{length, drop}
 use Rattle.gates.specs.Layout.{gatesOf}

@@ -1,7 +1,7 @@
 -- `ending::rows::fed` meets its contract. Assumes nothing.
 use mathlib.Core.Path.{sym, ap, ap₂, _∙_}
 use mathlib.Core.Bool.{Bool}
-use mathlib.Core.List.{List, [], _∷_}
+use mathlib.Core.List.{[], _∷_}
 use Rattle.gates.specs.declared.gate.Gate.{Gate}
 use Rattle.ending.specs.Rows.{played, seen}
 use Rattle.ending.proofs.Playing.{fed-rotation, fed-bad}

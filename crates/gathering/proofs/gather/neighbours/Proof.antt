@@ -1,6 +1,5 @@
 -- `gathering::gather::neighbours` meets its contract. Assumes nothing.
 use mathlib.Core.Path.{sym}
-use native.Mathlib.Omega.{arith}
 use lib.ListN.{List·getD-eq-default}
 use borrow.Author.Needs.{needs}
 use Rattle.gathering.proofs.gather.neighbours.Statement.{statement}

@@ -1,5 +1,4 @@
 -- `laying::lay::counted` meets its contract. Assumes nothing.
-use mathlib.Core.Path.{sym}
 use lib.ListN.{length-map}
 use Rattle.laying.specs.Verdict.{countsOf}
 use Rattle.gates.specs.Layout.{gateOf}

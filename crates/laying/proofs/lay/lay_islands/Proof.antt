@@ -1,5 +1,5 @@
 -- `laying::lay::lay_islands` meets its contract: each island is laid at its lowest qubit. Assumes nothing.
-use mathlib.Core.Path.{sym, ap, _∙_}
+use mathlib.Core.Path.{sym, _∙_}
 use mathlib.Core.Logic.{⊎-elim}
 use Prim.Native.Nat.{_-_}
 use Rattle.laying.proofs.Walking.{Walked, walked-none, walked-moved, walked-all, walked-not, walked-led, walked-stuck, handed-fine}

@@ -2,7 +2,6 @@
 use mathlib.Core.Path.{ap, _∙_}
 use mathlib.Core.List.{List}
 use Prim.Native.Nat.{ℕ}
-use Rattle.table.specs.declared.sums.Sums.{Sums}
 use Rattle.table.specs.Table.{termsIn}
 use Rattle.share.specs.OwnTable.{ownTable}
 use borrow.Author.Needs.{needs}

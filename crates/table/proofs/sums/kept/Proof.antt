@@ -1,7 +1,6 @@
 -- `table::sums::kept` meets its contract. Assumes nothing.
 use mathlib.Core.Logic.{⊎-elim}
 use Prim.Native.Nat.{_-_}
-use native.Mathlib.Omega.{arith}
 use Rattle.table.proofs.Keeping.{Keeping, keeping-none, keeping-past, keeping-drop, keeping-take, keeping-all}
 use borrow.Author.Needs.{needs}
 use Rattle.table.proofs.sums.kept.Statement.{statement}

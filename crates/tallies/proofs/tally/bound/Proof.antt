@@ -1,7 +1,6 @@
 -- `tallies::tally::bound` meets its contract. Its numbers are small enough that no product wraps. Assumes nothing.
 use native.Mathlib.Omega.{arith}
-use mathlib.Core.Path.{_≡_, ap}
-use Prim.Native.Nat.{ℕ, _-_, _*_}
+use Prim.Native.Nat.{_-_, _*_}
 use Rattle.tallies.specs.Tally.{boundOf}
 use Rattle.tallies.proofs.Tallies.{bound-none, product-le}
 use borrow.Author.Needs.{needs}

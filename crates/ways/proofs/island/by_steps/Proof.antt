@@ -1,5 +1,5 @@
 -- `ways::island::by_steps` meets its contract: what was laid is read back as it is closed. Assumes nothing.
-use mathlib.Core.Path.{ap, sym, _∙_}
+use mathlib.Core.Path.{ap, _∙_}
 use mathlib.Core.List.{List}
 use Rattle.gates.specs.declared.gate.Gate.{Gate}
 use Rattle.emitting.specs.Emit.{emit, emitAt}

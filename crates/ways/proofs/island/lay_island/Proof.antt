@@ -1,7 +1,5 @@
 -- `ways::island::lay_island` meets its contract: the shorter list is read back and laid. Assumes nothing.
-use mathlib.Core.Path.{_∙_}
 use native.Mathlib.Omega.{arith}
-use lib.ListN.{length}
 use Rattle.ways.specs.Memory.{stepsOwn, nearestOwn, closedBy, pieceOwn}
 use Rattle.ways.proofs.Owned.{part-fits, part-long, part-gates, part-count, first-count, first-memory, first-on, first-stuck, laid-on, piece-first, piece-second, memory-stuck, answer-stuck}
 use borrow.Author.Needs.{needs}

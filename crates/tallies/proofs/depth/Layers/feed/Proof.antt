@@ -1,7 +1,5 @@
 -- `tallies::depth::Layers::feed` meets its contract, gate by gate. Assumes nothing.
 use mathlib.Core.Path.{sym, ap, _∙_}
-use mathlib.Core.List.{List}
-use Prim.Native.Nat.{ℕ}
 use Rattle.gates.specs.declared.gate.Gate.{Gate}
 use Rattle.tallies.specs.Tally.{layered}
 use borrow.Author.Needs.{needs}
