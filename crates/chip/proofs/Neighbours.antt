@@ -27,7 +27,7 @@ use Rattle.verdicts.specs.declared.verdict.Verdict.the-variants.{Accepted, Many
 use Rattle.gates.proofs.Records.{kind-packed, a-packed, b-packed}
 use Rattle.chip.specs.Graph.{Near, Symm}
 use Rattle.chip.specs.Couplers.{linkOf, addOf, addAll, nearOf, Chip}
-use Rattle.chip.proofs.Tests.{never}
+use Rattle.sets.proofs.Deciding.{never}
 
 -- ---- what a record says
 

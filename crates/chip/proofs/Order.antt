@@ -17,7 +17,8 @@ use Rattle.gates.specs.Layout.{packed}
 use Rattle.chip.specs.declared.couplers.Ordered.{Ordered}
 use Rattle.chip.specs.Graph.{Near}
 use Rattle.chip.specs.Ordered.{pairOf, pairAt, orderedFrom, orderedList, orderedOf}
-use Rattle.chip.proofs.Tests.{both-true, never}
+use Rattle.sets.proofs.Deciding.{both-true, never}
+use Rattle.sets.proofs.Finding.{sub-suc}
 
 pub pair-true : (x a b : ℕ) → pairOf x a b ≡ true → (a < b) × (bit x b ≡ 1)
 unfolding pairOf
@@ -225,9 +226,6 @@ writing-none near = record {
       ∙ ap (λ (l : List ℕ). orderedFrom near 400 0 ++ l) (drop-replicate (0 + length (orderedFrom near 400 0)) 190 ∙ ap (λ (k : ℕ). replicate (190 - k) 0) (zero-add (length (orderedFrom near 400 0))));
   count = omega arith;
 }
-
-sub-suc : (n r : ℕ) → r < n → n - r ≡ suc (n - (r + 1))
-sub-suc n r h = omega arith
 
 module _ (near : List ℕ) (k : ℕ) (records : List ℕ) (len : ℕ) (h : k < 400) (w : Writing near k records len) where
   pub writing-with : (x : ℕ) → x ≡ recordAt near k → Here near k ≡ true → Writing near (k + 1) (set records len x) (len + 1)

@@ -16,6 +16,7 @@ use Rattle.sets.proofs.Members.{sub-eq}
 use Rattle.sets.proofs.Words.{has-true, has-false}
 use Rattle.chip.specs.Graph.{nbrs, grow, closure}
 use Rattle.chip.proofs.Closure.{closure-in, closure-keeps}
+use Rattle.sets.proofs.Finding.{sub-suc, sub-none}
 
 or-assoc : (a b c : ℕ) → bitOr (bitOr a b) c ≡ bitOr a (bitOr b c)
 or-assoc a b c = ext (bitOr (bitOr a b) c) (bitOr a (bitOr b c)) (λ i. simp bit-or (omega arith))
@@ -56,12 +57,6 @@ unfolding nbrs
 nbrs-end near S u all h = ap (λ (l : List ℕ). bitOr all (nbrs (S / 2 ^ u) l)) (drop-of-length-le near h) ∙ or-zero-r all
 
 -- ---- the closure
-
-sub-suc : (n r : ℕ) → r < n → n - r ≡ suc (n - (r + 1))
-sub-suc n r h = omega arith
-
-sub-none : (n r : ℕ) → n ≤ r → n - r ≡ 0
-sub-none n r h = omega arith
 
 module _ (near : List ℕ) (Q : ℕ) where
   closure-step : (k S : ℕ) → closure near Q (suc k) S ≡ closure near Q k (grow near Q S)

@@ -1,6 +1,5 @@
 -- Tests and the facts that they decide, and where neighbours are. Assumes nothing.
-use mathlib.Core.Path.{_≡_, refl, sym, ap, _∙_}
-use mathlib.Core.Logic.{_⊎_, inl, inr}
+use mathlib.Core.Path.{_≡_, refl, ap}
 use mathlib.Core.Bool.{Bool, true, false}
 use mathlib.Core.List.{List}
 use Prim.Native.Nat.{ℕ, _≤_, _<_}
@@ -9,34 +8,16 @@ use native.Mathlib.Decide.{decLt}
 use lib.Dec.{ltb}
 use lib.ListN.{length, List·getD-eq-default}
 use borrow.Author.Tests.{ltb-true, ltb-false}
-use Rattle.sets.specs.Pick.{both, either}
 use Rattle.sets.specs.Bit.{bit}
 use Rattle.sets.specs.Search.{firstOf, someOf}
 use Rattle.sets.proofs.Bits.{bit-of-zero}
 use Rattle.sets.proofs.Finding.{first-true, first-before}
 use Rattle.chip.specs.Graph.{Near}
-
--- two tests are equal where each is true with the other
-pub same-test : (a b : Bool) → (a ≡ true → b ≡ true) → (b ≡ true → a ≡ true) → a ≡ b
-same-test true b f g = sym (f refl)
-same-test false true f g = g refl
-same-test false false f g = refl
-
-pub both-true : (a b : Bool) → both a b ≡ true → (a ≡ true) × (b ≡ true)
-both-true true b e = (refl, e)
-both-true false true e = (e, refl)
-both-true false false e = (e, e)
-
-pub either-true : (a b : Bool) → either a b ≡ true → (a ≡ true) ⊎ (b ≡ true)
-either-true true b e = inl refl
-either-true false b e = inr e
+use Rattle.sets.proofs.Deciding.{never}
 
 pub some-true : (f : ℕ → Bool) (n : ℕ) → someOf f n ≡ true → (u : ℕ) × (u < n) × (f u ≡ true)
 unfolding someOf
 some-true f n e = let h : firstOf f n 0 < n = ltb-true (firstOf f n 0) n e in (firstOf f n 0, h, first-true f n 0 (omega arith))
-
-pub never : {x : Bool} → x ≡ true → x ≡ false → ⊥
-never a b = let z : _≡_ {A = Bool} true false = sym a ∙ b in let y : _≡_ {A = ℕ} 0 1 = cc in omega arith
 
 pub some-of : (f : ℕ → Bool) (n u : ℕ) → u < n → f u ≡ true → someOf f n ≡ true
 unfolding someOf
@@ -55,18 +36,6 @@ near-low near u v len n = go (decLt u 20)
     go (no h) =
         let far : 20 ≤ u = omega arith in
         absurd (omega (arith, ap (λ (x : ℕ). bit x v) (List·getD-eq-default near 0 {n = u} (omega arith)), bit-of-zero v))
-
-pub both-yes : (a b : Bool) → a ≡ true → b ≡ true → both a b ≡ true
-both-yes true b p q = q
-both-yes false b p q = p
-
-pub both-no : (a b : Bool) → b ≡ false → both a b ≡ false
-both-no true b q = q
-both-no false b q = refl
-
-pub both-not : (a b : Bool) → a ≡ false → both a b ≡ false
-both-not true b p = absurd (never refl p)
-both-not false b p = refl
 
 -- a search finds where there is something to find
 pub first-some : (f : ℕ → Bool) (n u : ℕ) → u < n → f u ≡ true → firstOf f n 0 < n

@@ -1,10 +1,10 @@
 -- Lists of gates: the wires and the sums of a concatenation. Assumes nothing.
 use mathlib.Core.Path.{_≡_, refl, ap, _∙_}
 use mathlib.Core.List.{List, [], _∷_, _++_}
-use Prim.Native.Nat.{ℕ, _+_, _%_}
+use Prim.Native.Nat.{ℕ, _+_, _%_, _^_, _<_}
 use native.Mathlib.Omega.{arith}
 use lib.ListN.{length, getD}
-use Rattle.sets.proofs.Comb.{length-units}
+use Rattle.sets.proofs.Comb.{length-units, getD-units}
 use Rattle.gates.specs.declared.gate.Gate.{Gate}
 use Rattle.circuit.specs.Circuit.{step, run, start, finalOf, gives, given, sumOf}
 use Rattle.circuit.proofs.Steps.{step-length}
@@ -66,3 +66,7 @@ sum-is p gs = refl
 pub sum-append : (p : ℕ) (g h : List Gate) → sumOf p (g ++ h) ≡ (sumOf p g + given p h (run g start)) % 65536
 unfolding sumOf
 sum-append p g h = ap (λ (n : ℕ). n % 65536) (given-append p g h start) ∙ omega arith
+
+pub start-at : (i : ℕ) → i < 20 → getD start i 0 ≡ 2 ^ i
+unfolding start
+start-at i h = getD-units 20 i h

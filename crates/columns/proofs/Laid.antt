@@ -1,21 +1,20 @@
 -- Columns that begin as the terms' parities and end struck off: the terms are laid. Assumes nothing.
-use mathlib.Core.Path.{_≡_, refl, sym, ap, ap₂, _∙_, subst}
+use mathlib.Core.Path.{_≡_, sym, ap, _∙_, subst}
 use mathlib.Core.Logic.{_≢_}
-use mathlib.Core.List.{List, [], _∷_}
-use Prim.Native.Nat.{ℕ, zero, suc, _-_, _*_, _/_, _%_, _^_, _≤_, _<_}
-use native.Mathlib.Nat.{suc-ne-zero, suc-inj, pow-suc, mod-lt, zero-lt-suc}
+use mathlib.Core.List.{List}
+use Prim.Native.Nat.{ℕ, zero, suc, _-_, _*_, _/_, _^_, _≤_, _<_}
+use native.Mathlib.Nat.{pow-suc}
 use native.Mathlib.Omega.{arith}
 use lib.Arith.{lt-one}
 use lib.Dec.{eqb}
 use lib.Count.{ones}
 use lib.ListN.{length, getD}
-use lib.Bits.{bitXor}
 use Rattle.sets.specs.Pick.{pick}
-use Rattle.sets.specs.Bit.{when, In, Sub}
+use Rattle.sets.specs.Bit.{In, Sub}
 use Rattle.sets.specs.Columns.{comb, units}
-use Rattle.sets.proofs.Bits.{bit-of-zero, bit-zero, bit-suc, by-bit}
+use Rattle.sets.proofs.Bits.{bit-of-zero, bit-suc}
 use Rattle.sets.proofs.Members.{in-lt, sub-eq}
-use Rattle.sets.proofs.Comb.{comb-units, getD-units, length-units}
+use Rattle.sets.proofs.Comb.{comb-units, getD-units, length-units, comb-agree}
 use Rattle.gates.specs.declared.gate.Gate.{Gate}
 use Rattle.circuit.specs.Circuit.{run}
 use Rattle.tallies.specs.Tally.{cnotsOf}
@@ -33,16 +32,6 @@ sub-below (suc n) x Q f l =
     let l2 : Q < 2 ^ n * 2 = rw pow-suc at l in
     let h : x / 2 < 2 ^ n = sub-below n (x / 2) (Q / 2) (λ i k. sym (bit-suc Q i) ∙ f (suc i) (bit-suc x i ∙ k)) (omega arith) in
     rw pow-suc (omega arith)
-
--- a column stands for a parity that only its own wires decide
-comb-agree : (W U : List ℕ) (x : ℕ) → length W ≡ length U → ((i : ℕ) → In i x → getD W i 0 ≡ getD U i 0) → comb x W ≡ comb x U
-unfolding comb
-comb-agree [] [] x e h = refl
-comb-agree [] (v ∷ vs) x e h = absurd (suc-ne-zero (length vs) (sym e))
-comb-agree (w ∷ ws) [] x e h = absurd (suc-ne-zero (length ws) e)
-comb-agree (w ∷ ws) (v ∷ vs) x e h =
-    ap₂ bitXor (by-bit (λ (b : ℕ). x % 2 ≡ b → when b w ≡ when b v) (λ z. refl) (λ z. h 0 (bit-zero x ∙ z)) (x % 2) (mod-lt x (zero-lt-suc 1)) refl)
-    (comb-agree ws vs (x / 2) (suc-inj e) (λ i k. h (suc i) (bit-suc x i ∙ k)))
 
 -- where the wires of Q stand as at the start, a column inside Q stands for itself
 pub comb-bears : (Q : ℕ) (W : List ℕ) (x : ℕ) → Q < 2 ^ 20 → length W ≡ 20 → Bears Q W → Sub x Q → comb x W ≡ x

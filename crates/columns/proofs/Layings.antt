@@ -28,7 +28,8 @@ use Rattle.columns.specs.Turning.{turnedBy, turnAll}
 use Rattle.columns.specs.Terms.{Inside, Small, due, left, liveOne, live, Laying}
 use Rattle.columns.proofs.Tabling.{sum-ext, sum-strike}
 use Rattle.columns.proofs.Turns.{turned-zero, turned-is, turn-all-length, turn-all-at}
-use Rattle.columns.proofs.Gates.{all-none, all-one, all-append, all-map, rotations-append, rotations-none, rotations-cnot, rotations-rotation}
+use Rattle.gates.proofs.Alls.{all-none, all-one, all-append, all-map}
+use Rattle.tallies.proofs.Tallies.{rotations-append, rotations-none, rotations-cnot, rotations-rotation}
 
 -- ---- what one column is due
 

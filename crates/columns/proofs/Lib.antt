@@ -3,7 +3,6 @@ pub mod Piecing
 pub mod Turns
 pub mod Strikes
 pub mod Singles
-pub mod Gates
 pub mod Layings
 pub mod Laid
 pub mod Parts

@@ -15,6 +15,7 @@ use Rattle.emitting.specs.Emit.{emit, emitAt}
 use Rattle.columns.specs.Pieces.{piece, idle, andThen, held, wrote}
 use Rattle.columns.specs.Striking.{loneAt, strikeOne, strikeRow, strikeFrom}
 use Rattle.columns.proofs.Piecing.{wrote-none, wrote-on, held-is}
+use Rattle.sets.proofs.Finding.{sub-suc}
 
 pub single-zero : singleOf 0 ≡ false
 unfolding singleOf
@@ -63,11 +64,8 @@ module _ (q : ℕ) (angles : List ℕ) (k : ℕ) (xs out : List ℕ) (at : ℕ) 
 
 -- ---- the loops
 
-one-more : (n i : ℕ) → i < n → n - i ≡ suc (n - (i + 1))
-one-more n i h = omega arith
-
-none-more : (n i : ℕ) → n ≤ i → n - i ≡ 0
-none-more n i h = omega arith
+nsub-suc : (n i : ℕ) → n ≤ i → n - i ≡ 0
+nsub-suc n i h = omega arith
 
 module _ (q : ℕ) (angles : List ℕ) where
   row-step : (d k : ℕ) (xs : List ℕ) → strikeRow (suc d) k q angles xs ≡ andThen (strikeOne q angles k xs) (λ ys. strikeRow d (k + 1) q angles ys)
@@ -78,14 +76,14 @@ module _ (q : ℕ) (angles : List ℕ) where
       → wrote out′ a (strikeRow (n - (k + 1)) (k + 1) q angles ys) ≡ wrote out at (strikeRow (n - k) k q angles xs)
   row-next n k xs out at ys out′ a h e =
       wrote-on out at (strikeOne q angles k xs) (λ ys. strikeRow (n - (k + 1)) (k + 1) q angles ys) e refl
-      ∙ ap (wrote out at) (sym (row-step (n - (k + 1)) k xs) ∙ ap (λ (d : ℕ). strikeRow d k q angles xs) (sym (one-more n k h)))
+      ∙ ap (wrote out at) (sym (row-step (n - (k + 1)) k xs) ∙ ap (λ (d : ℕ). strikeRow d k q angles xs) (sym (sub-suc n k h)))
 
   pub row-end : (n k : ℕ) (xs out : List ℕ) (at : ℕ) → n ≤ k → held xs out at false ≡ wrote out at (strikeRow (n - k) k q angles xs)
   unfolding strikeRow
-  row-end n k xs out at h = wrote-none out at xs false ∙ ap (λ (d : ℕ). wrote out at (strikeRow d k q angles xs)) (sym (none-more n k h))
+  row-end n k xs out at h = wrote-none out at xs false ∙ ap (λ (d : ℕ). wrote out at (strikeRow d k q angles xs)) (sym (nsub-suc n k h))
 
 module _ (angles : List ℕ) where
-  from-step : (d q : ℕ) (xs : List ℕ) → strikeFrom (suc d) q angles xs ≡ andThen (strikeRow (length xs) 0 q angles xs) (λ ys. strikeFrom d (q + 1) angles ys)
+  pub from-step : (d q : ℕ) (xs : List ℕ) → strikeFrom (suc d) q angles xs ≡ andThen (strikeRow (length xs) 0 q angles xs) (λ ys. strikeFrom d (q + 1) angles ys)
   unfolding strikeFrom
   from-step d q xs = refl
 
@@ -93,8 +91,8 @@ module _ (angles : List ℕ) where
       → wrote out′ a (strikeFrom (n - (q + 1)) (q + 1) angles ys) ≡ wrote out at (strikeFrom (n - q) q angles xs)
   from-next n q xs out at ys out′ a h e =
       wrote-on out at (strikeRow (length xs) 0 q angles xs) (λ ys. strikeFrom (n - (q + 1)) (q + 1) angles ys) e refl
-      ∙ ap (wrote out at) (sym (from-step (n - (q + 1)) q xs) ∙ ap (λ (d : ℕ). strikeFrom d q angles xs) (sym (one-more n q h)))
+      ∙ ap (wrote out at) (sym (from-step (n - (q + 1)) q xs) ∙ ap (λ (d : ℕ). strikeFrom d q angles xs) (sym (sub-suc n q h)))
 
   pub from-end : (n q : ℕ) (xs out : List ℕ) (at : ℕ) → n ≤ q → held xs out at false ≡ wrote out at (strikeFrom (n - q) q angles xs)
   unfolding strikeFrom
-  from-end n q xs out at h = wrote-none out at xs false ∙ ap (λ (d : ℕ). wrote out at (strikeFrom d q angles xs)) (sym (none-more n q h))
+  from-end n q xs out at h = wrote-none out at xs false ∙ ap (λ (d : ℕ). wrote out at (strikeFrom d q angles xs)) (sym (nsub-suc n q h))

@@ -10,7 +10,7 @@ use lib.Dec.{eqb}
 use lib.ListN.{length, getD, set, length-set, List·getD-eq-default}
 use lib.Seq.{getD-set-same, getD-set-other}
 use borrow.Author.Tests.{eqb-true}
-use Rattle.sets.specs.Pick.{pick, both}
+use Rattle.sets.specs.Pick.{both}
 use Rattle.sets.specs.Bit.{In, Sub}
 use Rattle.sets.specs.Size.{singleOf, lowestOf}
 use Rattle.sets.proofs.Bits.{bit-pow-same}
@@ -20,13 +20,11 @@ use Rattle.columns.specs.Pieces.{Piece, idle, andThen}
 use Rattle.columns.specs.Striking.{loneAt, strikeOne, strikeRow, strikeFrom, strikeOff}
 use Rattle.columns.specs.Terms.{Laying}
 use Rattle.columns.proofs.Piecing.{then-on}
-use Rattle.columns.proofs.Gates.{cnots-none, cnots-append, cnots-rotation}
 use Rattle.columns.proofs.Layings.{laying-none, laying-then, laying-strike}
 use Rattle.columns.proofs.Laid.{sub-below}
-use Rattle.columns.proofs.Strikes.{single-zero, strike-yes, strike-no, lone-yes}
-
-never : {x : Bool} → x ≡ true → x ≡ false → ⊥
-never a b = let z : _≡_ {A = ℕ} 0 1 = ap (λ (t : Bool). pick t 0 1) (sym a ∙ b) in omega arith
+use Rattle.columns.proofs.Strikes.{single-zero, strike-yes, strike-no, lone-yes, from-step}
+use Rattle.sets.proofs.Deciding.{never}
+use Rattle.tallies.proofs.Tallies.{cnots-none, cnots-append, cnots-rotation}
 
 lone-single : (q x : ℕ) → loneAt q x ≡ true → (singleOf x ≡ true) × (lowestOf x ≡ q)
 unfolding loneAt
@@ -175,10 +173,6 @@ module _ (near : List ℕ) (Q : ℕ) (angles : List ℕ) where
 
   -- ---- all qubits
 
-  from-step : (d q : ℕ) (xs : List ℕ) → strikeFrom (suc d) q angles xs ≡ andThen (strikeRow (length xs) 0 q angles xs) (λ ys. strikeFrom d (q + 1) angles ys)
-  unfolding strikeFrom
-  from-step d q xs = refl
-
   from-zero : (q : ℕ) (xs : List ℕ) → strikeFrom 0 q angles xs ≡ idle xs
   unfolding strikeFrom
   from-zero q xs = refl
@@ -187,13 +181,13 @@ module _ (near : List ℕ) (Q : ℕ) (angles : List ℕ) where
   strikes-from zero q xs f = subst (Strikes xs) (sym (from-zero q xs)) (strikes-idle xs)
   strikes-from (suc d) q xs f =
       let a = strikes-row (length xs) 0 q xs f in
-      subst (Strikes xs) (sym (from-step d q xs))
+      subst (Strikes xs) (sym (from-step angles d q xs))
       (strikes-then xs (strikeRow (length xs) 0 q angles xs) (λ ys. strikeFrom d (q + 1) angles ys) a (strikes-from d (q + 1) (strikeRow (length xs) 0 q angles xs .cols) (fit-after a f)))
 
   from-gone : (d q : ℕ) (xs : List ℕ) → Fit Q xs → (j : ℕ) → singleOf (getD xs j 0) ≡ true → q ≤ lowestOf (getD xs j 0) → lowestOf (getD xs j 0) < q + d → getD (strikeFrom d q angles xs .cols) j 0 ≡ 0
   from-gone zero q xs f j s l h = absurd (omega arith)
   from-gone (suc d) q xs f j s l h =
-      ap (λ (p : Piece). getD (p .cols) j 0) (from-step d q xs)
+      ap (λ (p : Piece). getD (p .cols) j 0) (from-step angles d q xs)
       ∙ ap (λ (ys : List ℕ). getD ys j 0) (then-cols xs (strikeRow (length xs) 0 q angles xs) (λ ys. strikeFrom d (q + 1) angles ys) (a .on))
       ∙ go (ℕ-discrete (lowestOf (getD xs j 0)) q) (a .each j) (from-gone d (q + 1) ys (fit-after a f) j)
     where

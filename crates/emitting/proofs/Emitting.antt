@@ -12,22 +12,13 @@ use Rattle.sets.specs.Pick.{pick}
 use Rattle.gates.specs.Layout.{recordOf}
 use Rattle.gates.specs.declared.gate.Gate.{Gate}
 use Rattle.emitting.specs.Emit.{nextAt, emit, emitAt}
+use Rattle.sets.proofs.Storing.{sets-append, map-append}
 
 -- past the end nothing is stored
 sets-past : (l : List ℕ) (i : ℕ) (vs : List ℕ) → length l ≤ i → sets l i vs ≡ l
 sets-past l i [] h = refl
 sets-past l i (v ∷ vs) h =
     ap (λ (m : List ℕ). sets m (suc i) vs) (set-out l i v h) ∙ sets-past l (suc i) vs (omega arith)
-
-sets-append : (l : List ℕ) (i : ℕ) (xs ys : List ℕ) → sets l i (xs ++ ys) ≡ sets (sets l i xs) (i + length xs) ys
-sets-append l i [] ys = let z : i ≡ i + 0 = omega arith in ap (λ k. sets l k ys) z
-sets-append l i (x ∷ xs) ys =
-    let z : suc i + length xs ≡ i + suc (length xs) = omega arith in
-    sets-append (set l i x) (suc i) xs ys ∙ ap (λ k. sets (sets (set l i x) (suc i) xs) k ys) z
-
-map-append : (g h : List Gate) → map recordOf (g ++ h) ≡ map recordOf g ++ map recordOf h
-map-append [] h = refl
-map-append (x ∷ g) h = ap (λ (r : List ℕ). recordOf x ∷ r) (map-append g h)
 
 pub emit-none : (out : List ℕ) (at : ℕ) → emit out at [] ≡ out
 unfolding emit
@@ -45,7 +36,7 @@ emit-length out at gs = length-sets out at (map recordOf gs)
 pub emit-append : (out : List ℕ) (at : ℕ) (g h : List Gate) → emit out at (g ++ h) ≡ emit (emit out at g) (emitAt out at g) h
 unfolding emit emitAt
 emit-append out at g h =
-    ap (sets out at) (map-append g h) ∙ sets-append out at (map recordOf g) (map recordOf h)
+    ap (sets out at) (map-append recordOf g h) ∙ sets-append out at (map recordOf g) (map recordOf h)
     ∙ ap (λ k. sets (sets out at (map recordOf g)) (at + k) (map recordOf h)) (length-map g recordOf)
     ∙ go (ltb (length out) (at + length g)) refl
   where

@@ -31,11 +31,9 @@ use Rattle.ending.specs.Ends.{Ready, TakesOut, Ends, last, out}
 use Rattle.ending.proofs.Turning.{flip-length, flip-within, all-played}
 use Rattle.ending.proofs.Taking.{rows-first, mirror-first}
 use Rattle.ending.proofs.Endings.{ready-taken}
+use Rattle.sets.proofs.Deciding.{never}
 
 -- ---- the least
-
-never : {x : Bool} → x ≡ true → x ≡ false → ⊥
-never a b = let z : _≡_ {A = ℕ} 0 1 = ap (λ (t : Bool). pick t 0 1) (sym a ∙ b) in omega arith
 
 module _ (ok : ℕ → Bool) (cost : ℕ → ℕ) where
   least-step : (d r b w : ℕ)

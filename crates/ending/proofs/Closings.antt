@@ -1,6 +1,5 @@
 -- The closing of an island: every wire bears what was asked, for either closing and any ending in it. Assumes nothing.
 use mathlib.Core.Path.{_≡_, refl, sym, ap, ap₂, _∙_, subst}
-use mathlib.Core.Logic.{_≢_, _⊎_, inl, inr}
 use mathlib.Core.Bool.{Bool, true, false}
 use mathlib.Core.List.{List, [], _∷_, _++_, map}
 use Prim.Native.Nat.{ℕ, _+_, _^_, _≤_, _<_}
@@ -15,10 +14,10 @@ use Rattle.sets.specs.Pick.{pick}
 use Rattle.sets.specs.Bit.{bit, In, Sub}
 use Rattle.sets.specs.Size.{sizeOf}
 use Rattle.sets.specs.Columns.{turn, comb, dot}
-use Rattle.sets.proofs.Bits.{bit-cases, bit-pow-same, xor-cancel}
+use Rattle.sets.proofs.Bits.{bit-pow-same, xor-cancel}
 use Rattle.sets.proofs.Comb.{comb-pow, comb-xor}
 use Rattle.sets.proofs.Dot.{dot-pow}
-use Rattle.sets.proofs.Turn.{turn-on, turn-off, turn-other}
+use Rattle.sets.proofs.Turn.{turn-back}
 use Rattle.sets.proofs.Members.{in-lt, sub-eq, xor-sub}
 use Rattle.chip.specs.Graph.{Symm, Joined}
 use Rattle.chip.proofs.Growth.{pow-sub}
@@ -39,25 +38,18 @@ use Rattle.ending.proofs.Choice.{ending-ends}
 
 -- ---- CNOTs in reverse undo themselves
 
-turn-twice : (x c t : ℕ) → c ≢ t → turn (turn x c t) c t ≡ x
-turn-twice x c t ne = go (bit-cases x t)
-  where
-    go : (bit x t ≡ 0) ⊎ (bit x t ≡ 1) → turn (turn x c t) c t ≡ x
-    go (inl z) = ap (λ (m : ℕ). turn m c t) (turn-off x c t z) ∙ turn-off x c t z
-    go (inr h) = turn-on (turn x c t) c t (turn-other x c t t ne ∙ h) ∙ ap (λ (m : ℕ). bitXor m (2 ^ c)) (turn-on x c t h) ∙ xor-cancel x (2 ^ c)
-
 module _ (near : List ℕ) (Q : ℕ) where
   pub back-undoes : (gs : List Gate) (x : ℕ) → Within near Q gs → turns (backOf gs) (turns gs x) ≡ x
   back-undoes [] x h = refl
   back-undoes (Cnot c t ∷ gs) x h =
-      turns-append (backOf gs) (Cnot c t ∷ []) (turns gs (turn x c t)) ∙ ap (λ (m : ℕ). turn m c t) (back-undoes gs (turn x c t) (h .1)) ∙ turn-twice x c t (h .0 .2)
+      turns-append (backOf gs) (Cnot c t ∷ []) (turns gs (turn x c t)) ∙ ap (λ (m : ℕ). turn m c t) (back-undoes gs (turn x c t) (h .1)) ∙ turn-back x c t (h .0 .2)
   back-undoes (Rotation q a ∷ gs) x h = back-undoes gs x h
   back-undoes (Bad ∷ gs) x h = back-undoes gs x h
 
   undoes-back : (gs : List Gate) (x : ℕ) → Within near Q gs → turns gs (turns (backOf gs) x) ≡ x
   undoes-back [] x h = refl
   undoes-back (Cnot c t ∷ gs) x h =
-      ap (λ (m : ℕ). turns gs (turn m c t)) (turns-append (backOf gs) (Cnot c t ∷ []) x) ∙ ap (turns gs) (turn-twice (turns (backOf gs) x) c t (h .0 .2)) ∙ undoes-back gs x (h .1)
+      ap (λ (m : ℕ). turns gs (turn m c t)) (turns-append (backOf gs) (Cnot c t ∷ []) x) ∙ ap (turns gs) (turn-back (turns (backOf gs) x) c t (h .0 .2)) ∙ undoes-back gs x (h .1)
   undoes-back (Rotation q a ∷ gs) x h = undoes-back gs x h
   undoes-back (Bad ∷ gs) x h = undoes-back gs x h
 

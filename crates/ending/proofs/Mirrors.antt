@@ -12,7 +12,7 @@ use lib.Pow.{pow-lt, pow-pos}
 use Rattle.sets.specs.Bit.{bit, when, In, Sub}
 use Rattle.sets.specs.Columns.{turn, comb, dot, cnot}
 use Rattle.sets.proofs.Bits.{bit-pow-same, bit-pow-other, bit-lt, bit-cases, bit-xor, bit-and, bit-of-zero, bit-high, zero-ext, xor-cancel}
-use Rattle.sets.proofs.Comb.{comb-turn, comb-pow, getD-units}
+use Rattle.sets.proofs.Comb.{comb-turn, comb-pow}
 use Rattle.sets.proofs.Dot.{dot-xor, dot-comm, dot-pow, dot-zero, dot-when}
 use Rattle.sets.proofs.Members.{in-lt, in-and, xor-sub, in-pow}
 use Rattle.sets.proofs.Ones.{ones-of-zero}
@@ -22,11 +22,12 @@ use Rattle.gates.specs.Layout.{Good}
 use Rattle.circuit.specs.Circuit.{step, run, start, finalOf}
 use Rattle.gates.specs.All.{All}
 use Rattle.circuit.proofs.Steps.{cnot-past-target, cnot-target, cnot-other, step-length}
-use Rattle.circuit.proofs.Circuits.{run-length, start-length, final-is}
+use Rattle.circuit.proofs.Circuits.{run-length, start-length, final-is, start-at}
 use Rattle.gathering.specs.Gather.{turns, flip}
 use Rattle.ending.specs.Mirror.{mirrorsOf, mirrorOf, Paired, Bordered, Parted}
 use Rattle.ending.specs.Ends.{Ready}
 use Rattle.gathering.proofs.OrderParts.{bits-lt}
+use Rattle.circuit.proofs.Wiring.{wires-past}
 
 pub mirror-is : (gs : List Gate) (j : ℕ) → mirrorOf gs j ≡ getD (mirrorsOf gs) j 0
 unfolding mirrorOf
@@ -90,15 +91,11 @@ paired-run (Cnot c t ∷ gs) W D lw ld g p =
 paired-run (Rotation q a ∷ gs) W D lw ld g p = paired-run gs W D lw ld (g .1) p
 paired-run (Bad ∷ gs) W D lw ld g p = absurd (g .0)
 
-at-start : (i : ℕ) → i < 20 → getD start i 0 ≡ 2 ^ i
-unfolding start
-at-start i h = getD-units 20 i h
-
 paired-start : Paired 20 start start
 paired-start =
     record {
-      one = λ i h. ap₂ dot (at-start i h) (at-start i h) ∙ dot-pow i (2 ^ i) ∙ bit-pow-same i;
-      nul = λ i j h k d. ap₂ dot (at-start i h) (at-start j k) ∙ dot-pow i (2 ^ j) ∙ bit-pow-other j i (λ e. d (sym e));
+      one = λ i h. ap₂ dot (start-at i h) (start-at i h) ∙ dot-pow i (2 ^ i) ∙ bit-pow-same i;
+      nul = λ i j h k d. ap₂ dot (start-at i h) (start-at j k) ∙ dot-pow i (2 ^ j) ∙ bit-pow-other j i (λ e. d (sym e));
     }
 
 -- "dot parity_i mirror_j = [i = j]"
@@ -138,7 +135,7 @@ spans gs g y l h = zero-ext y (λ q. at q (decLt q 20))
     at : (q : ℕ) → Dec (q < 20) → bit y q ≡ 0
     at q (yes s) =
         let W : List ℕ = run gs start in
-        let e : comb (turns gs (2 ^ q)) W ≡ 2 ^ q = comb-good gs (2 ^ q) start start-length g ∙ comb-pow start q ∙ at-start q s in
+        let e : comb (turns gs (2 ^ q)) W ≡ 2 ^ q = comb-good gs (2 ^ q) start start-length g ∙ comb-pow start q ∙ start-at q s in
         sym (dot-pow q y) ∙ ap (λ (m : ℕ). dot m y) (sym e)
         ∙ dot-comb W (turns gs (2 ^ q)) y (λ i k. ap (λ (m : ℕ). dot m y) (sym (final-is gs i)) ∙ h i (omega (arith, k, run-length gs start, start-length)))
     at q (no s) = bit-high 20 y q l (omega arith)
@@ -166,7 +163,7 @@ unfolding Small
 small-start i = at (decLt i 20)
   where
     at : Dec (i < 20) → getD start i 0 < 2 ^ 20
-    at (yes l) = subst (λ (m : ℕ). m < 2 ^ 20) (sym (at-start i l)) (pow-lt l)
+    at (yes l) = subst (λ (m : ℕ). m < 2 ^ 20) (sym (start-at i l)) (pow-lt l)
     at (no l) = subst (λ (m : ℕ). m < 2 ^ 20) (sym (List·getD-eq-default start 0 {n = i} (omega (arith, start-length)))) (pow-pos 20)
 
 pub mirror-small : (gs : List Gate) (j : ℕ) → mirrorOf gs j < 2 ^ 20
@@ -218,21 +215,13 @@ good-up n (Cnot c t ∷ gs) l g = ((omega (arith, g .0 .0), omega (arith, g .0 .
 good-up n (Rotation q a ∷ gs) l g = ((omega (arith, g .0 .0), g .0 .1), good-up n gs l (g .1))
 good-up n (Bad ∷ gs) l g = absurd (g .0)
 
--- gates on n qubits leave the wires past them
-past : (n : ℕ) (gs : List Gate) (W : List ℕ) (i : ℕ) → n ≤ i → All (Good n) gs → getD (run gs W) i 0 ≡ getD W i 0
-unfolding All Good run step
-past n [] W i l g = refl
-past n (Cnot c t ∷ gs) W i l g = past n gs (cnot c t W) i l (g .1) ∙ cnot-other c t i W (λ (e : i ≡ t). omega (arith, g .0 .1))
-past n (Rotation q a ∷ gs) W i l g = past n gs W i l (g .1)
-past n (Bad ∷ gs) W i l g = absurd (g .0)
-
 -- two lists of good gates on n qubits with the same final parities below n have the same mirror
 pub mirror-same : (n : ℕ) (g h : List Gate) → n ≤ 20 → All (Good n) g → All (Good n) h → ((i : ℕ) → i < n → finalOf g i ≡ finalOf h i) → (j : ℕ) → j < 20 → mirrorOf g j ≡ mirrorOf h j
 mirror-same n g h l gg gh e = same-mirror g h (good-up n g l gg) (good-up n h l gh) (λ i k. at i (decLt i n))
   where
     at : (i : ℕ) → Dec (i < n) → finalOf g i ≡ finalOf h i
     at i (yes k) = e i k
-    at i (no k) = final-is g i ∙ past n g start i (omega arith) gg ∙ sym (past n h start i (omega arith) gh) ∙ sym (final-is h i)
+    at i (no k) = final-is g i ∙ wires-past n g start i (omega arith) gg ∙ sym (wires-past n h start i (omega arith) gh) ∙ sym (final-is h i)
 
 -- ---- an island that no final parity leaves
 
@@ -363,11 +352,11 @@ kept-start : (Q : ℕ) → Kept Q start
 kept-start Q = record { own = λ i h k m. at i h k m (decLt i 20); others = λ i z k m. off i z k m (decLt i 20) }
   where
     at : (i : ℕ) → In i Q → (k : ℕ) → In k (getD start i 0) → Dec (i < 20) → In k Q
-    at i h k m (yes l) = ap (bit Q) (in-pow i k (sym (ap (λ (n : ℕ). bit n k) (at-start i l)) ∙ m)) ∙ h
+    at i h k m (yes l) = ap (bit Q) (in-pow i k (sym (ap (λ (n : ℕ). bit n k) (start-at i l)) ∙ m)) ∙ h
     at i h k m (no l) = absurd (omega (arith, m, ap (λ (n : ℕ). bit n k) (List·getD-eq-default start 0 {n = i} (omega (arith, start-length))), bit-of-zero k))
 
     off : (i : ℕ) → bit Q i ≡ 0 → (k : ℕ) → In k (getD start i 0) → Dec (i < 20) → bit Q k ≡ 0
-    off i z k m (yes l) = ap (bit Q) (in-pow i k (sym (ap (λ (n : ℕ). bit n k) (at-start i l)) ∙ m)) ∙ z
+    off i z k m (yes l) = ap (bit Q) (in-pow i k (sym (ap (λ (n : ℕ). bit n k) (start-at i l)) ∙ m)) ∙ z
     off i z k m (no l) = absurd (omega (arith, m, ap (λ (n : ℕ). bit n k) (List·getD-eq-default start 0 {n = i} (omega (arith, start-length))), bit-of-zero k))
 
 flip-parted : (Q : ℕ) (gs : List Gate) → Parted Q gs → Parted Q (flip gs)

@@ -2,17 +2,15 @@
 -- Assumes nothing.
 use mathlib.Core.Path.{_≡_, refl, sym, ap, ap₂, _∙_}
 use mathlib.Core.List.{List, [], _∷_, _++_, map}
-use Prim.Native.Nat.{ℕ, zero, suc, _+_, _/_, _%_, _^_, _<_}
-use native.Mathlib.Nat.{mod-lt, zero-lt-suc, suc-inj}
+use Prim.Native.Nat.{ℕ, suc, _+_, _^_, _<_}
 use native.Mathlib.Omega.{arith}
-use lib.Bits.{bitXor}
 use lib.ListN.{length, getD, List·getD-map}
-use Rattle.sets.specs.Bit.{bit, when, In, Sub}
+use Rattle.sets.specs.Bit.{bit, In, Sub}
 use Rattle.sets.specs.Columns.{turn, comb, dot, units}
-use Rattle.sets.proofs.Bits.{bit-zero, bit-suc, bit-of-zero, bit-pow-other}
+use Rattle.sets.proofs.Bits.{bit-of-zero, bit-pow-other}
 use Rattle.sets.proofs.Turn.{turn-sub, turn-off}
 use Rattle.sets.proofs.Dot.{dot-turn}
-use Rattle.sets.proofs.Comb.{comb-turn, comb-units, length-units, getD-units}
+use Rattle.sets.proofs.Comb.{comb-turn, comb-units, length-units, getD-units, comb-agree}
 use Rattle.sets.proofs.Members.{in-lt}
 use Rattle.chip.specs.Graph.{Symm}
 use Rattle.gates.specs.declared.gate.Gate.{Gate}
@@ -149,20 +147,6 @@ flip-spares v (Bad ∷ gs) h = flip-spares v gs h
 
 -- ---- wires that bear their own qubits
 
-comb-agree : (x : ℕ) (W U : List ℕ) → length W ≡ length U → ((i : ℕ) → In i x → getD W i 0 ≡ getD U i 0) → comb x W ≡ comb x U
-unfolding comb
-comb-agree x [] [] e h = refl
-comb-agree x [] (u ∷ U) e h = absurd (omega arith)
-comb-agree x (w ∷ W) [] e h = absurd (omega arith)
-comb-agree x (w ∷ W) (u ∷ U) e h =
-    ap₂ bitXor (low (x % 2) refl (mod-lt x (zero-lt-suc 1)))
-    (comb-agree (x / 2) W U (suc-inj e) (λ i k. h (suc i) (bit-suc x i ∙ k)))
-  where
-    low : (b : ℕ) → x % 2 ≡ b → b < 2 → when b w ≡ when b u
-    low zero p l = refl
-    low (suc zero) p l = h 0 (bit-zero x ∙ p)
-    low (suc (suc b)) p l = absurd (omega arith)
-
 pub comb-own : (n x : ℕ) (W : List ℕ) → length W ≡ n → x < 2 ^ n → ((i : ℕ) → In i x → getD W i 0 ≡ 2 ^ i) → comb x W ≡ x
 comb-own n x W e l h =
-    comb-agree x W (units n) (e ∙ sym (length-units n)) (λ i k. h i k ∙ sym (getD-units n i (in-lt n x i l k))) ∙ comb-units n x l
+    comb-agree W (units n) x (e ∙ sym (length-units n)) (λ i k. h i k ∙ sym (getD-units n i (in-lt n x i l k))) ∙ comb-units n x l

@@ -17,6 +17,10 @@ pub all-cons : (P : Gate → Type 0) (g : Gate) (gs : List Gate) → P g → All
 unfolding All
 all-cons P g gs h k = (h, k)
 
+pub all-one : (P : Gate → Type 0) (g : Gate) → P g → All P (g ∷ [])
+unfolding All
+all-one P g p = (p, tt)
+
 pub all-append : (P : Gate → Type 0) (g h : List Gate) → All P g → All P h → All P (g ++ h)
 unfolding All
 all-append P [] h a b = b

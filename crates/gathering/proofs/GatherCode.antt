@@ -23,6 +23,7 @@ use Rattle.gathering.specs.Order.{orderOf, orderIn}
 use Rattle.gathering.specs.Gather.{flip, movesAt, leftAt, gatherFrom, gatherOf, controlOf, targetOf, movesIn, Stepped, cnotsIn, Plain}
 use Rattle.gathering.proofs.OrderGrows.{order-few}
 use Rattle.gathering.proofs.GatherWorks.{gather-step, gather-none, moves-few, gather-few}
+use Rattle.sets.proofs.Storing.{sets-append, map-append}
 
 -- ---- one step
 
@@ -64,16 +65,6 @@ write-next l i v h = omega (arith, length-set l i v)
 
 -- ---- lists at the front of an array
 
-pub sets-append : (l : List ℕ) (i : ℕ) (xs ys : List ℕ) → sets l i (xs ++ ys) ≡ sets (sets l i xs) (i + length xs) ys
-sets-append l i [] ys = let z : i ≡ i + 0 = omega arith in ap (λ (k : ℕ). sets l k ys) z
-sets-append l i (x ∷ xs) ys =
-    let z : suc i + length xs ≡ i + suc (length xs) = omega arith in
-    sets-append (set l i x) (suc i) xs ys ∙ ap (λ (k : ℕ). sets (sets (set l i x) (suc i) xs) k ys) z
-
-map-append : (f : Gate → ℕ) (g h : List Gate) → map f (g ++ h) ≡ map f g ++ map f h
-map-append f [] h = refl
-map-append f (x ∷ g) h = ap (λ (r : List ℕ). f x ∷ r) (map-append f g h)
-
 -- what is stored further on leaves the front
 pub sets-before : (l : List ℕ) (i : ℕ) (vs : List ℕ) (j : ℕ) → j < i → getD (sets l i vs) j 0 ≡ getD l j 0
 sets-before l i [] j h = refl
@@ -90,7 +81,7 @@ sets-at l i (w ∷ vs) (suc j) h r =
 -- ---- the loop
 
 -- the order as the code holds it serves as well as the list
-gather-same : (near os qs : List ℕ) (k S x : ℕ) → ((j : ℕ) → j ≤ k → getD qs j 0 ≡ getD os j 0) → gatherFrom near qs k S x ≡ gatherFrom near os k S x
+pub gather-same : (near os qs : List ℕ) (k S x : ℕ) → ((j : ℕ) → j ≤ k → getD qs j 0 ≡ getD os j 0) → gatherFrom near qs k S x ≡ gatherFrom near os k S x
 unfolding gatherFrom
 gather-same near os qs zero S x h = refl
 gather-same near os qs (suc k) S x h =

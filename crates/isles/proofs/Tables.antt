@@ -25,8 +25,9 @@ use Rattle.isles.specs.Islands.{everyQubit, islandOf, islandsOf}
 use Rattle.isles.specs.Pairs.{Says, AtStart, leadsOf, Round, Row, Rows}
 use Rattle.chip.proofs.Closure.{nbrs-sound, nbrs-complete}
 use Rattle.isles.proofs.Isles.{every-in, island-is, length-islands, getD-islands, island-lt}
-use Rattle.chip.proofs.Tests.{same-test, both-true, either-true, some-true, some-of, near-low}
+use Rattle.chip.proofs.Tests.{some-true, some-of, near-low}
 use Rattle.chip.proofs.Rounds.{closure-none, closure-last}
+use Rattle.sets.proofs.Deciding.{same-test, both-true, either-true}
 
 -- ---- a round
 

@@ -1,6 +1,6 @@
 -- The circuit of a job that can be laid: its meaning, its couplers, its size; and test 9 is always passed. Assumes nothing.
-use mathlib.Core.Path.{_≡_, refl, sym, ap, _∙_}
-use mathlib.Core.Bool.{Bool, true, false}
+use mathlib.Core.Path.{_≡_, sym, ap, _∙_}
+use mathlib.Core.Bool.{Bool, false}
 use mathlib.Core.List.{List, [], _∷_}
 use Prim.Native.Nat.{ℕ, _+_, _-_, _*_, _≤_, _<_}
 use native.Mathlib.Omega.{arith}
@@ -33,6 +33,7 @@ use Rattle.laying.specs.Verdict.{judgedStuck, verdictOf, circuitOf}
 use Rattle.laying.proofs.Job.{laid-same, laid-good, laid-coupled, laid-rotations, laid-cnots}
 use Rattle.laying.proofs.Both.{island-lays, island-placed, never-stuck}
 use Rattle.laying.proofs.Accepting.{job-layable}
+use Rattle.sets.proofs.Deciding.{both-no}
 
 -- a good gate is a CNOT or a rotation
 good-length : (n : ℕ) (gs : List Gate) → All (Good n) gs → length gs ≡ cnotsOf gs + rotationsOf gs
@@ -103,14 +104,10 @@ module _ (n : ℕ) (xs ys : List ℕ) (job : Layable n xs ys) where
   unfolding stuckOn
   none-stuck =
       some-no stuck n n (omega arith)
-      (first-is stuck n n (omega arith) (λ (h : n < n). absurd (omega arith)) (λ q l. other (leads (islandOf (nearOf n xs)) q) (onIsland (nearOf n xs) gs q .stuck) (never-stuck n xs ys job q l)))
+      (first-is stuck n n (omega arith) (λ (h : n < n). absurd (omega arith)) (λ q l. both-no (leads (islandOf (nearOf n xs)) q) (onIsland (nearOf n xs) gs q .stuck) (never-stuck n xs ys job q l)))
     where
       stuck : ℕ → Bool
       stuck q = both (leads (islandOf (nearOf n xs)) q) (onIsland (nearOf n xs) gs q .stuck)
-
-      other : (a b : Bool) → b ≡ false → both a b ≡ false
-      other true b e = e
-      other false b e = refl
 
   pub stuck-passed : judgedStuck n (nearOf n xs) gs ≡ Accepted
   unfolding judgedStuck

@@ -38,11 +38,6 @@ unfolding sumTo
 sum-swap zero m f = sym (sum-none m (λ i. sumTo 0 (λ q. f q i)) (λ i l. refl))
 sum-swap (suc n) m f = ap (λ (a : ℕ). a + sumTo m (λ i. f n i)) (sum-swap n m f) ∙ sym (sum-plus m (λ i. sumTo n (λ q. f q i)) (λ i. f n i))
 
-pub sum-units : (n : ℕ) (f : ℕ → ℕ) → ((k : ℕ) → k < n → f k ≡ 1) → sumTo n f ≡ n
-unfolding sumTo
-sum-units zero f h = refl
-sum-units (suc n) f h = omega (arith, sum-units n f (λ k l. h k (omega arith)), h n (omega arith))
-
 sum-front : (n : ℕ) (f : ℕ → ℕ) → sumTo (suc n) f ≡ f 0 + sumTo n (λ k. f (suc k))
 unfolding sumTo
 sum-front zero f = omega arith

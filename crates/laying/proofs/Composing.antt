@@ -11,11 +11,10 @@ use Rattle.sets.specs.Pick.{pick}
 use Rattle.sets.specs.Bit.{bit, In}
 use Rattle.sets.specs.Size.{lowestOf}
 use Rattle.sets.proofs.Bits.{bit-cases}
-use Rattle.sets.proofs.Comb.{getD-units}
 use Rattle.gates.specs.declared.gate.Gate.{Gate}
 use Rattle.circuit.specs.Circuit.{run, start, given}
 use Rattle.gates.specs.All.{All}
-use Rattle.circuit.proofs.Circuits.{run-none, run-append, run-length, given-none, given-append, start-length}
+use Rattle.circuit.proofs.Circuits.{run-none, run-append, run-length, given-none, given-append, start-length, start-at}
 use Rattle.gates.proofs.Alls.{all-none, all-append}
 use Rattle.columns.specs.Tables.{sumTo}
 use Rattle.laying.specs.Islands.{leads, laidTo}
@@ -26,10 +25,6 @@ pub record Lays (Q : ℕ) (F T : ℕ → ℕ) (gs : List Gate) : Type 0 where
   pub right : (W : List ℕ) → length W ≡ 20 → ((i : ℕ) → In i Q → getD W i 0 ≡ 2 ^ i) → (i : ℕ) → In i Q → getD (run gs W) i 0 ≡ F i
   pub others : (W : List ℕ) (i : ℕ) → bit Q i ≡ 0 → getD (run gs W) i 0 ≡ getD W i 0
   pub gives : (W : List ℕ) → length W ≡ 20 → ((i : ℕ) → In i Q → getD W i 0 ≡ 2 ^ i) → (p : ℕ) → given p gs W ≡ T p
-
-start-at : (i : ℕ) → i < 20 → getD start i 0 ≡ 2 ^ i
-unfolding start
-start-at i h = getD-units 20 i h
 
 module _ (n : ℕ) (isl : ℕ → ℕ) (few : n ≤ 20) (parts : Parts n isl) (on : ℕ → List Gate) where
   pub laid-led : (k : ℕ) → leads isl k ≡ true → laidTo isl on (suc k) ≡ laidTo isl on k ++ on k

@@ -18,10 +18,10 @@ use Rattle.tallies.specs.Tally.{tally}
 use Rattle.meaning.proofs.Lists.{among-first, among-rest}
 use Rattle.tallies.proofs.Tallies.{tally-append, tally-none}
 use Rattle.columns.specs.Tables.{sumTo, one}
-use Rattle.columns.proofs.Tabling.{sum-ext, sum-none, sum-le}
+use Rattle.columns.proofs.Tabling.{sum-ext, sum-none, sum-le, sum-same}
 use Rattle.share.specs.Own.{insideOf, ownTerms}
 use Rattle.laying.specs.Islands.{leads, laidTo}
-use Rattle.laying.proofs.Adding.{sum-one, sum-plus, sum-times, sum-swap, sum-units, ones-bits}
+use Rattle.laying.proofs.Adding.{sum-one, sum-plus, sum-times, sum-swap, ones-bits}
 use Rattle.laying.proofs.Parting.{Parts, leader-below, leader-same, leader-leads, on-led, led-on, inside-one, sub-inside, not-inside}
 use Rattle.laying.proofs.Owning.{own-none, own-length}
 
@@ -130,7 +130,7 @@ module _ (n : ℕ) (isl : ℕ → ℕ) (few : n ≤ 20) (parts : Parts n isl) wh
   qubits-counted =
       sum-ext n (λ q. pick (leads isl q) (ones (isl q)) 0) (λ q. sumTo n (λ i. pick (leads isl q) (bit (isl q) i) 0)) (λ q l. spread q l (leads isl q))
       ∙ sum-swap n n (λ q i. pick (leads isl q) (bit (isl q) i) 0)
-      ∙ sum-units n (λ i. sumTo n (λ q. pick (leads isl q) (bit (isl q) i) 0)) (λ i h. lone i h)
+      ∙ sum-same n (λ i. sumTo n (λ q. pick (leads isl q) (bit (isl q) i) 0)) (λ i h. lone i h)
     where
       spread : (q : ℕ) → q < n → (b : Bool) → pick b (ones (isl q)) 0 ≡ sumTo n (λ i. pick b (bit (isl q) i) 0)
       spread q l true = ones-bits n (isl q) (parts .fits q l)

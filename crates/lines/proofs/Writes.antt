@@ -5,7 +5,7 @@ use mathlib.Core.List.{List, [], _∷_, _++_, append-assoc, append-nil}
 use Prim.Native.Nat.{ℕ, zero, suc, _+_, _/_, _%_, _≤_, _<_}
 use native.Mathlib.Numerals.{add-one}
 use native.Mathlib.Omega.{arith}
-use lib.ListN.{length, getD, take, drop, set, length-append, take-append-drop}
+use lib.ListN.{length, getD, take, drop, length-append, take-append-drop}
 use lib.Seq.{sets, sets-eq, take-suc, take-all}
 use lib.Dec.{ltb}
 use borrow.Author.Tests.{ltb-true, ltb-false}
@@ -13,12 +13,7 @@ use Rattle.lines.specs.Lines.{digits, fieldsText, lineText, letter, reco
 use Rattle.lines.specs.Lent.{onto}
 use Rattle.lines.proofs.Layouts.{kind-is, a-is, b-is}
 use Rattle.lines.proofs.Digits.{digits-small, digits-big}
-
-sets-append : (l : List ℕ) (i : ℕ) (xs ys : List ℕ) → sets l i (xs ++ ys) ≡ sets (sets l i xs) (i + length xs) ys
-sets-append l i [] ys = let z : i ≡ i + 0 = omega arith in ap (λ k. sets l k ys) z
-sets-append l i (x ∷ xs) ys =
-    let z : suc i + length xs ≡ i + suc (length xs) = omega arith in
-    sets-append (set l i x) (suc i) xs ys ∙ ap (λ k. sets (sets (set l i x) (suc i) xs) k ys) z
+use Rattle.sets.proofs.Storing.{sets-append}
 
 -- the bytes xs were written to l from i on, which gives m and the place behind them
 abbrev pub Wrote : List ℕ → ℕ → List ℕ → List ℕ → ℕ → Type 0

@@ -2,24 +2,21 @@
 use mathlib.Core.Path.{_≡_, refl, ap, _∙_, subst}
 use mathlib.Core.Logic.{_≢_, ⊎-elim}
 use mathlib.Core.List.{List, [], _∷_, _++_}
-use Prim.Native.Nat.{ℕ, suc, _+_, _^_, _%_, _≤_, _<_, zero-le}
+use Prim.Native.Nat.{ℕ, _+_, _^_, _%_, _≤_, _<_, zero-le}
 use native.Mathlib.Omega.{arith}
 use native.Mathlib.Decide.{ℕ-discrete}
-use lib.Dec.{eqb}
 use lib.ListN.{length, getD}
-use mathlib.Core.Bool.{Bool, true, false}
-use Rattle.sets.specs.Pick.{pick}
 use Rattle.gates.specs.declared.gate.Gate.{Gate}
 use Rattle.gates.specs.declared.gate.Gate.the-variants.{Cnot, Rotation, Bad}
 use Rattle.circuit.specs.Circuit.{step, run, start, gives, given, sumOf, Term}
 use Rattle.meaning.specs.Borne.{insert, bears, borneFrom, borne, sumsOf, terms, Ascending, Among}
-use Rattle.table.specs.Table.{kept}
 use Rattle.gates.specs.Layout.{Good}
 use Rattle.gates.specs.All.{All}
 use Rattle.circuit.proofs.Steps.{gives-cnot, gives-bad, gives-other, step-length}
 use Rattle.circuit.proofs.Circuits.{start-length}
 use Rattle.circuit.proofs.Wiring.{Below, below-step, below-start, Apart, apart-step, apart-start, apart-not-empty}
 use Rattle.meaning.proofs.Lists.{Up, up-none, up-ascending, up-insert, up-kept, insert-has, insert-keeps, insert-back, kept-has, kept-back, among-none}
+use Rattle.table.proofs.Keeping.{kept-le}
 
 -- ---- one gate more
 
@@ -135,19 +132,9 @@ terms-borne p gs h = kept-back (λ p. sumOf p gs) p (borne gs) h .0
 
 -- ---- no more terms than parities that bear a rotation
 
-kept-few : (xs ss : List ℕ) → length (kept xs ss) ≤ length xs
-unfolding kept
-kept-few [] ss = omega arith
-kept-few (x ∷ xs) [] = omega arith
-kept-few (x ∷ xs) (s ∷ ss) = go (eqb s 0) (kept-few xs ss)
-  where
-    go : (b : Bool) → length (kept xs ss) ≤ length xs → length (pick b (kept xs ss) (x ∷ kept xs ss)) ≤ suc (length xs)
-    go true h = omega arith
-    go false h = omega arith
-
 pub terms-few : (gs : List Gate) → length (terms gs) ≤ length (borne gs)
 unfolding terms
-terms-few gs = kept-few (borne gs) (sumsOf gs (borne gs))
+terms-few gs = kept-le (borne gs) (sumsOf gs (borne gs))
 
 -- ---- the parities that bear a rotation are parities of wires
 

@@ -15,7 +15,7 @@ use Rattle.gathering.proofs.OrderGrows.{order-few}
 use Rattle.nearest.specs.Orders.{Ordered}
 use Rattle.nearest.specs.Choice.{choice, far, nearer, gathered, triedAt, overQubits, overColumns, chosen}
 use Rattle.nearest.specs.declared.choice.Choice.{Choice}
-use Rattle.nearest.proofs.Counting.{gather-same}
+use Rattle.gathering.proofs.GatherCode.{gather-same}
 
 -- ---- the count, by the orders
 

@@ -3,7 +3,7 @@ use mathlib.Core.Path.{_≡_, sym, ap, ap₂, _∙_, subst}
 use mathlib.Core.Logic.{_≢_}
 use mathlib.Core.Bool.{true, false}
 use mathlib.Core.List.{List, _++_}
-use Prim.Native.Nat.{ℕ, zero, suc, _+_, _-_, _*_, _≤_, _<_, min}
+use Prim.Native.Nat.{ℕ, suc, _+_, _-_, _*_, _≤_, _<_, min}
 use native.Mathlib.Omega.{arith}
 use lib.Bits.{bitAnd, bitXor}
 use lib.ListN.{getD, length, drop, length-append}
@@ -11,7 +11,6 @@ use lib.Seq.{getD-drop}
 use borrow.Author.Tests.{eq-eqb, ne-eqb}
 use Rattle.sets.specs.Bit.{has}
 use Rattle.sets.specs.Size.{lowestOf, onlyOf}
-use Rattle.gates.specs.declared.gate.Gate.{Gate}
 use Rattle.gathering.specs.Gather.{movesAt, leftAt, gatherFrom}
 use Rattle.gathering.proofs.GatherWorks.{gather-step, gather-none, moves-few}
 use Rattle.nearest.specs.Choice.{outAt}
@@ -42,17 +41,6 @@ module _ (a u x : ℕ) where
 -- ---- the loop
 
 -- only the entries of the order decide
-pub gather-same : (near os qs : List ℕ) (k S x : ℕ) → ((j : ℕ) → j ≤ k → getD qs j 0 ≡ getD os j 0) → gatherFrom near qs k S x ≡ gatherFrom near os k S x
-gather-same near os qs zero S x h = gather-none near qs S x ∙ sym (gather-none near os S x)
-gather-same near os qs (suc k) S x h =
-    let u : ℕ = getD os (suc k) 0 in
-    let E : ℕ = bitXor S (onlyOf u) in
-    let a : ℕ = bitAnd (getD near u 0) E in
-    gather-step near qs k S x
-    ∙ ap (λ (w : ℕ). movesAt (bitAnd (getD near w 0) (bitXor S (onlyOf w))) w x ++ gatherFrom near qs k (bitXor S (onlyOf w)) (leftAt (bitAnd (getD near w 0) (bitXor S (onlyOf w))) w x)) (h (suc k) (omega arith))
-    ∙ ap (λ (l : List Gate). movesAt a u x ++ l) (gather-same near os qs k E (leftAt a u x) (λ j l. h j (omega arith)))
-    ∙ sym (gather-step near os k S x)
-
 -- n moves are counted; those of the first k members are still to come
 pub record Counting (near order : List ℕ) (from k E x n total : ℕ) : Type 0 where
   pub few : n + 2 * k ≤ 38

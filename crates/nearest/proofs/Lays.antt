@@ -21,7 +21,6 @@ use Rattle.columns.specs.Terms.{LaysTerms, Laying, live, liveOne}
 use Rattle.gathering.specs.Gather.{Gathers, gatherOf}
 use Rattle.columns.proofs.Tabling.{sum-less, sum-ones}
 use Rattle.columns.proofs.Piecing.{then-on}
-use Rattle.columns.proofs.Gates.{cnots-none, cnots-append}
 use Rattle.columns.proofs.Layings.{live-one, live-none, laying-none, laying-then}
 use Rattle.columns.proofs.Laid.{sub-below, lays-terms}
 use Rattle.columns.proofs.Struck.{Strikes, strikes-off}
@@ -32,6 +31,7 @@ use Rattle.nearest.specs.Nearest.{gatherNext, rounds, nearestFor}
 use Rattle.nearest.proofs.Entry.{rounds-none, rounds-more, rounds-over}
 use Rattle.nearest.proofs.Nearness.{chosen-sound, chosen-over}
 use Rattle.nearest.proofs.Moved.{Within, Ready, fits, strike-ready, Moved, moves-moved, moves-gone}
+use Rattle.tallies.proofs.Tallies.{cnots-none, cnots-append}
 
 -- ---- how many columns are left
 

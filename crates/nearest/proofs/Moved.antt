@@ -6,7 +6,6 @@ use mathlib.Core.List.{List, [], _∷_}
 use Prim.Native.Nat.{ℕ, suc, _+_, _^_, _<_}
 use native.Mathlib.Omega.{arith}
 use lib.ListN.{length, getD}
-use Rattle.sets.specs.Pick.{pick}
 use Rattle.sets.specs.Bit.{bit, Sub}
 use Rattle.sets.specs.Size.{singleOf}
 use Rattle.sets.specs.Columns.{turn}
@@ -24,15 +23,13 @@ use Rattle.columns.specs.Terms.{Laying}
 use Rattle.gathering.specs.Gather.{On, Coupled, turns}
 use Rattle.columns.proofs.Piecing.{then-on}
 use Rattle.columns.proofs.Turns.{cnot-is, turn-all-at, turned-is}
-use Rattle.columns.proofs.Gates.{cnots-none, cnots-append, cnots-cnot}
 use Rattle.columns.proofs.Strikes.{single-zero}
 use Rattle.columns.proofs.Layings.{laying-none, laying-then, laying-cnot}
 use Rattle.columns.proofs.Struck.{Fit, fit-of, Strikes, strikes-off, off-single, off-other}
 use Rattle.nearest.specs.Moves.{layMove, layMoves}
 use Rattle.nearest.proofs.Moving.{moves-none, moves-cons}
-
-never : {x : Bool} → x ≡ true → x ≡ false → ⊥
-never a b = let z : _≡_ {A = ℕ} 0 1 = ap (λ (t : Bool). pick t 0 1) (sym a ∙ b) in omega arith
+use Rattle.sets.proofs.Deciding.{never}
+use Rattle.tallies.proofs.Tallies.{cnots-none, cnots-append, cnots-cnot}
 
 none-sub : (Q : ℕ) → Sub 0 Q
 none-sub Q i h = absurd (omega (arith, h, bit-of-zero i))

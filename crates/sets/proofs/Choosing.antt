@@ -2,17 +2,11 @@
 use mathlib.Core.Path.{_≡_, refl}
 use mathlib.Core.Bool.{Bool, true, false}
 use Prim.Native.Nat.{ℕ, suc, _+_, _-_, _≤_, _<_}
-use native.Mathlib.Omega.{arith}
 use borrow.Author.Tests.{lt-ltb, le-ltb}
 use lib.Dec.{ltb}
 use Rattle.sets.specs.Pick.{pick, both}
 use Rattle.sets.specs.Search.{mostFrom}
-
-sub-suc : (n r : ℕ) → r < n → n - r ≡ suc (n - (r + 1))
-sub-suc n r h = omega arith
-
-sub-none : (n r : ℕ) → n ≤ r → n - r ≡ 0
-sub-none n r h = omega arith
+use Rattle.sets.proofs.Finding.{sub-suc, sub-none}
 
 module _ (ok : ℕ → Bool) (worth : ℕ → ℕ) where
   -- one step as an equation: `rw` does not see the step where the rest of the recursion is stuck

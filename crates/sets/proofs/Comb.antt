@@ -3,14 +3,14 @@ use mathlib.Core.Path.{_≡_, refl, sym, ap, ap₂, _∙_}
 use mathlib.Core.Logic.{_≢_}
 use mathlib.Core.List.{List, [], _∷_, map}
 use Prim.Native.Nat.{ℕ, zero, suc, _+_, _*_, _/_, _%_, _^_, _<_}
-use native.Mathlib.Nat.{le-of-suc-le-suc, not-suc-le-zero, zero-lt-suc, mod-lt, pow-suc}
+use native.Mathlib.Nat.{le-of-suc-le-suc, not-suc-le-zero, zero-lt-suc, suc-ne-zero, suc-inj, mod-lt, pow-suc}
 use native.Mathlib.Omega.{arith}
 use lib.Dec.{lit<}
 use lib.Arith.{lt-one}
 use lib.ListN.{length, getD, set, length-map, List·getD-map}
 use lib.Seq.{getD-set-other}
 use lib.Bits.{bitXor, xor-zero-r, xor-comm, xor-step, xor-shifted}
-use Rattle.sets.specs.Bit.{bit, when}
+use Rattle.sets.specs.Bit.{bit, when, In}
 use Rattle.sets.specs.Columns.{turn, comb, cnot, units}
 use Rattle.sets.proofs.Bits.{by-bit, bit-zero, bit-suc, bit-lt, xor-low, xor-half, pow-half, pow-even, xor-assoc, xors}
 
@@ -114,3 +114,13 @@ comb-units (suc n) x l =
     ap (bitXor (when (x % 2) 1)) (comb-double (units n) (x / 2) ∙ ap (λ (k : ℕ). k * 2) (comb-units n (x / 2) (omega arith)))
     ∙ by-bit (λ (b : ℕ). bitXor (when b 1) (x / 2 * 2) ≡ x / 2 * 2 + b) (omega arith) (xor-comm 1 (x / 2 * 2) ∙ xor-shifted (x / 2) 1 1 (lit< tt)) (x % 2) (mod-lt x (zero-lt-suc 1))
     ∙ omega arith
+
+-- a column stands for a parity that only its own wires decide
+pub comb-agree : (W U : List ℕ) (x : ℕ) → length W ≡ length U → ((i : ℕ) → In i x → getD W i 0 ≡ getD U i 0) → comb x W ≡ comb x U
+unfolding comb
+comb-agree [] [] x e h = refl
+comb-agree [] (v ∷ vs) x e h = absurd (suc-ne-zero (length vs) (sym e))
+comb-agree (w ∷ ws) [] x e h = absurd (suc-ne-zero (length ws) e)
+comb-agree (w ∷ ws) (v ∷ vs) x e h =
+    ap₂ bitXor (by-bit (λ (b : ℕ). x % 2 ≡ b → when b w ≡ when b v) (λ z. refl) (λ z. h 0 (bit-zero x ∙ z)) (x % 2) (mod-lt x (zero-lt-suc 1)) refl)
+    (comb-agree ws vs (x / 2) (suc-inj e) (λ i k. h (suc i) (bit-suc x i ∙ k)))

@@ -8,10 +8,10 @@ use borrow.Author.Tests.{lt-ltb, le-ltb, ltb-true, ltb-false}
 use Rattle.sets.specs.Pick.{pick}
 use Rattle.sets.specs.Search.{firstOf, someOf}
 
-sub-suc : (n r : ℕ) → r < n → n - r ≡ suc (n - (r + 1))
+pub sub-suc : (n r : ℕ) → r < n → n - r ≡ suc (n - (r + 1))
 sub-suc n r h = omega arith
 
-sub-none : (n r : ℕ) → n ≤ r → n - r ≡ 0
+pub sub-none : (n r : ℕ) → n ≤ r → n - r ≡ 0
 sub-none n r h = omega arith
 
 -- the turn of a loop at which the property holds, a turn at which it does not, and the loop's end

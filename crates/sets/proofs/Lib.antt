@@ -7,3 +7,5 @@ pub mod Dot
 pub mod Finding
 pub mod Choosing
 pub mod Words
+pub mod Deciding
+pub mod Storing

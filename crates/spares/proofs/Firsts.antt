@@ -16,7 +16,8 @@ use Rattle.sets.proofs.Words.{has-true, in-has}
 use Rattle.chip.specs.Graph.{Near, Symm, Joined}
 use Rattle.spares.specs.Spare.{spareOf, firstSpareOf, linksOf, besideOf, firstBesideOf, nearIn, firstNearOf}
 use Rattle.spares.proofs.Spares.{spare-in, spare-other, neighbour-in}
-use Rattle.chip.proofs.Tests.{both-true, both-yes, some-true, some-of, first-some, near-low, never}
+use Rattle.chip.proofs.Tests.{some-true, some-of, first-some, near-low}
+use Rattle.sets.proofs.Deciding.{both-true, both-yes, never}
 
 -- ---- the lowest spare qubit
 

@@ -23,7 +23,8 @@ use Rattle.chip.specs.Graph.{closure}
 use Rattle.spares.specs.Spare.{reachOf, connectedOf, spareOf, linksOf, besideOf, firstBesideOf, nearIn, firstNearOf}
 use Rattle.chip.proofs.Closure.{closure-in}
 use Rattle.chip.proofs.Rounds.{closure-full}
-use Rattle.chip.proofs.Tests.{same-test, both-true, some-true, some-of, near-low}
+use Rattle.chip.proofs.Tests.{some-true, some-of, near-low}
+use Rattle.sets.proofs.Deciding.{same-test, both-true}
 
 -- two searches for the same
 first-same : (f g : ℕ → Bool) → ((k : ℕ) → f k ≡ g k) → (d r : ℕ) → firstOf f d r ≡ firstOf g d r

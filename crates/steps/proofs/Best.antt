@@ -12,8 +12,8 @@ use Rattle.sets.specs.Pick.{both}
 use Rattle.sets.specs.Search.{firstOf}
 use Rattle.sets.proofs.Finding.{first-true, first-before}
 use Rattle.steps.specs.Choice.{worthAt, bestOf}
-use Rattle.steps.proofs.Splits.{never, both-yes}
 use Rattle.steps.proofs.Choosing.{best-hit, best-miss}
+use Rattle.sets.proofs.Deciding.{never, both-true}
 
 module _ (may : List Bool) (worth : List ℕ) where
   -- what the search at worth w finds
@@ -21,7 +21,7 @@ module _ (may : List Bool) (worth : List ℕ) where
   unfolding worthAt
   worth-found w l =
       let f : ℕ → Bool = λ q. both (getD may q false) (eqb (getD worth q 0) w) in
-      let r = both-yes _ _ (first-true f 20 0 l) in
+      let r = both-true _ _ (first-true f 20 0 l) in
       (r .0, eqb-true (getD worth (firstOf f 20 0) 0) w (r .1))
 
   -- a qubit that may be taken and is worth w is not passed over

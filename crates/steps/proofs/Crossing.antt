@@ -21,7 +21,6 @@ use Rattle.columns.specs.Striking.{strikeOff}
 use Rattle.columns.specs.Terms.{Laying}
 use Rattle.columns.proofs.Piecing.{then-on}
 use Rattle.columns.proofs.Turns.{turned-is, turn-all-at, cnot-is}
-use Rattle.columns.proofs.Gates.{cnots-append, cnots-cnot}
 use Rattle.columns.proofs.Layings.{laying-then, laying-cnot}
 use Rattle.columns.proofs.Strikes.{single-zero}
 use Rattle.columns.proofs.Struck.{Fit, fit-of, strikes-off, off-single, off-other}
@@ -29,8 +28,10 @@ use Rattle.steps.specs.Selection.{rowOf}
 use Rattle.steps.specs.Steps.{crossed, moved}
 use Rattle.steps.proofs.Unfolding.{crossed-none, crossed-some}
 use Rattle.steps.proofs.Apart.{Many, many-live, many-not-single, many-of, Reached, still, more, reached-trans, reached-live, reached-sub, reached-safe, safe-many}
-use Rattle.steps.proofs.Splits.{never, not-true, row-some, row-none}
+use Rattle.steps.proofs.Splits.{not-true, row-some, row-none}
 use Rattle.steps.proofs.Meets.{Ready}
+use Rattle.sets.proofs.Deciding.{never}
+use Rattle.tallies.proofs.Tallies.{cnots-append, cnots-cnot}
 
 module _ (near : List ℕ) (Q : ℕ) (angles : List ℕ) where
   -- a piece of at most b CNOTs inside Q

@@ -14,8 +14,9 @@ use Rattle.columns.proofs.Layings.{laying-then, laying-wider}
 use Rattle.steps.specs.Selection.{zerosOf, onesOf}
 use Rattle.steps.specs.Choice.{without}
 use Rattle.steps.proofs.Apart.{Many, many-live, Reached, reached-trans, reached-wider, reached-zero, reached-live, reached-outside, reached-sub, Safe, safe-narrow, reached-safe, safe-many, safe-rest}
-use Rattle.steps.proofs.Splits.{never, in-zeros, zeros-in, in-ones, zeros-out, ones-out, split-cases}
+use Rattle.steps.proofs.Splits.{in-zeros, zeros-in, in-ones, zeros-out, ones-out, split-cases}
 use Rattle.steps.proofs.Meets.{rest-out, rest-in, rest-sub, Ready, Done}
+use Rattle.sets.proofs.Deciding.{never}
 
 module _ (near : List ℕ) (Q : ℕ) (angles : List ℕ) (low : Q < 2 ^ 20) (r : ℕ) (hr : In r Q) (sel : List Bool) (ys : List ℕ)
     (places : (k : ℕ) → getD sel k false ≡ true → k < 256)

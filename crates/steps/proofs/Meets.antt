@@ -17,12 +17,13 @@ use Rattle.tallies.specs.Tally.{cnotsOf}
 use Rattle.chip.specs.Graph.{Joined}
 use Rattle.columns.specs.Pieces.{Piece, idle}
 use Rattle.columns.specs.Terms.{Laying}
-use Rattle.columns.proofs.Gates.{cnots-none}
 use Rattle.columns.proofs.Layings.{laying-none}
 use Rattle.steps.specs.Selection.{countOf}
 use Rattle.steps.specs.Choice.{without}
 use Rattle.steps.proofs.Apart.{Many, many-ones, Safe, Reached, still}
-use Rattle.steps.proofs.Splits.{never, count-none, count-some}
+use Rattle.steps.proofs.Splits.{count-none, count-some}
+use Rattle.sets.proofs.Deciding.{never}
+use Rattle.tallies.proofs.Tallies.{cnots-none}
 
 -- ---- a set without one of its qubits
 

@@ -9,24 +9,17 @@ use native.Mathlib.Decide.{ℕ-discrete, decLt}
 use lib.Dec.{eqb}
 use lib.ListN.{length, getD, List·getD-eq-default}
 use borrow.Author.Tests.{ne-eqb, eqb-false}
-use Rattle.sets.specs.Pick.{pick, both}
 use Rattle.sets.specs.Bit.{bit, has, In}
 use Rattle.sets.proofs.Bits.{bit-cases}
 use Rattle.sets.proofs.Words.{has-true, has-false, in-has, out-has}
 use Rattle.columns.specs.Tables.{tab, one}
 use Rattle.columns.proofs.Tabling.{tab-at, tab-length, sum-add-le, sum-less, sum-some}
 use Rattle.steps.specs.Selection.{countOf, zeroAt, oneAt, zerosOf, onesOf, liveOf, rowOf}
-
-pub never : {x : Bool} → x ≡ true → x ≡ false → ⊥
-never a b = let z : _≡_ {A = ℕ} 0 1 = ap (λ (t : Bool). pick t 0 1) (sym a ∙ b) in omega arith
+use Rattle.sets.proofs.Deciding.{never, both-true}
 
 pub not-true : (b : Bool) → (b ≡ true → ⊥) → b ≡ false
 not-true true h = absurd (h refl)
 not-true false h = refl
-
-pub both-yes : (a b : Bool) → both a b ≡ true → (a ≡ true) × (b ≡ true)
-both-yes true b e = (refl, e)
-both-yes false b e = absurd (never e refl)
 
 not-yes : (b : Bool) → not b ≡ true → b ≡ false
 not-yes true e = absurd (never refl (sym e))
@@ -49,8 +42,8 @@ module _ (r : ℕ) (sel : List Bool) (xs : List ℕ) (k : ℕ) where
   unfolding zerosOf zeroAt
   in-zeros e =
       let t = tab-true 256 (λ k. zeroAt r (getD sel k false) (getD xs k 0)) k e in
-      let a = both-yes _ _ (t .1) in
-      let b = both-yes _ _ (a .1) in
+      let a = both-true _ _ (t .1) in
+      let b = both-true _ _ (a .1) in
       (t .0, a .0, eqb-false (getD xs k 0) 0 (not-yes _ (b .0)), has-false (getD xs k 0) r (not-yes _ (b .1)))
 
   pub zeros-in : k < 256 → getD sel k false ≡ true → getD xs k 0 ≢ 0 → bit (getD xs k 0) r ≡ 0 → getD (zerosOf r sel xs) k false ≡ true
@@ -61,7 +54,7 @@ module _ (r : ℕ) (sel : List Bool) (xs : List ℕ) (k : ℕ) where
   unfolding onesOf oneAt
   in-ones e =
       let t = tab-true 256 (λ k. oneAt r (getD sel k false) (getD xs k 0)) k e in
-      let a = both-yes _ _ (t .1) in
+      let a = both-true _ _ (t .1) in
       (t .0, a .0, has-true (getD xs k 0) r (a .1))
 
   pub ones-in : k < 256 → getD sel k false ≡ true → In r (getD xs k 0) → getD (onesOf r sel xs) k false ≡ true
@@ -122,7 +115,7 @@ pub row-some : (sel : List Bool) (xs : List ℕ) (q : ℕ) → (rowOf sel xs q �
 unfolding rowOf oneAt
 row-some sel xs q h =
     let s = sum-some 256 (λ k. one (oneAt q (getD sel k false) (getD xs k 0))) h in
-    let b = both-yes _ _ (one-pos (oneAt q (getD sel (s .0) false) (getD xs (s .0) 0)) (s .2)) in
+    let b = both-true _ _ (one-pos (oneAt q (getD sel (s .0) false) (getD xs (s .0) 0)) (s .2)) in
     (s .0, s .1, b .0, has-true (getD xs (s .0) 0) q (b .1))
 
 pub row-none : (sel : List Bool) (xs : List ℕ) (q : ℕ) → rowOf sel xs q ≡ 0 → (k : ℕ) → k < 256 → getD sel k false ≡ true → bit (getD xs k 0) q ≡ 0

@@ -15,7 +15,6 @@ use Rattle.spares.specs.Spare.{spareOf}
 use Rattle.spares.proofs.Spares.{spare-in, spare-joined}
 use Rattle.columns.specs.Pieces.{Piece, after}
 use Rattle.columns.proofs.Piecing.{then-on}
-use Rattle.columns.proofs.Gates.{cnots-append}
 use Rattle.columns.proofs.Layings.{laying-then}
 use Rattle.steps.specs.Selection.{countOf, zerosOf, onesOf, rowOf}
 use Rattle.steps.specs.Choice.{sparing, without, partner}
@@ -28,6 +27,7 @@ use Rattle.steps.proofs.Meets.{rest-is, rest-low, rest-ones, Ready, Don
 use Rattle.steps.proofs.Crossing.{Moved, moved-is}
 use Rattle.steps.proofs.Chosen.{spare-found, Beside, partner-found}
 use Rattle.steps.proofs.Halves.{zeros-ready, ones-have, ones-ready, halves-struck, halves-others, halves-lay}
+use Rattle.tallies.proofs.Tallies.{cnots-append}
 
 -- one qubit less
 less-one : (Q r : ℕ) → Q < 2 ^ 20 → In r Q → ones Q - 1 ≡ ones (without Q r)

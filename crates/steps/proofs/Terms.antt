@@ -20,7 +20,6 @@ use Rattle.columns.specs.Striking.{strikeOff}
 use Rattle.columns.specs.Terms.{LaysTerms}
 use Rattle.columns.proofs.Tabling.{sum-front, sum-ones, one-le}
 use Rattle.columns.proofs.Piecing.{then-on}
-use Rattle.columns.proofs.Gates.{cnots-append}
 use Rattle.columns.proofs.Layings.{laying-then}
 use Rattle.columns.proofs.Laid.{lays-terms}
 use Rattle.columns.proofs.Strikes.{single-zero}
@@ -29,9 +28,11 @@ use Rattle.steps.specs.Selection.{countOf, liveOf}
 use Rattle.steps.specs.Steps.{baseStep, stepsFor, answerOf}
 use Rattle.steps.specs.declared.Laid.the-variants.{On}
 use Rattle.steps.proofs.Apart.{Many, many-of, reached-zero}
-use Rattle.steps.proofs.Splits.{never, not-true, live-in, live-out}
+use Rattle.steps.proofs.Splits.{not-true, live-in, live-out}
 use Rattle.steps.proofs.Meets.{Ready, Done}
 use Rattle.steps.proofs.Stepping.{base-meets}
+use Rattle.sets.proofs.Deciding.{never}
+use Rattle.tallies.proofs.Tallies.{cnots-append}
 
 module _ (near : List ℕ) (Q : ℕ) (ps angles : List ℕ) (low : Q < 2 ^ 20) (sy : Symm near) (j : Joined near Q) (few : length ps ≤ 256)
     (term : (k : ℕ) → k < length ps → Sub (getD ps k 0) Q × (getD ps k 0 ≢ 0)) where

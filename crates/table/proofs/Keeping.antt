@@ -28,7 +28,7 @@ kept-snoc (y ∷ xs) (t ∷ ss) x s e = go (eqb t 0) (kept-snoc xs ss x s (omega
     go true ih = ih
     go false ih = ap (λ (l : List ℕ). y ∷ l) ih
 
-kept-le : (xs ss : List ℕ) → length (kept xs ss) ≤ length xs
+pub kept-le : (xs ss : List ℕ) → length (kept xs ss) ≤ length xs
 unfolding kept
 kept-le [] ss = omega arith
 kept-le (x ∷ xs) [] = omega arith

@@ -27,6 +27,30 @@ pub rotations-append : (g h : List Gate) → rotationsOf (g ++ h) ≡ rotationsO
 unfolding rotationsOf
 rotations-append g h = tally-append oneRotation g h
 
+pub cnots-none : cnotsOf [] ≡ 0
+unfolding cnotsOf tally
+cnots-none = refl
+
+pub cnots-cnot : (c t : ℕ) → cnotsOf (Cnot c t ∷ []) ≡ 1
+unfolding cnotsOf tally
+cnots-cnot c t = refl
+
+pub cnots-rotation : (q a : ℕ) → cnotsOf (Rotation q a ∷ []) ≡ 0
+unfolding cnotsOf tally
+cnots-rotation q a = refl
+
+pub rotations-none : rotationsOf [] ≡ 0
+unfolding rotationsOf tally
+rotations-none = refl
+
+pub rotations-cnot : (c t : ℕ) → rotationsOf (Cnot c t ∷ []) ≡ 0
+unfolding rotationsOf tally
+rotations-cnot c t = refl
+
+pub rotations-rotation : (q a : ℕ) → rotationsOf (Rotation q a ∷ []) ≡ 1
+unfolding rotationsOf tally
+rotations-rotation q a = refl
+
 pub tally-bounded : (f : Gate → ℕ) → ((g : Gate) → f g ≤ 1) → (gs : List Gate) → tally f gs ≤ length gs
 unfolding tally
 tally-bounded f one [] = omega arith

@@ -13,10 +13,7 @@ use Rattle.gates.proofs.Alls.{records-gates}
 use Rattle.emitting.specs.Emit.{emit, emitAt}
 use Rattle.emitting.proofs.Emitting.{emit-none, emit-at-none, emit-append, emit-at-append, emit-at-room, emit-room}
 use Rattle.ways.specs.Memory.{Fine}
-
-map-append : (n : ℕ) (xs ys : List ℕ) → gatesOf n (xs ++ ys) ≡ gatesOf n xs ++ gatesOf n ys
-map-append n [] ys = refl
-map-append n (x ∷ xs) ys = ap (λ (l : List Gate). gateOf n x ∷ l) (map-append n xs ys)
+use Rattle.sets.proofs.Storing.{map-append}
 
 -- the first k records are written from `at` on
 pub record Replayed (laid out₀ : List ℕ) (at k : ℕ) (out : List ℕ) (next : ℕ) : Type 0 where
@@ -32,7 +29,7 @@ pub replayed-next : (laid out₀ : List ℕ) (at k : ℕ) (out : List ℕ) (next
     → length out′ ≡ length out → out′ ≡ emit out next (g ∷ []) → next′ ≡ emitAt out next (g ∷ []) → Replayed laid out₀ at k out next → Replayed laid out₀ at (k + 1) out′ next′
 replayed-next laid out₀ at k out next g out′ next′ h e s m p r =
     let one : gatesOf 20 (take (k + 1) laid) ≡ gatesOf 20 (take k laid) ++ g ∷ [] =
-    ap (gatesOf 20) (ap (λ (j : ℕ). take j laid) (add-one k) ∙ take-suc laid k 0 h) ∙ map-append 20 (take k laid) (getD laid k 0 ∷ [])
+    ap (gatesOf 20) (ap (λ (j : ℕ). take j laid) (add-one k) ∙ take-suc laid k 0 h) ∙ map-append (gateOf 20) (take k laid) (getD laid k 0 ∷ [])
     ∙ ap (λ (x : Gate). gatesOf 20 (take k laid) ++ x ∷ []) (sym e) in
     record {
       within = omega arith;

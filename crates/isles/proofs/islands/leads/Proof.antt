@@ -9,11 +9,11 @@ use Rattle.sets.specs.Bit.{has}
 use Rattle.sets.specs.Search.{firstOf}
 use Rattle.sets.proofs.Finding.{first-all, first-here, first-next, first-end, some-yes, some-no}
 use Rattle.isles.specs.Pairs.{leadsOf}
-use Rattle.chip.proofs.Tests.{both-yes, both-no, both-not}
 use borrow.Author.Needs.{needs}
 use native.Mathlib.Omega.{arith}
 use Rattle.isles.proofs.islands.leads.Statement.{statement}
 use Rattle.isles.proofs.islands.leads.Tie as tie
+use Rattle.sets.proofs.Deciding.{both-yes, both-no, both-not}
 
 abbrev Inv-loop : tie.InvT-loop
 Inv-loop i j near table u₀ u = (u ≤ 20) × (firstOf (λ u. both (getD table (i * 20 + u) false) (has (getD near u 0) j)) (20 - u) u ≡ firstOf (λ u. both (getD table (i * 20 + u) false) (has (getD near u 0) j)) 20 0)
