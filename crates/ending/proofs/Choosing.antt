@@ -72,14 +72,36 @@ module _ (near : List ℕ) (Q v x y : ℕ) (m : Moves) (e : m ≡ movesIn (gathe
   pub followed-few : m .len ≤ 38
   followed-few = omega (arith, held-len (gatherOf near Q v x) m e, gather-few near Q v x)
 
-  pub followed : (z : ℕ) (r : Moves) → z ≡ played (cnotsIn (m .by) (m .to) 0 (m .len)) y → r ≡ movesIn (gatherOf near Q v z) → r ≡ movesIn (followOf near Q v x y)
+  pub followed : (r : Moves) → r ≡ movesIn (gatherOf near Q v (played (cnotsIn (m .by) (m .to) 0 (m .len)) y)) → r ≡ movesIn (followOf near Q v x y)
   unfolding followOf
-  followed z r ez er =
-      er ∙ ap (λ (w : ℕ). movesIn (gatherOf near Q v w)) (ez ∙ ap (λ (l : List Gate). played l y) (held-flip (gatherOf near Q v x) m e (gather-plain near Q v x) (gather-few near Q v x)))
+  followed r er =
+      er ∙ ap (λ (l : List Gate). movesIn (gatherOf near Q v (played l y))) (held-flip (gatherOf near Q v x) m e (gather-plain near Q v x) (gather-few near Q v x))
+
+  module _ (r : Moves) (er : r ≡ movesIn (gatherOf near Q v (played (cnotsIn (m .by) (m .to) 0 (m .len)) y))) where
+    pub follow-short : r .len ≤ 38
+    follow-short = omega (arith, held-len _ r er, gather-few near Q v (played (cnotsIn (m .by) (m .to) 0 (m .len)) y))
+
+    pub moves-are : m .len + r .len ≡ length (gatherOf near Q v x) + length (followOf near Q v x y)
+    moves-are = omega (arith, held-len (gatherOf near Q v x) m e, held-len (followOf near Q v x y) r (followed r er))
 
 -- ---- the two parts of a choice
 
 module _ (near : List ℕ) (Q : ℕ) (N C : List ℕ) (k : ℕ) where
+  -- a choice costs the moves of both gatherings
+  pub cost-rows : k % 2 ≡ 0 → length (gatherOf near Q (k / 2) (getD N (k / 2) 0)) + length (followOf near Q (k / 2) (getD N (k / 2) 0) (getD C (k / 2) 0)) ≡ length (outOf near Q N C k)
+  unfolding outOf rowsFirst
+  cost-rows z =
+      let a : List Gate = gatherOf near Q (k / 2) (getD N (k / 2) 0) in
+      let b : List Gate = followOf near Q (k / 2) (getD N (k / 2) 0) (getD C (k / 2) 0) in
+      rw (eq-eqb (k % 2) 0 z) (omega (arith, length-append a (flip b), flip-length b))
+
+  pub cost-mirror : k % 2 ≢ 0 → length (gatherOf near Q (k / 2) (getD C (k / 2) 0)) + length (followOf near Q (k / 2) (getD C (k / 2) 0) (getD N (k / 2) 0)) ≡ length (outOf near Q N C k)
+  unfolding outOf mirrorFirst
+  cost-mirror z =
+      let a : List Gate = gatherOf near Q (k / 2) (getD C (k / 2) 0) in
+      let b : List Gate = followOf near Q (k / 2) (getD C (k / 2) 0) (getD N (k / 2) 0) in
+      rw (ne-eqb (k % 2) 0 z) (omega (arith, length-append (flip a) b, flip-length a))
+
   pub lead-rows : (r : Moves) → k % 2 ≡ 0 → r ≡ movesIn (gatherOf near Q (k / 2) (getD N (k / 2) 0)) → r ≡ movesIn (leadOf near Q N C k)
   unfolding leadOf
   lead-rows r z e = rw (eq-eqb (k % 2) 0 z) e
@@ -169,10 +191,6 @@ module _ (near : List ℕ) (Q : ℕ) (N C : List ℕ) (k : ℕ) where
   second-few b e = omega (arith, held-len (trailOf near Q N C k) b e, trail-few)
 
   module _ (a b : Moves) (ea : a ≡ movesIn (leadOf near Q N C k)) (eb : b ≡ movesIn (trailOf near Q N C k)) where
-    pub cost-is : a .len + b .len ≡ length (outOf near Q N C k)
-    cost-is =
-        omega (arith, held-len (leadOf near Q N C k) a ea, held-len (trailOf near Q N C k) b eb, ap length out-is, length-append (leadOf near Q N C k) (trailOf near Q N C k))
-
     pub both-are : outOf near Q N C k ≡ cnotsIn (a .to) (a .by) 0 (a .len) ++ cnotsIn (b .to) (b .by) 0 (b .len)
     both-are =
         out-is ∙ sym (ap₂ _++_ (held-back (leadOf near Q N C k) a ea lead-plain lead-few) (held-back (trailOf near Q N C k) b eb trail-plain trail-few))

@@ -4,9 +4,10 @@ use gates::job::Job;
 use gathering::gather;
 use gathering::gather::Moves;
 ghost use mathlib.Core.Path.{_≡_};
-ghost use Prim.Native.Nat.{_<_};
+ghost use Prim.Native.Nat.{_+_, _≤_, _<_};
 ghost use lib.ListN.{length};
-ghost use Rattle.gathering.specs.Gather.{movesIn};
+ghost use Rattle.gathering.specs.Gather.{gatherOf, movesIn, cnotsIn};
+ghost use Rattle.ending.specs.Rows.{played};
 ghost use Rattle.ending.specs.Clear.{followOf, leadOf, trailOf, outOf, cheapestOf};
 ghost use Rattle.ending.specs.Held.{swappedOf, takenOf, betterOf};
 
@@ -41,11 +42,11 @@ fn swapped(m: Moves) -> Moves
     }
 }
 
-// x is gathered at v; these moves then gather y, as that left it.
-fn follow(near: [u32; Job::QUBITS], set: u32, v: usize, x: u32, y: u32) -> Moves
-    ensures { λ r. ⌜ r ≡ movesIn (followOf near set v x y) ⌝ }
+// The moves m were laid at v; these then gather y, as those left it.
+fn follow(near: [u32; Job::QUBITS], set: u32, v: usize, m: Moves, y: u32) -> Moves
+    requires { ⌜ m .len ≤ 38 ⌝ }
+    ensures { λ r. ⌜ r ≡ movesIn (gatherOf near set v (played (cnotsIn (m .by) (m .to) 0 (m .len)) y)) ⌝ }
 {
-    let m = gather::gather(near, set, v, x);
     let to = m.to;
     let by = m.by;
     let z = rows::moved(y, by, to, m.len);
@@ -84,10 +85,21 @@ pub(crate) fn trail(
 {
     let v = k / 2;
     if k % 2 == 0 {
-        swapped(follow(near, set, v, asked[v], mirror[v]))
+        let m = gather::gather(near, set, v, asked[v]);
+        swapped(follow(near, set, v, m, mirror[v]))
     } else {
-        follow(near, set, v, mirror[v], asked[v])
+        let m = gather::gather(near, set, v, mirror[v]);
+        follow(near, set, v, m, asked[v])
     }
+}
+
+// How many moves gather x at v, and then y.
+fn moves_of(near: [u32; Job::QUBITS], set: u32, v: usize, x: u32, y: u32) -> usize
+    ensures { λ r. ⌜ r ≡ length (gatherOf near set v x) + length (followOf near set v x y) ⌝ }
+{
+    let first = gather::gather(near, set, v, x);
+    let second = follow(near, set, v, first, y);
+    first.len + second.len
 }
 
 fn cost(
@@ -100,9 +112,12 @@ fn cost(
     requires { ⌜ k < 40 ⌝ }
     ensures { λ r. ⌜ r ≡ length (outOf near set asked mirror k) ⌝ }
 {
-    let first = lead(near, set, asked, mirror, k);
-    let second = trail(near, set, asked, mirror, k);
-    first.len + second.len
+    let v = k / 2;
+    if k % 2 == 0 {
+        moves_of(near, set, v, asked[v], mirror[v])
+    } else {
+        moves_of(near, set, v, mirror[v], asked[v])
+    }
 }
 
 // The cheaper of choice k, if its qubit can be spared, and the best one so far.

@@ -1,20 +1,20 @@
 -- `ending::clearing::follow` meets its contract. Assumes nothing.
-use Rattle.ending.proofs.Choosing.{followed, followed-few}
+use mathlib.Core.Path.{ap, _∙_}
+use Rattle.gathering.specs.Gather.{gatherOf, movesIn}
 use borrow.Author.Needs.{needs}
 use Rattle.ending.proofs.clearing.follow.Statement.{statement}
 use Rattle.ending.proofs.clearing.follow.Tie as tie
 
+moved-requires : tie.Need-moved-requires
+moved-requires c κs = search needs
+
 gather-requires : tie.Need-gather-requires
 gather-requires c κs = search needs
 
-moved-requires : tie.Need-moved-requires
-moved-requires c κs = followed-few _ _ _ _ 0 _ (c .before .before .gather .ensures)
-
-gather-requires-2 : tie.Need-gather-requires-2
-gather-requires-2 c κs = search needs
-
 returns : tie.Need-returns
-returns c = followed _ _ _ _ _ _ (c .before .before .before .before .gather .ensures) _ _ (c .before .moved .ensures) (c .gather2 .ensures)
+returns c =
+    let a = c .before .before .before .before .args in
+    c .gather .ensures ∙ ap (λ w. movesIn (gatherOf (a .near) (a .set) (a .v) w)) (c .before .moved .ensures)
 
 pub follow-spec : {M : Type 1} → statement M
-follow-spec = tie.close (tie.spec gather-requires moved-requires gather-requires-2 returns)
+follow-spec = tie.close (tie.spec moved-requires gather-requires returns)
