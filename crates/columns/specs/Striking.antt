@@ -2,11 +2,11 @@
 use mathlib.Core.Bool.{Bool, false}
 use mathlib.Core.List.{List, [], _∷_}
 use Prim.Native.Nat.{ℕ, zero, suc, _+_}
+use lib.Bits.{bitOr}
 use lib.Dec.{eqb}
 use lib.ListN.{length, getD, set}
 use Rattle.sets.specs.Pick.{pick, both}
 use Rattle.sets.specs.Size.{singleOf, lowestOf}
-use Rattle.sets.specs.Search.{someOf}
 use Rattle.gates.specs.Limits.{mostQubits}
 use Rattle.gates.specs.declared.gate.Gate.the-variants.{Rotation}
 use Rattle.columns.specs.Pieces.{Piece, piece, idle, andThen}
@@ -33,6 +33,11 @@ strikeFrom (suc d) q angles xs = andThen (strikeRow (length xs) 0 q angles xs) (
 unfoldable pub strikeOff : List ℕ → List ℕ → Piece
 strikeOff angles xs = strikeFrom mostQubits 0 angles xs
 
--- some column is of one qubit
-unfoldable pub someSingle : List ℕ → Bool
-someSingle xs = someOf (λ k. singleOf (getD xs k 0)) (length xs)
+-- the column x where it is of one qubit, and the empty set where it is not
+unfoldable pub aloneOf : ℕ → ℕ
+aloneOf x = pick (singleOf x) x 0
+
+-- the qubits that are columns by themselves
+unfoldable pub singlesOf : List ℕ → ℕ
+singlesOf [] = 0
+singlesOf (x ∷ xs) = bitOr (aloneOf x) (singlesOf xs)

@@ -6,7 +6,7 @@ ghost use mathlib.Core.Path.{_≡_};
 ghost use mathlib.Core.Bool.{false};
 ghost use lib.ListN.{length};
 ghost use Rattle.columns.specs.Pieces.{held, wrote};
-ghost use Rattle.columns.specs.Striking.{someSingle, strikeOne, strikeRow, strikeOff};
+ghost use Rattle.columns.specs.Striking.{aloneOf, singlesOf, strikeOne, strikeRow, strikeOff};
 
 // The column k, where it is the qubit q alone.
 fn strike_one(
@@ -42,34 +42,37 @@ fn strike_row(cols: &mut [u32], angles: &[u32], out: &mut [u32], at: usize, q: u
     a
 }
 
-// Every column of one qubit, lowest qubit first.
-fn strike_all(cols: &mut [u32], angles: &[u32], out: &mut [u32], at: usize) -> usize
-    ensures { λ r. ⌜ held (now (cols .exit)) (now (out .exit)) r false ≡ wrote (now (out .entry)) at (strikeOff (now (angles .entry)) (now (cols .entry))) ⌝ }
+// A column of one qubit; the empty set for any other.
+fn alone(x: u32) -> u32
+    ensures { λ r. ⌜ r ≡ aloneOf x ⌝ }
 {
-    let mut a = at;
-    for q in 0..Job::QUBITS {
-        a = strike_row(cols, angles, out, a, q);
-    }
-    a
+    if sets::single(x) { x } else { 0 }
 }
 
-fn some_single(cols: &[u32]) -> bool
-    ensures { λ r. ⌜ r ≡ someSingle (now (cols .entry)) ⌝ }
+// The qubits that are columns by themselves. No column ends the pass early, so that many are looked at at once.
+fn singles(cols: &[u32]) -> u32
+    ensures { λ r. ⌜ r ≡ singlesOf (now (cols .entry)) ⌝ }
 {
+    let mut s = 0;
     for k in 0..cols.len() {
-        if sets::single(cols[k]) {
-            return true;
-        }
+        s = s | alone(cols[k]);
     }
-    false
+    s
 }
 
-// The same. After most CNOTs there is nothing to strike off, and one pass over the columns shows it.
+// Every column of one qubit, lowest qubit first. After most CNOTs there is nothing to strike off, and one pass over the columns shows it.
 pub fn strike(cols: &mut [u32], angles: &[u32], out: &mut [u32], at: usize) -> usize
     ensures { λ r. ⌜ held (now (cols .exit)) (now (out .exit)) r false ≡ wrote (now (out .entry)) at (strikeOff (now (angles .entry)) (now (cols .entry))) ⌝ }
 {
-    if some_single(cols) {
-        return strike_all(cols, angles, out, at);
+    let s = singles(cols);
+    if s == 0 {
+        return at;
     }
-    at
+    let mut a = at;
+    for q in 0..Job::QUBITS {
+        if sets::holds(s, q) {
+            a = strike_row(cols, angles, out, a, q);
+        }
+    }
+    a
 }

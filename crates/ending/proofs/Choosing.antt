@@ -3,25 +3,27 @@ use mathlib.Core.Path.{_≡_, refl, sym, ap, ap₂, _∙_}
 use mathlib.Core.Logic.{_≢_}
 use mathlib.Core.Bool.{Bool, true, false}
 use mathlib.Core.List.{List, [], _∷_, _++_, map}
-use Prim.Native.Nat.{ℕ, suc, _+_, _-_, _/_, _%_, _≤_, _<_}
+use Prim.Native.Nat.{ℕ, suc, _+_, _-_, _*_, _/_, _%_, _≤_, _<_}
 use native.Mathlib.Omega.{arith}
-use lib.Dec.{eqb}
+use lib.Dec.{eqb, ltb}
 use lib.ListN.{getD, length, length-append, replicate}
 use lib.Seq.{sets}
 use borrow.Author.Tests.{eq-eqb, ne-eqb, lt-ltb, le-ltb}
-use Rattle.sets.specs.Pick.{pick}
+use Rattle.sets.specs.Pick.{pick, both}
 use Rattle.spares.specs.Spare.{spareOf}
 use Rattle.gates.specs.declared.gate.Gate.{Gate}
 use Rattle.gates.specs.declared.gate.Gate.the-variants.{Cnot, Rotation, Bad}
 use Rattle.gathering.specs.declared.gather.Moves.{Moves}
-use Rattle.gathering.specs.Gather.{flip, gatherOf, controlOf, targetOf, movesIn, cnotsIn, Plain}
+use Rattle.gathering.specs.declared.gather.Order.{Order}
+use Rattle.gathering.specs.Order.{orderOf, orderIn}
+use Rattle.gathering.specs.Gather.{flip, gatherOf, alongOf, controlOf, targetOf, movesIn, cnotsIn, Plain}
 use Rattle.gathering.proofs.GatherWorks.{gather-few}
-use Rattle.gathering.proofs.GatherCode.{cnots-flip, moves-back, gather-plain, moves-len}
+use Rattle.gathering.proofs.GatherCode.{cnots-flip, moves-back, along-order, along-plain, along-few, gather-plain, moves-len}
 use Rattle.ending.specs.declared.clearing.Best.{Best}
 use Rattle.ending.specs.declared.clearing.Standing.{Standing}
 use Rattle.ending.specs.Rows.{played}
 use Rattle.ending.specs.Clear.{followOf, rowsFirst, mirrorFirst, outOf, leadOf, trailOf, leastFrom, cheapestOf}
-use Rattle.ending.specs.Held.{swappedOf, takenOf, betterOf}
+use Rattle.ending.specs.Held.{swappedOf, takenOf, bothOf, cheaperOf, betterOf}
 use Rattle.ending.proofs.Turning.{flip-length, flip-append}
 use Rattle.ending.proofs.Playing.{played-twice}
 
@@ -72,17 +74,27 @@ module _ (near : List ℕ) (Q v x y : ℕ) (m : Moves) (e : m ≡ movesIn (gathe
   pub followed-few : m .len ≤ 38
   followed-few = omega (arith, held-len (gatherOf near Q v x) m e, gather-few near Q v x)
 
-  pub followed : (r : Moves) → r ≡ movesIn (gatherOf near Q v (played (cnotsIn (m .by) (m .to) 0 (m .len)) y)) → r ≡ movesIn (followOf near Q v x y)
+  pub followed : (z : ℕ) (r : Moves) → z ≡ played (cnotsIn (m .by) (m .to) 0 (m .len)) y → r ≡ movesIn (gatherOf near Q v z) → r ≡ movesIn (followOf near Q v x y)
   unfolding followOf
-  followed r er =
-      er ∙ ap (λ (l : List Gate). movesIn (gatherOf near Q v (played l y))) (held-flip (gatherOf near Q v x) m e (gather-plain near Q v x) (gather-few near Q v x))
+  followed z r ez er =
+      er ∙ ap (λ (w : ℕ). movesIn (gatherOf near Q v w)) (ez ∙ ap (λ (l : List Gate). played l y) (held-flip (gatherOf near Q v x) m e (gather-plain near Q v x) (gather-few near Q v x)))
 
-  module _ (r : Moves) (er : r ≡ movesIn (gatherOf near Q v (played (cnotsIn (m .by) (m .to) 0 (m .len)) y))) where
-    pub follow-short : r .len ≤ 38
-    follow-short = omega (arith, held-len _ r er, gather-few near Q v (played (cnotsIn (m .by) (m .to) 0 (m .len)) y))
+-- and both along one order
+module _ (near : List ℕ) (Q : ℕ) (o : Order) (x : ℕ) (m : Moves) (e : m ≡ movesIn (alongOf near Q o x)) where
+  pub along-short : m .len ≤ 38
+  along-short = omega (arith, held-len (alongOf near Q o x) m e, along-few near Q o x)
 
-    pub moves-are : m .len + r .len ≡ length (gatherOf near Q v x) + length (followOf near Q v x y)
-    moves-are = omega (arith, held-len (gatherOf near Q v x) m e, held-len (followOf near Q v x y) r (followed r er))
+  pub both-moves : (y z : ℕ) (r : Moves) → z ≡ played (cnotsIn (m .by) (m .to) 0 (m .len)) y → r ≡ movesIn (alongOf near Q o z) → m .len + r .len ≡ bothOf near Q o x y
+  unfolding bothOf
+  both-moves y z r ez er =
+      ap₂ _+_ (held-len (alongOf near Q o x) m e)
+      (held-len (alongOf near Q o z) r er ∙ ap (λ (w : ℕ). length (alongOf near Q o w)) (ez ∙ ap (λ (l : List Gate). played l y) (held-flip (alongOf near Q o x) m e (along-plain near Q o x) (along-few near Q o x))))
+
+pub both-follow : (near : List ℕ) (Q v : ℕ) (o : Order) → o ≡ orderIn (orderOf near Q v) → (x y : ℕ) → bothOf near Q o x y ≡ length (gatherOf near Q v x) + length (followOf near Q v x y)
+unfolding bothOf followOf
+both-follow near Q v o e x y =
+    ap₂ (λ (l h : List Gate). length l + length h) (along-order near Q v x o e)
+    (along-order near Q v (played (flip (alongOf near Q o x)) y) o e ∙ ap (λ (l : List Gate). gatherOf near Q v (played (flip l) y)) (along-order near Q v x o e))
 
 -- ---- the two parts of a choice
 
@@ -216,45 +228,82 @@ module _ (near : List ℕ) (Q : ℕ) (N C : List ℕ) (k : ℕ) where
         pair : {s t s′ t′ : List ℕ} → s ≡ s′ → t ≡ t′ → _≡_ {A = Standing} (record { asked = s; mirror = t }) (record { asked = s′; mirror = t′ })
         pair p q = cc
 
-  -- ---- the better of two
+-- ---- the better of two
 
-  module _ (best least : ℕ) where
-    pub better-take : (n : ℕ) → spareOf near Q (k / 2) ≡ true → n ≡ length (outOf near Q N C k) → n < least → (record { k = k; cost = n }) ≡ betterOf near Q N C k best least
-    unfolding betterOf
-    better-take n s e l = rw (s, ← e, lt-ltb n least l)
+pub cheaper-take : (k n : ℕ) (b : Best) → n < b .cost → (record { k = k; cost = n }) ≡ cheaperOf k n b
+unfolding cheaperOf
+cheaper-take k n b l = rw (lt-ltb n (b .cost) l)
 
-    pub better-keep : (n : ℕ) → spareOf near Q (k / 2) ≡ true → n ≡ length (outOf near Q N C k) → least ≤ n → (record { k = best; cost = least }) ≡ betterOf near Q N C k best least
-    unfolding betterOf
-    better-keep n s e l = rw (s, ← e, le-ltb n least l)
+pub cheaper-keep : (k n : ℕ) (b : Best) → b .cost ≤ n → b ≡ cheaperOf k n b
+unfolding cheaperOf
+cheaper-keep k n b l = rw (le-ltb n (b .cost) l)
 
-    pub better-not : spareOf near Q (k / 2) ≡ false → (record { k = best; cost = least }) ≡ betterOf near Q N C k best least
-    unfolding betterOf
-    better-not s = rw s
+module _ (near : List ℕ) (Q : ℕ) (N C : List ℕ) (v : ℕ) (best : Best) where
+  pub better-not : spareOf near Q v ≡ false → best ≡ betterOf near Q N C v best
+  unfolding betterOf
+  better-not s = rw s
+
+  pub better-spare : spareOf near Q v ≡ true → (o : Order) → o ≡ orderIn (orderOf near Q v) → (n m : ℕ) → n ≡ bothOf near Q o (getD N v 0) (getD C v 0) → m ≡ bothOf near Q o (getD C v 0) (getD N v 0)
+      → cheaperOf (2 * v + 1) m (cheaperOf (2 * v) n best) ≡ betterOf near Q N C v best
+  unfolding betterOf
+  better-spare s o eo n m en em = rw (s, en ∙ both-follow near Q v o eo (getD N v 0) (getD C v 0) ∙ rows, em ∙ both-follow near Q v o eo (getD C v 0) (getD N v 0) ∙ mirror)
+    where
+      twice : 2 * v / 2 ≡ v
+      twice = omega arith
+
+      odd : (2 * v + 1) / 2 ≡ v
+      odd = omega arith
+
+      rows : length (gatherOf near Q v (getD N v 0)) + length (followOf near Q v (getD N v 0) (getD C v 0)) ≡ length (outOf near Q N C (2 * v))
+      rows = ap (λ (w : ℕ). length (gatherOf near Q w (getD N w 0)) + length (followOf near Q w (getD N w 0) (getD C w 0))) (sym twice) ∙ cost-rows near Q N C (2 * v) (omega arith)
+
+      mirror : length (gatherOf near Q v (getD C v 0)) + length (followOf near Q v (getD C v 0) (getD N v 0)) ≡ length (outOf near Q N C (2 * v + 1))
+      mirror = ap (λ (w : ℕ). length (gatherOf near Q w (getD C w 0)) + length (followOf near Q w (getD C w 0) (getD N w 0))) (sym odd) ∙ cost-mirror near Q N C (2 * v + 1) (λ (z : (2 * v + 1) % 2 ≡ 0). omega arith)
 
 -- ---- the cheapest
 
 module _ (near : List ℕ) (Q : ℕ) (N C : List ℕ) where
-  left : ℕ → ℕ → ℕ → ℕ → ℕ
-  left d k best least = leastFrom (λ k. spareOf near Q (k / 2)) (λ k. length (outOf near Q N C k)) d k best least
+  left : ℕ → ℕ → Best → ℕ
+  left d k b = leastFrom (λ k. spareOf near Q (k / 2)) (λ k. length (outOf near Q N C k)) d k (b .k) (b .cost)
 
-  -- the choice that is left to make from k on is the whole choice
-  pub Cheapest : ℕ → ℕ → ℕ → Type 0
-  Cheapest k best least = left (40 - k) k best least ≡ cheapestOf near Q N C
+  -- the choice that is left to make from v on is the whole choice
+  pub Cheapest : ℕ → Best → Type 0
+  Cheapest v b = left (2 * (20 - v)) (2 * v) b ≡ cheapestOf near Q N C
 
-  pub cheapest-start : Cheapest 0 40 77
+  pub cheapest-start : Cheapest 0 (record { k = 40; cost = 77 })
   unfolding Cheapest left cheapestOf
   cheapest-start = refl
 
-  one : (d k best least : ℕ) → left (suc d) k best least ≡ left d (k + 1) (betterOf near Q N C k best least .k) (betterOf near Q N C k best least .cost)
-  unfolding left leastFrom betterOf
-  one d k best least = refl
+  step : (d k v : ℕ) (b : Best) → k / 2 ≡ v → left (suc d) k b ≡ left d (k + 1) (pick (spareOf near Q v) (cheaperOf k (length (outOf near Q N C k)) b) b)
+  unfolding left leastFrom cheaperOf
+  step d k v b e = rw e (go (spareOf near Q v) (ltb (length (outOf near Q N C k)) (b .cost)))
+    where
+      go : (s t : Bool) → leastFrom (λ k. spareOf near Q (k / 2)) (λ k. length (outOf near Q N C k)) d (k + 1) (pick (both s t) k (b .k)) (pick (both s t) (length (outOf near Q N C k)) (b .cost))
+          ≡ left d (k + 1) (pick s (pick t (record { k = k; cost = length (outOf near Q N C k) }) b) b)
+      go true true = refl
+      go true false = refl
+      go false t = refl
 
-  pub cheapest-next : (k best least : ℕ) (b : Best) → k < 40 → b ≡ betterOf near Q N C k best least → Cheapest k best least → Cheapest (k + 1) (b .k) (b .cost)
+  two : (d v : ℕ) (b : Best) → left (suc (suc d)) (2 * v) b ≡ left d (2 * v + 1 + 1) (betterOf near Q N C v b)
+  unfolding betterOf
+  two d v b = step (suc d) (2 * v) v b (omega arith) ∙ step d (2 * v + 1) v (pick (spareOf near Q v) (cheaperOf (2 * v) (length (outOf near Q N C (2 * v))) b) b) (omega arith) ∙ go (spareOf near Q v)
+    where
+      first : Best
+      first = cheaperOf (2 * v) (length (outOf near Q N C (2 * v))) b
+
+      go : (s : Bool) → left d (2 * v + 1 + 1) (pick s (cheaperOf (2 * v + 1) (length (outOf near Q N C (2 * v + 1))) (pick s first b)) (pick s first b))
+          ≡ left d (2 * v + 1 + 1) (pick s (cheaperOf (2 * v + 1) (length (outOf near Q N C (2 * v + 1))) first) b)
+      go true = refl
+      go false = refl
+
+  pub cheapest-next : (v : ℕ) (b c : Best) → v < 20 → c ≡ betterOf near Q N C v b → Cheapest v b → Cheapest (v + 1) c
   unfolding Cheapest
-  cheapest-next k best least b l e h =
-      ap (λ (b : Best). left (40 - (k + 1)) (k + 1) (b .k) (b .cost)) e ∙ sym (one (40 - (k + 1)) k best least)
-      ∙ ap (λ (d : ℕ). left d k best least) (omega arith) ∙ h
+  cheapest-next v b c l e h =
+      let d : ℕ = 2 * (20 - (v + 1)) in
+      let more : 2 * (v + 1) ≡ 2 * v + 1 + 1 = omega arith in
+      let all : suc (suc d) ≡ 2 * (20 - v) = omega arith in
+      ap₂ (left d) more e ∙ sym (two d v b) ∙ ap (λ (d : ℕ). left d (2 * v) b) all ∙ h
 
-  pub cheapest-end : (k best least : ℕ) → 40 ≤ k → Cheapest k best least → best ≡ cheapestOf near Q N C
+  pub cheapest-end : (v : ℕ) (b : Best) → 20 ≤ v → Cheapest v b → b .k ≡ cheapestOf near Q N C
   unfolding Cheapest left leastFrom
-  cheapest-end k best least l h = let z : 40 - k ≡ 0 = omega arith in sym (ap (λ (d : ℕ). left d k best least) z) ∙ h
+  cheapest-end v b l h = let z : 2 * (20 - v) ≡ 0 = omega arith in sym (ap (λ (d : ℕ). left d (2 * v) b) z) ∙ h

@@ -2,7 +2,7 @@
 use mathlib.Core.Path.{_≡_, refl, sym, ap, ap₂, _∙_}
 use mathlib.Core.Bool.{Bool, true, false}
 use mathlib.Core.List.{List, [], _∷_, _++_, map}
-use Prim.Native.Nat.{ℕ, zero, suc, _+_, _-_, _≤_, _<_}
+use Prim.Native.Nat.{ℕ, _+_, _-_, _≤_, _<_}
 use native.Mathlib.Omega.{arith}
 use native.Mathlib.Numerals.{add-one}
 use native.Mathlib.Decide.{ℕ-discrete}
@@ -16,6 +16,7 @@ use Rattle.gathering.specs.Gather.{cnotsIn}
 use Rattle.columns.proofs.Turns.{turned-zero}
 use Rattle.gathering.proofs.GatherCode.{cnots-step, cnots-none}
 use Rattle.ending.specs.Rows.{played, seen}
+use Rattle.ending.proofs.Writing.{drop-all}
 
 pub played-append : (L M : List Gate) (x : ℕ) → played (L ++ M) x ≡ played M (played L x)
 played-append [] M x = refl
@@ -81,28 +82,27 @@ seen-step false (Cnot c t) gs x = refl
 seen-step false (Rotation q a) gs x = refl
 seen-step false Bad gs x = refl
 
-module _ (b : Bool) (laid : List ℕ) (x : ℕ) where
-  pub replayed-next : (i y z : ℕ) (g : Gate) → i < length laid → g ≡ gateOf 20 (getD laid i 0) → z ≡ played (seen b (g ∷ [])) y
-      → played (seen b (gatesOf 20 (drop i laid))) y ≡ played (seen b (gatesOf 20 laid)) x
-      → played (seen b (gatesOf 20 (drop (i + 1) laid))) z ≡ played (seen b (gatesOf 20 laid)) x
-  replayed-next i y z g l eg ez h =
-      ap (played (seen b (gatesOf 20 (drop (i + 1) laid)))) ez
-      ∙ sym (seen-step b g (gatesOf 20 (drop (i + 1) laid)) y)
-      ∙ ap (λ (e : Gate). played (seen b (e ∷ gatesOf 20 (drop (i + 1) laid))) y) eg
-      ∙ sym (ap (λ (r : List ℕ). played (seen b (gatesOf 20 r)) y) (drop-cons laid i 0 l ∙ ap (λ (k : ℕ). getD laid i 0 ∷ drop k laid) (sym (add-one i)))) ∙ h
+seen-steps : (b : Bool) (g : Gate) (gs : List Gate) (N : List ℕ) → map (played (seen b (g ∷ gs))) N ≡ map (played (seen b gs)) (map (played (seen b (g ∷ []))) N)
+seen-steps b g gs [] = refl
+seen-steps b g gs (x ∷ N) = ap₂ (λ (y : ℕ) (l : List ℕ). y ∷ l) (seen-step b g gs x) (seen-steps b g gs N)
 
-  pub replayed-end : (i y : ℕ) → length laid ≤ i → played (seen b (gatesOf 20 (drop i laid))) y ≡ played (seen b (gatesOf 20 laid)) x → y ≡ played (seen b (gatesOf 20 laid)) x
-  replayed-end i y l h = sym (ap (λ (r : List ℕ). played (seen b (gatesOf 20 r)) y) (drop-all laid i l) ∙ none b) ∙ h
-    where
-      drop-all : (l : List ℕ) (i : ℕ) → length l ≤ i → drop i l ≡ []
-      drop-all [] zero h = refl
-      drop-all [] (suc i) h = refl
-      drop-all (x ∷ l) zero h = absurd (omega arith)
-      drop-all (x ∷ l) (suc i) h = drop-all l i (omega arith)
+seen-none : (b : Bool) (N : List ℕ) → map (played (seen b [])) N ≡ N
+seen-none b [] = refl
+seen-none true (x ∷ N) = ap (λ (l : List ℕ). x ∷ l) (seen-none true N)
+seen-none false (x ∷ N) = ap (λ (l : List ℕ). x ∷ l) (seen-none false N)
 
-      none : (b : Bool) → played (seen b []) y ≡ y
-      none true = refl
-      none false = refl
+module _ (b : Bool) (laid N : List ℕ) where
+  pub replayed-next : (i : ℕ) (A B : List ℕ) (g : Gate) → i < length laid → g ≡ gateOf 20 (getD laid i 0) → B ≡ map (played (seen b (g ∷ []))) A
+      → map (played (seen b (gatesOf 20 (drop i laid)))) A ≡ map (played (seen b (gatesOf 20 laid))) N
+      → map (played (seen b (gatesOf 20 (drop (i + 1) laid)))) B ≡ map (played (seen b (gatesOf 20 laid))) N
+  replayed-next i A B g l eg eB h =
+      ap (map (played (seen b (gatesOf 20 (drop (i + 1) laid))))) eB
+      ∙ sym (seen-steps b g (gatesOf 20 (drop (i + 1) laid)) A)
+      ∙ ap (λ (e : Gate). map (played (seen b (e ∷ gatesOf 20 (drop (i + 1) laid)))) A) eg
+      ∙ sym (ap (λ (r : List ℕ). map (played (seen b (gatesOf 20 r))) A) (drop-cons laid i 0 l ∙ ap (λ (k : ℕ). getD laid i 0 ∷ drop k laid) (sym (add-one i)))) ∙ h
+
+  pub replayed-end : (i : ℕ) (A : List ℕ) → length laid ≤ i → map (played (seen b (gatesOf 20 (drop i laid)))) A ≡ map (played (seen b (gatesOf 20 laid))) N → A ≡ map (played (seen b (gatesOf 20 laid))) N
+  replayed-end i A l h = sym (ap (λ (r : List ℕ). map (played (seen b (gatesOf 20 r))) A) (drop-all laid i l) ∙ seen-none b A) ∙ h
 
 pub fed-rotation : (b : Bool) (q a x : ℕ) → played (seen b (Rotation q a ∷ [])) x ≡ x
 fed-rotation true q a x = refl

@@ -123,32 +123,34 @@ length-told near Q N C own r l e h = h ∙ emit-at-room own 0 (endingOf near Q N
 
 -- ---- the closing
 
-pub shorter-yes : (a b n : ℕ) → a < n → ltb b (n - a) ≡ ltb (a + b) n
-shorter-yes a b n l = go (ltb b (n - a)) refl
-  where
-    go : (t : Bool) → ltb b (n - a) ≡ t → t ≡ ltb (a + b) n
-    go true e = sym (lt-ltb (a + b) n (omega (arith, ltb-true b (n - a) e)))
-    go false e = sym (le-ltb (a + b) n (omega (arith, ltb-false b (n - a) e)))
+module _ (near : List ℕ) (Q : ℕ) (N C : List ℕ) (gs : List Gate) (b n : ℕ) (eb : b ≡ length (backOf gs)) where
+  back-length : length (backFirst near Q N C gs) ≡ b + length (endingOf near Q N C)
+  unfolding backFirst
+  back-length = omega (arith, eb, length-append (backOf gs) (endingOf near Q N C))
 
-pub shorter-no : (a b n : ℕ) → n ≤ a → false ≡ ltb (a + b) n
-shorter-no a b n l = sym (le-ltb (a + b) n (omega arith))
+  pub back-shorter : (r : ℕ) → r ≡ length (endingOf near Q N C) → b < n → ltb r (n - b) ≡ ltb (length (backFirst near Q N C gs)) n
+  back-shorter r er l = go (ltb r (n - b)) refl
+    where
+      go : (t : Bool) → ltb r (n - b) ≡ t → t ≡ ltb (length (backFirst near Q N C gs)) n
+      go true e = sym (lt-ltb (length (backFirst near Q N C gs)) n (omega (arith, back-length, er, ltb-true r (n - b) e)))
+      go false e = sym (le-ltb (length (backFirst near Q N C gs)) n (omega (arith, back-length, er, ltb-false r (n - b) e)))
+
+  pub back-longer : n ≤ b → false ≡ ltb (length (backFirst near Q N C gs)) n
+  back-longer l = sym (le-ltb (length (backFirst near Q N C gs)) n (omega (arith, back-length)))
 
 module _ (near : List ℕ) (Q : ℕ) (N C : List ℕ) (gs : List Gate) (N′ C′ : List ℕ) (en : N′ ≡ map (played (seen false gs)) N) (ec : C′ ≡ map (played (seen true gs)) C)
-    (b r n : ℕ) (eb : b ≡ length (backOf gs)) (er : r ≡ length (endingOf near Q N C)) (eo : n ≡ length (endingOf near Q N′ C′)) where
+    (n : ℕ) (eo : n ≡ length (endingOf near Q N′ C′)) (t : Bool) (et : t ≡ ltb (length (backFirst near Q N C gs)) n) where
   onward-is : onwardOf near Q N C gs ≡ endingOf near Q N′ C′
   unfolding onwardOf
   onward-is = ap₂ (endingOf near Q) (sym en) (sym ec)
 
-  test-is : ltb (length (backFirst near Q N C gs)) (length (onwardOf near Q N C gs)) ≡ ltb (b + r) n
-  unfolding backFirst
-  test-is =
-      let e : length (backOf gs ++ endingOf near Q N C) ≡ b + r = omega (arith, length-append (backOf gs) (endingOf near Q N C)) in
-      ap₂ ltb e (ap length onward-is ∙ sym eo)
-
-  pub closing-back : ltb (b + r) n ≡ true → closingOf near Q N C gs ≡ backOf gs ++ endingOf near Q N C
-  unfolding closingOf backFirst
-  closing-back t = ap (λ (s : Bool). pick s (backOf gs ++ endingOf near Q N C) (onwardOf near Q N C gs)) (test-is ∙ t)
-
-  pub closing-onward : ltb (b + r) n ≡ false → closingOf near Q N C gs ≡ endingOf near Q N′ C′
+  closing-is : closingOf near Q N C gs ≡ pick t (backFirst near Q N C gs) (onwardOf near Q N C gs)
   unfolding closingOf
-  closing-onward t = ap (λ (s : Bool). pick s (backFirst near Q N C gs) (onwardOf near Q N C gs)) (test-is ∙ t) ∙ onward-is
+  closing-is = ap (λ (s : Bool). pick s (backFirst near Q N C gs) (onwardOf near Q N C gs)) (ap (ltb (length (backFirst near Q N C gs))) (ap length onward-is ∙ sym eo) ∙ sym et)
+
+  pub closing-back : t ≡ true → closingOf near Q N C gs ≡ backOf gs ++ endingOf near Q N C
+  unfolding backFirst
+  closing-back e = closing-is ∙ ap (λ (s : Bool). pick s (backOf gs ++ endingOf near Q N C) (onwardOf near Q N C gs)) e
+
+  pub closing-onward : t ≡ false → closingOf near Q N C gs ≡ endingOf near Q N′ C′
+  closing-onward e = closing-is ∙ ap (λ (s : Bool). pick s (backFirst near Q N C gs) (onwardOf near Q N C gs)) e ∙ onward-is

@@ -3,13 +3,13 @@ use crate::rows;
 use gates::job::Job;
 use gathering::gather;
 use gathering::gather::Moves;
+use gathering::gather::Order;
 ghost use mathlib.Core.Path.{_≡_};
-ghost use Prim.Native.Nat.{_+_, _≤_, _<_};
-ghost use lib.ListN.{length};
-ghost use Rattle.gathering.specs.Gather.{gatherOf, movesIn, cnotsIn};
+ghost use Prim.Native.Nat.{_≤_, _<_};
+ghost use Rattle.gathering.specs.Gather.{movesIn, cnotsIn};
 ghost use Rattle.ending.specs.Rows.{played};
-ghost use Rattle.ending.specs.Clear.{followOf, leadOf, trailOf, outOf, cheapestOf};
-ghost use Rattle.ending.specs.Held.{swappedOf, takenOf, betterOf};
+ghost use Rattle.ending.specs.Clear.{leadOf, trailOf, outOf, cheapestOf};
+ghost use Rattle.ending.specs.Held.{swappedOf, takenOf, bothOf, cheaperOf, betterOf};
 
 // Two for each qubit: 2 v is rows first at v, 2 v + 1 mirror first.
 pub const CHOICES: usize = 2 * Job::QUBITS;
@@ -42,15 +42,14 @@ fn swapped(m: Moves) -> Moves
     }
 }
 
-// The moves m were laid at v; these then gather y, as those left it.
-fn follow(near: [u32; Job::QUBITS], set: u32, v: usize, m: Moves, y: u32) -> Moves
+// What the moves m leave of a row of the other kind.
+fn past(m: Moves, y: u32) -> u32
     requires { ⌜ m .len ≤ 38 ⌝ }
-    ensures { λ r. ⌜ r ≡ movesIn (gatherOf near set v (played (cnotsIn (m .by) (m .to) 0 (m .len)) y)) ⌝ }
+    ensures { λ r. ⌜ r ≡ played (cnotsIn (m .by) (m .to) 0 (m .len)) y ⌝ }
 {
     let to = m.to;
     let by = m.by;
-    let z = rows::moved(y, by, to, m.len);
-    gather::gather(near, set, v, z)
+    rows::moved(y, by, to, m.len)
 }
 
 // The first part of choice k.
@@ -86,67 +85,52 @@ pub(crate) fn trail(
     let v = k / 2;
     if k % 2 == 0 {
         let m = gather::gather(near, set, v, asked[v]);
-        swapped(follow(near, set, v, m, mirror[v]))
+        swapped(gather::gather(near, set, v, past(m, mirror[v])))
     } else {
         let m = gather::gather(near, set, v, mirror[v]);
-        follow(near, set, v, m, asked[v])
+        gather::gather(near, set, v, past(m, asked[v]))
     }
 }
 
-// How many moves gather x at v, and then y.
-fn moves_of(near: [u32; Job::QUBITS], set: u32, v: usize, x: u32, y: u32) -> usize
-    ensures { λ r. ⌜ r ≡ length (gatherOf near set v x) + length (followOf near set v x y) ⌝ }
+// How many moves gather x along an order, and then y.
+fn moves_of(near: [u32; Job::QUBITS], set: u32, order: Order, x: u32, y: u32) -> usize
+    ensures { λ r. ⌜ r ≡ bothOf near set order x y ⌝ }
 {
-    let first = gather::gather(near, set, v, x);
-    let second = follow(near, set, v, first, y);
+    let first = gather::along(near, set, order, x);
+    let second = gather::along(near, set, order, past(first, y));
     first.len + second.len
 }
 
-fn cost(
-    near: [u32; Job::QUBITS],
-    set: u32,
-    asked: [u32; Job::QUBITS],
-    mirror: [u32; Job::QUBITS],
-    k: usize,
-) -> usize
-    requires { ⌜ k < 40 ⌝ }
-    ensures { λ r. ⌜ r ≡ length (outOf near set asked mirror k) ⌝ }
+// The cheaper of choice k, which has n CNOTs, and the best one so far.
+fn cheaper(k: usize, n: usize, best: Best) -> Best
+    ensures { λ r. ⌜ r ≡ cheaperOf k n best ⌝ }
 {
-    let v = k / 2;
-    if k % 2 == 0 {
-        moves_of(near, set, v, asked[v], mirror[v])
-    } else {
-        moves_of(near, set, v, mirror[v], asked[v])
+    if n < best.cost {
+        return Best { k, cost: n };
     }
+    best
 }
 
-// The cheaper of choice k, if its qubit can be spared, and the best one so far.
+// The cheapest of both choices at v, if it can be spared, and the best one so far. One order from v
+// serves all four gatherings.
 fn better(
     near: [u32; Job::QUBITS],
     set: u32,
     asked: [u32; Job::QUBITS],
     mirror: [u32; Job::QUBITS],
-    k: usize,
-    best: usize,
-    least: usize,
+    v: usize,
+    best: Best,
 ) -> Best
-    requires { ⌜ k < 40 ⌝ }
-    ensures { λ r. ⌜ r ≡ betterOf near set asked mirror k best least ⌝ }
+    requires { ⌜ v < 20 ⌝ }
+    ensures { λ r. ⌜ r ≡ betterOf near set asked mirror v best ⌝ }
 {
-    if spares::spare::spare(near, set, k / 2) {
-        let n = cost(near, set, asked, mirror, k);
-        if n < least {
-            return Best { k, cost: n };
-        }
-        return Best {
-            k: best,
-            cost: least,
-        };
+    if spares::spare::spare(near, set, v) {
+        let order = gather::by_distance(near, set, v);
+        let rows_first = moves_of(near, set, order, asked[v], mirror[v]);
+        let mirror_first = moves_of(near, set, order, mirror[v], asked[v]);
+        return cheaper(2 * v + 1, mirror_first, cheaper(2 * v, rows_first, best));
     }
-    Best {
-        k: best,
-        cost: least,
-    }
+    best
 }
 
 // The choice with fewest CNOTs over the spare qubits, the first in a tie; 40 where none is spare.
@@ -158,14 +142,14 @@ pub(crate) fn cheapest(
 ) -> usize
     ensures { λ r. ⌜ r ≡ cheapestOf near set asked mirror ⌝ }
 {
-    let mut best = CHOICES;
-    let mut least = DEAR;
-    for k in 0..CHOICES {
-        let next = better(near, set, asked, mirror, k, best, least);
-        best = next.k;
-        least = next.cost;
+    let mut best = Best {
+        k: CHOICES,
+        cost: DEAR,
+    };
+    for v in 0..Job::QUBITS {
+        best = better(near, set, asked, mirror, v, best);
     }
-    best
+    best.k
 }
 
 // Both kinds of rows after choice k.

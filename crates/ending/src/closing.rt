@@ -8,14 +8,14 @@ use gates::job::Job;
 use gathering::gather;
 ghost use mathlib.Core.Path.{_≡_};
 ghost use mathlib.Core.List.{[], _∷_};
-ghost use Prim.Native.Nat.{_+_, _≤_, _<_};
+ghost use Prim.Native.Nat.{_≤_, _<_};
 ghost use lib.Dec.{ltb};
 ghost use lib.ListN.{length};
 ghost use Rattle.gates.specs.Layout.{gatesOf};
 ghost use Rattle.emitting.specs.Emit.{emit, emitAt};
 ghost use Rattle.gathering.specs.Gather.{cnotsIn};
 ghost use Rattle.ending.specs.Clear.{outOf};
-ghost use Rattle.ending.specs.Closing.{endingOf, backOf, closingOf};
+ghost use Rattle.ending.specs.Closing.{endingOf, backOf, backFirst, closingOf};
 
 // What 31 qubits taken out, each by 76 CNOTs, would lay.
 const ROOM: usize = 2356;
@@ -153,12 +153,21 @@ fn cnots(laid: &[u32]) -> usize
     n
 }
 
-// Whether back and then rest is shorter than onward.
-fn shorter(back: usize, rest: usize, onward: usize) -> bool
-    ensures { λ r. ⌜ r ≡ ltb (back + rest) onward ⌝ }
+// Whether back to the start first, and then the ending from there, is shorter than `onward`. Where
+// the way back is no shorter already, that ending is not needed.
+fn back_is_shorter(
+    near: [u32; Job::QUBITS],
+    set: u32,
+    asked: [u32; Job::QUBITS],
+    mirror: [u32; Job::QUBITS],
+    laid: &[u32],
+    onward: usize,
+) -> bool
+    ensures { λ r. ⌜ r ≡ ltb (length (backFirst near set asked mirror (gatesOf 20 (now (laid .entry))))) onward ⌝ }
 {
+    let back = cnots(laid);
     if back < onward {
-        return rest < onward - back;
+        return length_of(near, set, asked, mirror) < onward - back;
     }
     false
 }
@@ -179,7 +188,7 @@ pub fn close(
     let asked_now = rows::replayed_all(asked, laid, false);
     let mirror_now = rows::replayed_all(mirror, laid, true);
     let onward = length_of(near, set, asked_now, mirror_now);
-    if shorter(cnots(laid), length_of(near, set, asked, mirror), onward) {
+    if back_is_shorter(near, set, asked, mirror, laid, onward) {
         let next = put_back(out, at, laid);
         return ending(near, set, asked, mirror, out, next);
     }

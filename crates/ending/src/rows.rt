@@ -56,17 +56,17 @@ fn fed(x: u32, g: Gate, mirror: bool) -> u32
     }
 }
 
-// A row, or a mirror row, after the gates of the records.
-fn replayed(x: u32, laid: &[u32], mirror: bool) -> u32
-    ensures { λ r. ⌜ r ≡ played (seen mirror (gatesOf 20 (now (laid .entry)))) x ⌝ }
+fn fed_all(rows: [u32; Job::QUBITS], g: Gate, mirror: bool) -> [u32; Job::QUBITS]
+    ensures { λ r. ⌜ r ≡ map (played (seen mirror (g ∷ []))) rows ⌝ }
 {
-    let mut y = x;
-    for i in 0..laid.len() {
-        y = fed(y, gate::decode(laid[i], Job::QUBITS), mirror);
+    let mut all = [0; Job::QUBITS];
+    for i in 0..Job::QUBITS {
+        all[i] = fed(rows[i], g, mirror);
     }
-    y
+    all
 }
 
+// Rows, or mirror rows, after the gates of the records, each of which is read once for all rows.
 pub(crate) fn replayed_all(
     rows: [u32; Job::QUBITS],
     laid: &[u32],
@@ -74,9 +74,10 @@ pub(crate) fn replayed_all(
 ) -> [u32; Job::QUBITS]
     ensures { λ r. ⌜ r ≡ map (played (seen mirror (gatesOf 20 (now (laid .entry))))) rows ⌝ }
 {
-    let mut all = [0; Job::QUBITS];
-    for i in 0..Job::QUBITS {
-        all[i] = replayed(rows[i], laid, mirror);
+    let mut all = rows;
+    for i in 0..laid.len() {
+        let next = fed_all(all, gate::decode(laid[i], Job::QUBITS), mirror);
+        all = next;
     }
     all
 }

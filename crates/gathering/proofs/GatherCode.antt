@@ -3,7 +3,7 @@ use mathlib.Core.Path.{_≡_, refl, sym, ap, ap₂, _∙_, subst}
 use mathlib.Core.Logic.{_≢_}
 use mathlib.Core.Bool.{Bool, true, false}
 use mathlib.Core.List.{List, [], _∷_, _++_, map}
-use Prim.Native.Nat.{ℕ, zero, suc, _+_, _-_, _*_, _≤_, _<_}
+use Prim.Native.Nat.{ℕ, zero, suc, _+_, _-_, _*_, _≤_, _<_, min}
 use native.Mathlib.Omega.{arith}
 use native.Mathlib.Numerals.{add-one}
 use lib.Bits.{bitAnd, bitXor}
@@ -20,9 +20,9 @@ use Rattle.gathering.specs.declared.gather.Order.{Order}
 use Rattle.gathering.specs.declared.gather.Moves.{Moves}
 use Rattle.gathering.specs.declared.gather.Gathering.{Gathering}
 use Rattle.gathering.specs.Order.{orderOf, orderIn}
-use Rattle.gathering.specs.Gather.{flip, movesAt, leftAt, gatherFrom, gatherOf, controlOf, targetOf, movesIn, Stepped, cnotsIn, Plain}
+use Rattle.gathering.specs.Gather.{flip, movesAt, leftAt, gatherFrom, gatherOf, alongOf, controlOf, targetOf, movesIn, Stepped, cnotsIn, Plain}
 use Rattle.gathering.proofs.OrderGrows.{order-few}
-use Rattle.gathering.proofs.GatherWorks.{gather-step, gather-none, moves-few, gather-few}
+use Rattle.gathering.proofs.GatherWorks.{gather-step, gather-none, moves-few, gather-from-few, gather-few}
 use Rattle.sets.proofs.Storing.{sets-append, map-append}
 
 -- ---- one step
@@ -108,30 +108,36 @@ module _ (near : List ℕ) (Q v x : ℕ) where
       ap (λ (k : ℕ). getD (sets (replicate 20 0) 0 (orderOf near Q v)) k 0) (omega arith)
       ∙ sets-at (replicate 20 0) 0 (orderOf near Q v) j l (omega (arith, order-few near Q v, length-replicate {A = ℕ} 20 0))
 
-  pub gathered-start : (o : Order) → o ≡ orderIn (orderOf near Q v) → Gathered near (o .qubit) (replicate 38 0) (replicate 38 0) 0 (o .len - 1) Q x (gatherOf near Q v x)
-  unfolding orderIn gatherOf
-  gathered-start o e =
-      subst (λ (o : Order). Gathered near (o .qubit) (replicate 38 0) (replicate 38 0) 0 (o .len - 1) Q x (gatherOf near Q v x)) (sym e)
-      (record {
-        room = omega (arith, order-few near Q v);
-        wide = length-sets (replicate 20 0) 0 (orderOf near Q v) ∙ length-replicate {A = ℕ} 20 0;
-        few = omega (arith, order-few near Q v);
-        long-to = length-replicate {A = ℕ} 38 0;
-        long-by = length-replicate {A = ℕ} 38 0;
-        tos = ap (λ (l : List Gate). sets (replicate 38 0) 0 (map controlOf l)) same;
-        bys = ap (λ (l : List Gate). sets (replicate 38 0) 0 (map targetOf l)) same;
-        count = ap (λ (l : List Gate). 0 + length l) same ∙ omega arith;
-      })
+  pub along-order : (o : Order) → o ≡ orderIn (orderOf near Q v) → alongOf near Q o x ≡ gatherOf near Q v x
+  unfolding orderIn alongOf gatherOf
+  along-order o e = ap (λ (o : Order). alongOf near Q o x) e ∙ ap (λ (k : ℕ). gatherFrom near qs k Q x) few
+      ∙ gather-same near os qs (length os - 1) Q x (λ j l. qubit-at j (omega (arith, order-few near Q v)))
     where
       os : List ℕ
       os = orderOf near Q v
 
-      same : gatherFrom near (sets (replicate 20 0) 0 os) (length os - 1) Q x ≡ gatherFrom near os (length os - 1) Q x
-      same = gather-same near os (sets (replicate 20 0) 0 os) (length os - 1) Q x (λ j l. qubit-at j (omega (arith, order-few near Q v)))
+      qs : List ℕ
+      qs = sets (replicate 20 0) 0 os
 
-  pub order-some : (o : Order) → o ≡ orderIn (orderOf near Q v) → 1 ≤ o .len
-  unfolding orderIn
-  order-some o e = subst (λ (o : Order). 1 ≤ o .len) (sym e) (order-few near Q v .0)
+      few : min (length os) 20 - 1 ≡ length os - 1
+      few = omega (arith, order-few near Q v)
+
+pub gathered-start : (near qs : List ℕ) (Q x k : ℕ) → length qs ≡ 20 → k ≤ 20 → Gathered near qs (replicate 38 0) (replicate 38 0) 0 (k - 1) Q x (gatherFrom near qs (k - 1) Q x)
+gathered-start near qs Q x k l h =
+    record {
+      room = omega arith;
+      wide = l;
+      few = omega arith;
+      long-to = length-replicate {A = ℕ} 38 0;
+      long-by = length-replicate {A = ℕ} 38 0;
+      tos = refl;
+      bys = refl;
+      count = omega arith;
+    }
+
+pub along-is : (near : List ℕ) (Q : ℕ) (o : Order) (x k : ℕ) → k ≡ min (o .len) 20 → gatherFrom near (o .qubit) (k - 1) Q x ≡ alongOf near Q o x
+unfolding alongOf
+along-is near Q o x k e = ap (λ (j : ℕ). gatherFrom near (o .qubit) (j - 1) Q x) e
 
 module _ (near qs to by : List ℕ) (len k E x : ℕ) (all : List Gate) (g : Gathered near qs to by len k E x all) where
   pub gathered-next : (u d n : ℕ) (ts bs : List ℕ) (r : Gathering) → 0 < k → u ≡ getD qs k 0 → d ≡ onlyOf u → n ≡ getD near u 0
@@ -247,6 +253,14 @@ from-plain near os (suc k) S x =
     let E : ℕ = bitXor S (onlyOf u) in
     let a : ℕ = bitAnd (getD near u 0) E in
     subst Plain (sym (gather-step near os k S x)) (plain-append (movesAt a u x) (gatherFrom near os k E (leftAt a u x)) (moves-plain a u x) (from-plain near os k E (leftAt a u x)))
+
+pub along-plain : (near : List ℕ) (Q : ℕ) (o : Order) (x : ℕ) → Plain (alongOf near Q o x)
+unfolding alongOf
+along-plain near Q o x = from-plain near (o .qubit) (min (o .len) 20 - 1) Q x
+
+pub along-few : (near : List ℕ) (Q : ℕ) (o : Order) (x : ℕ) → length (alongOf near Q o x) ≤ 38
+unfolding alongOf
+along-few near Q o x = omega (arith, gather-from-few near (o .qubit) (min (o .len) 20 - 1) Q x)
 
 pub gather-plain : (near : List ℕ) (Q v x : ℕ) → Plain (gatherOf near Q v x)
 unfolding gatherOf

@@ -2,7 +2,7 @@
 use mathlib.Core.Path.{_≡_}
 use mathlib.Core.Logic.{_≢_}
 use mathlib.Core.List.{List, [], _∷_, _++_, map}
-use Prim.Native.Nat.{ℕ, zero, suc, _+_, _-_, _*_, _^_, _≤_}
+use Prim.Native.Nat.{ℕ, zero, suc, _+_, _-_, _*_, _^_, _≤_, min}
 use lib.Bits.{bitAnd, bitXor}
 use lib.Count.{ones}
 use lib.Dec.{eqb}
@@ -15,6 +15,7 @@ use Rattle.sets.specs.Columns.{turn}
 use Rattle.chip.specs.Graph.{Near}
 use Rattle.gates.specs.declared.gate.Gate.{Gate}
 use Rattle.gates.specs.declared.gate.Gate.the-variants.{Cnot, Rotation, Bad}
+use Rattle.gathering.specs.declared.gather.Order.{Order}
 use Rattle.gathering.specs.declared.gather.Moves.{Moves}
 use Rattle.gathering.specs.declared.gather.Gathering.{Gathering}
 use Rattle.gathering.specs.Order.{orderOf}
@@ -88,6 +89,10 @@ gatherFrom near os (suc k) S x =
 -- "gather x at v" in Q
 unfoldable pub gatherOf : List ℕ → ℕ → ℕ → ℕ → List Gate
 gatherOf near Q v x = gatherFrom near (orderOf near Q v) (length (orderOf near Q v) - 1) Q x
+
+-- the same along an order as the code holds it
+unfoldable pub alongOf : List ℕ → ℕ → Order → ℕ → List Gate
+alongOf near Q o x = gatherFrom near (o .qubit) (min (o .len) 20 - 1) Q x
 
 -- the moves L bring x to v alone, by two for each other member of S at most; v itself stays if it is in x
 pub record Gathers (near : List ℕ) (v S x : ℕ) (L : List Gate) : Type 0 where

@@ -40,7 +40,6 @@ module _ (a u x : ℕ) where
 
 -- ---- the loop
 
--- only the entries of the order decide
 -- n moves are counted; those of the first k members are still to come
 pub record Counting (near order : List ℕ) (from k E x n total : ℕ) : Type 0 where
   pub few : n + 2 * k ≤ 38
@@ -82,9 +81,6 @@ module _ (near order : List ℕ) (from : ℕ) where
     pub counting-few : (u a : ℕ) (o : Out) → o ≡ outAt a u x → o .moves ≤ 2
     unfolding outAt
     counting-few u a o e = subst (λ (o : Out). o .moves ≤ 2) (sym e) (moves-few a u x)
-
-    pub counting-most : (most : ℕ) → most ≤ n → most ≡ min most total
-    counting-most most h = omega (arith, c .count)
 
     counting-all : k ≤ 0 → n ≡ total
     counting-all z = omega (arith, c .count, ap length (ap (λ (j : ℕ). gatherFrom near os j E x) zero-k ∙ gather-none near os E x))

@@ -9,3 +9,4 @@ pub mod Firsts
 pub mod Moved
 pub mod Lays
 pub mod Tabled
+mod Trying

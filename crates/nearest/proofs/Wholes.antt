@@ -7,29 +7,36 @@ use Prim.Native.Nat.{ℕ, suc, _+_, _-_, _*_, _^_, _≤_, _<_, min}
 use native.Mathlib.Omega.{arith}
 use native.Mathlib.Decide.{ℕ-discrete}
 use lib.Bits.{bitAnd, bitXor}
-use lib.Count.{ones}
+use lib.Count.{ones, ones-le}
+use lib.Dec.{eqb}
 use lib.ListN.{getD, drop}
 use lib.Seq.{getD-drop}
+use borrow.Author.Tests.{eqb-true}
+use Rattle.sets.specs.Pick.{pick}
 use Rattle.sets.specs.Bit.{bit, has, In, Sub}
 use Rattle.sets.specs.Size.{sizeOf, lowestOf, onlyOf}
 use Rattle.sets.proofs.Bits.{bit-cases, bit-of-zero, xor-cancel}
 use Rattle.sets.proofs.Members.{in-and, and-in, in-lt, some-bit, put-other, put-same, put-keeps, put-cases}
-use Rattle.sets.proofs.Ones.{ones-pow, drop-same}
+use Rattle.sets.proofs.Ones.{ones-pow, ones-put, ones-drop, drop-same}
 use Rattle.sets.proofs.Words.{has-true, has-false, lowest-in, only-is}
 use Rattle.chip.specs.Graph.{Near, Symm}
 use Rattle.gathering.specs.Order.{Along, root, then}
-use Rattle.gathering.specs.Gather.{leftAt, gatherFrom}
+use Rattle.gathering.specs.Gather.{gatherFrom}
 use Rattle.gathering.proofs.OrderParts.{sub-lt}
 use Rattle.gathering.proofs.OrderGrows.{order-along, order-few}
-use Rattle.gathering.proofs.GatherWorks.{gathers-along, left-out}
-use Rattle.nearest.specs.Choice.{outAt, leastOf}
+use Rattle.gathering.proofs.GatherWorks.{gathers-along}
+use Rattle.nearest.specs.Choice.{outAt, leastOf, detourOf}
 use Rattle.nearest.specs.Sure.{Sure, Works, Whole, Told}
 use Rattle.nearest.specs.Orders.{Ordered}
 use Rattle.nearest.specs.declared.choice.Out.{Out}
-use Rattle.nearest.proofs.Counting.{out-two, out-one, Counting}
+use Rattle.nearest.proofs.Counting.{out-not, out-two, out-one, Counting}
 use Rattle.nearest.proofs.Sureness.{turns-lose}
 
 -- ---- one qubit is taken out
+
+-- the set is as many qubits smaller at most as there were moves that are no detour
+abbrev Shrinks : ℕ → Out → Type 0
+Shrinks x o = ones x + detourOf (o .moves) ≤ o .moves + ones (o .left)
 
 module _ (near : List ℕ) (E S u : ℕ) (low : S < 2 ^ 20) (z : bit E u ≡ 0) (e : S ≡ bitXor E (2 ^ u)) where
   up : Sub E S
@@ -67,17 +74,13 @@ module _ (near : List ℕ) (E S u : ℕ) (low : S < 2 ^ 20) (z : bit E u ≡ 0) 
   abbrev beside : ℕ
   beside = bitAnd (getD near u 0) E
 
-  left-one : (x : ℕ) → has x u ≡ true → bitAnd beside x ≢ 0 → bitXor x (onlyOf u) ≡ leftAt beside u x
-  unfolding outAt
-  left-one x h n = ap (λ (o : Out). o .left) (out-one beside u x (onlyOf u) h n refl)
+  -- what is left lies in E and is not empty
+  abbrev Taken : ℕ → Out → Type 0
+  Taken x o = Sub (o .left) E × (o .left ≢ 0) × Shrinks x o
 
-  left-two : (x : ℕ) → has x u ≡ true → bitAnd beside x ≡ 0 → beside ≢ 0 → bitXor (bitXor x (onlyOf (lowestOf beside))) (onlyOf u) ≡ leftAt beside u x
-  unfolding outAt
-  left-two x h i n = ap (λ (o : Out). o .left) (out-two beside u x (lowestOf beside) (onlyOf (lowestOf beside)) (onlyOf u) h i n refl refl refl)
-
-  -- what is left lies in E and is not empty; w is a neighbour of u in E
-  left-part : (w x : ℕ) → In w E → Near near u w → Sub x S → x ≢ 0 → Sub (leftAt beside u x) E × (leftAt beside u x ≢ 0)
-  left-part w x hw n f ne = go (has x u) refl (ℕ-discrete (bitAnd beside x) 0)
+  -- w is a neighbour of u in E
+  taken : (w x : ℕ) → In w E → Near near u w → Sub x S → x ≢ 0 → Taken x (outAt beside u x)
+  taken w x hw n f ne = go (has x u) refl (ℕ-discrete (bitAnd beside x) 0)
     where
       a≢ : beside ≢ 0
       a≢ o = omega (arith, and-in (getD near u 0) E w n hw, ap (λ (m : ℕ). bit m w) o, bit-of-zero w)
@@ -88,17 +91,26 @@ module _ (near : List ℕ) (E S u : ℕ) (low : S < 2 ^ 20) (z : bit E u ≡ 0) 
       pE : In (lowestOf beside) E
       pE = in-and (getD near u 0) E (lowestOf beside) in-a .1
 
-      go : (t : Bool) → has x u ≡ t → Dec (bitAnd beside x ≡ 0) → Sub (leftAt beside u x) E × (leftAt beside u x ≢ 0)
-      go false t d = subst (λ (y : ℕ). Sub y E × (y ≢ 0)) (sym (left-out beside u x t)) (sub-same x (has-false x u t) f, ne)
+      is-u : 2 ^ u ≡ onlyOf u
+      is-u = sym (only-is u (small u in-S))
+
+      go : (t : Bool) → has x u ≡ t → Dec (bitAnd beside x ≡ 0) → Taken x (outAt beside u x)
+      go false t d = subst (Taken x) (out-not beside u x t) (sub-same x (has-false x u t) f, ne, omega arith)
       go true t (no o) =
           let q = some-bit (bitAnd beside x) o in
           let h2 = in-and beside x (q .0) (q .1) in
           let qE : In (q .0) E = in-and (getD near u 0) E (q .0) (h2 .0) .1 in
-          subst (λ (y : ℕ). Sub y E × (y ≢ 0)) (ap (bitXor x) (sym (only-is u (small u in-S))) ∙ left-one x t o)
-          (sub-out x (has-true x u t) f, λ (y : bitXor x (2 ^ u) ≡ 0). omega (arith, h2 .1, put-other x u (q .0) (apart (q .0) qE), ap (λ (m : ℕ). bit m (q .0)) y, bit-of-zero (q .0)))
+          subst (Taken x) (out-one beside u x (2 ^ u) t o is-u) (
+            sub-out x (has-true x u t) f,
+            λ (y : bitXor x (2 ^ u) ≡ 0). omega (arith, h2 .1, put-other x u (q .0) (apart (q .0) qE), ap (λ (m : ℕ). bit m (q .0)) y, bit-of-zero (q .0)),
+            omega (arith, ones-drop u x (has-true x u t)),
+          )
       go true t (yes o) =
-          subst (λ (y : ℕ). Sub y E × (y ≢ 0)) (ap₂ (λ (c d : ℕ). bitXor (bitXor x c) d) (sym (only-is (lowestOf beside) (small (lowestOf beside) (up (lowestOf beside) pE)))) (sym (only-is u (small u in-S))) ∙ left-two x t o a≢)
-          (sub-out y in-y sub-y, λ (y0 : bitXor y (2 ^ u) ≡ 0). omega (arith, put-same x (lowestOf beside) out, put-other y u (lowestOf beside) (apart (lowestOf beside) pE), ap (λ (m : ℕ). bit m (lowestOf beside)) y0, bit-of-zero (lowestOf beside)))
+          subst (Taken x) (out-two beside u x (lowestOf beside) (2 ^ lowestOf beside) (2 ^ u) t o a≢ refl (sym (only-is (lowestOf beside) (small (lowestOf beside) (up (lowestOf beside) pE)))) is-u) (
+            sub-out y in-y sub-y,
+            λ (y0 : bitXor y (2 ^ u) ≡ 0). omega (arith, put-same x (lowestOf beside) out, put-other y u (lowestOf beside) (apart (lowestOf beside) pE), ap (λ (m : ℕ). bit m (lowestOf beside)) y0, bit-of-zero (lowestOf beside)),
+            omega (arith, ones-put (lowestOf beside) x out, ones-drop u y in-y),
+          )
         where
           y : ℕ
           y = bitXor x (2 ^ lowestOf beside)
@@ -122,21 +134,33 @@ module _ (near : List ℕ) (E S u : ℕ) (low : S < 2 ^ 20) (z : bit E u ≡ 0) 
 
 -- ---- the loop
 
+pub detour-few : (m : ℕ) → detourOf m ≤ m
+detour-few m = go (eqb m 2) refl
+  where
+    go : (t : Bool) → eqb m 2 ≡ t → pick t 2 0 ≤ m
+    go true e = omega (arith, eqb-true m 2 e)
+    go false e = omega arith
+
 module _ (near order : List ℕ) (from : ℕ) where
+  -- what o leaves of x is to be gathered by the first k + 1 qubits, which S has
+  abbrev Next : ℕ → ℕ → ℕ → Out → Type 0
+  Next k S x o = Whole near order from k S (o .left) × Shrinks x o
+
   back-on : (k S x u d m : ℕ) (o : Out) → Symm near → S < 2 ^ 20 → Along near (drop from order) k S → Sub x S → x ≢ 0 → 0 < k → u ≡ getD (drop from order) k 0 → d ≡ onlyOf u → m ≡ getD near u 0
-      → o ≡ outAt (bitAnd m (bitXor S d)) u x → Whole near order from (k - 1) (bitXor S d) (o .left)
-  unfolding outAt
+      → o ≡ outAt (bitAnd m (bitXor S d)) u x → Next (k - 1) (bitXor S d) x o
   back-on k S x u d m o sy low (root e) f ne h eu ed em eo = absurd (omega arith)
   back-on k S x u d m o sy low (then {k = j} {E = E} w a z hw n e) f ne h eu ed em eo =
-      subst (λ (i : ℕ). Whole near order from i (bitXor S d) (o .left)) one-less
-      (subst (λ (T : ℕ). Whole near order from j T (o .left)) (sym toE)
-      (record {
-        symm = sy;
-        low = sub-lt E S 20 (up near E S q low z e) low;
-        along = a;
-        part = subst (λ (y : ℕ). Sub y E) (sym is) (part .0);
-        some = λ y. part .1 (sym is ∙ y);
-      }))
+      subst (λ (i : ℕ). Next i (bitXor S d) x o) one-less
+      (subst (λ (T : ℕ). Next j T x o) (sym toE) (
+        record {
+          symm = sy;
+          low = sub-lt E S 20 (up near E S q low z e) low;
+          along = a;
+          part = part .0;
+          some = part .1;
+        },
+        part .2,
+      ))
     where
       one-less : j ≡ suc j - 1
       one-less = omega arith
@@ -147,27 +171,49 @@ module _ (near order : List ℕ) (from : ℕ) where
       toE : bitXor S d ≡ E
       toE = ap₂ bitXor e (ed ∙ ap onlyOf eu ∙ only-is q (small near E S q low z e q (in-S near E S q low z e))) ∙ xor-cancel E (2 ^ q)
 
-      part : Sub (leftAt (bitAnd (getD near q 0) E) q x) E × (leftAt (bitAnd (getD near q 0) E) q x ≢ 0)
-      part = left-part near E S q low z e w x hw (sy w q n) f ne
+      is : o ≡ outAt (bitAnd (getD near q 0) E) q x
+      is = eo ∙ ap₂ (λ (b T : ℕ). outAt (bitAnd b T) u x) em toE ∙ ap (λ (i : ℕ). outAt (bitAnd (getD near i 0) E) i x) eu
 
-      is : o .left ≡ leftAt (bitAnd (getD near q 0) E) q x
-      is =
-          ap (λ (o : Out). o .left) eo ∙ ap₂ (λ (b T : ℕ). leftAt (bitAnd b T) u x) em toE
-          ∙ ap (λ (i : ℕ). leftAt (bitAnd (getD near i 0) E) i x) eu
+      part : Taken near E S q low z e x o
+      part = subst (Taken near E S q low z e x) (sym is) (taken near E S q low z e w x hw (sy w q n) f ne)
 
-  pub whole-next : (b : Bool) (k S x u d m : ℕ) (o : Out) → Told b (Whole near order from k S x) → 0 < k → u ≡ getD order (from + k) 0 → d ≡ onlyOf u → m ≡ getD near u 0
-      → o ≡ outAt (bitAnd m (bitXor S d)) u x → Told b (Whole near order from (k - 1) (bitXor S d) (o .left))
-  whole-next b k S x u d m o t h eu ed em eo y =
-      let w = t y in
-      back-on k S x u d m o (w .symm) (w .low) (w .along) (w .part) (w .some) h (eu ∙ sym (getD-drop from order k 0)) ed em eo
+  module _ (b : Bool) (k S x : ℕ) (t : Told b (Whole near order from k S x)) where
+    module _ (n total bound : ℕ) (c : Counting near order from k S x n total) (l : bound ≤ n + leastOf b x) where
+      pub bound-few : bound ≤ 58
+      unfolding sizeOf
+      bound-few = go b refl l
+        where
+          go : (b₁ : Bool) → b ≡ b₁ → bound ≤ n + leastOf b₁ x → bound ≤ 58
+          go true y l = omega (arith, c .few, l, ones-le 20 x (sub-lt x S 20 (t y .part) (t y .low)))
+          go false y l = omega (arith, c .few, l)
 
-  pub whole-most : (b : Bool) (k S x n total most l : ℕ) → Told b (Whole near order from k S x) → Counting near order from k S x n total → n < most → l ≡ leastOf b x → most - n < l → most ≡ min most total
-  unfolding sizeOf
-  whole-most true k S x n total most l t c h e g =
-      let w = t refl in
-      let r = gathers-along (w .symm) (w .low) (w .along) x (w .part) (w .some) in
-      omega (arith, h, e, g, c .count, turns-lose (gatherFrom near (drop from order) k S x) x, ap ones (r .done), ones-pow (getD (drop from order) 0 0))
-  whole-most false k S x n total most l t c h e g = absurd (omega (arith, e, g))
+      pub bound-most : (most : ℕ) → most < bound → most ≡ min most total
+      unfolding sizeOf
+      bound-most most g = go b refl l
+        where
+          go : (b₁ : Bool) → b ≡ b₁ → bound ≤ n + leastOf b₁ x → most ≡ min most total
+          go true y l =
+              let w = t y in
+              let r = gathers-along (w .symm) (w .low) (w .along) x (w .part) (w .some) in
+              omega (arith, g, l, c .count, turns-lose (gatherFrom near (drop from order) k S x) x, ap ones (r .done), ones-pow (getD (drop from order) 0 0))
+          go false y l = omega (arith, g, l, c .count)
+
+    module _ (u d m : ℕ) (o : Out) (h : 0 < k) (eu : u ≡ getD order (from + k) 0) (ed : d ≡ onlyOf u) (em : m ≡ getD near u 0) (eo : o ≡ outAt (bitAnd m (bitXor S d)) u x) where
+      next : Told b (Next (k - 1) (bitXor S d) x o)
+      next y =
+          let w = t y in
+          back-on k S x u d m o (w .symm) (w .low) (w .along) (w .part) (w .some) h (eu ∙ sym (getD-drop from order k 0)) ed em eo
+
+      pub whole-next : Told b (Whole near order from (k - 1) (bitXor S d) (o .left))
+      whole-next y = next y .0
+
+      pub bound-next : (n bound e : ℕ) → bound ≤ n + leastOf b x → e ≡ detourOf (o .moves) → bound + e ≤ n + o .moves + leastOf b (o .left)
+      unfolding sizeOf
+      bound-next n bound e l ee = go b refl l
+        where
+          go : (b₁ : Bool) → b ≡ b₁ → bound ≤ n + leastOf b₁ x → bound + e ≤ n + o .moves + leastOf b₁ (o .left)
+          go true y l = omega (arith, l, ee, next y .1)
+          go false y l = omega (arith, l, ee, detour-few (o .moves))
 
 -- ---- from the orders
 

@@ -2,7 +2,7 @@
 use mathlib.Core.Bool.{Bool}
 use mathlib.Core.List.{List}
 use Prim.Native.Nat.{ℕ, zero, suc, _+_}
-use lib.Dec.{ltb}
+use lib.Dec.{eqb, ltb}
 use lib.ListN.{length, getD}
 use Rattle.sets.specs.Pick.{pick}
 use Rattle.sets.specs.Bit.{has}
@@ -52,3 +52,7 @@ outAt a u x = record { moves = length (movesAt a u x); left = leftAt a u x }
 -- so many more at least, and one, where a gathering works
 abbrev pub leastOf : Bool → ℕ → ℕ
 leastOf whole x = pick whole (sizeOf x) 0
+
+-- how many of the moves that take out one qubit leave the set as large as it was: both of two
+abbrev pub detourOf : ℕ → ℕ
+detourOf moves = pick (eqb moves 2) 2 0

@@ -3,10 +3,12 @@ use columns::turning;
 use gates::job::Job;
 use gathering::gather;
 ghost use mathlib.Core.Path.{_≡_};
+ghost use mathlib.Core.Bool.{true};
 ghost use Prim.Native.Nat.{_+_, _-_, _*_, _≤_, _<_, min};
 ghost use lib.ListN.{length, getD, drop};
+ghost use Rattle.sets.specs.Bit.{has};
 ghost use Rattle.gathering.specs.Gather.{gatherFrom};
-ghost use Rattle.nearest.specs.Choice.{triedAt, overQubits, chosen, outAt, leastOf};
+ghost use Rattle.nearest.specs.Choice.{triedAt, overQubits, chosen, outAt, leastOf, detourOf};
 ghost use Rattle.nearest.specs.Sure.{Sure, Works, Whole, Told};
 ghost use Rattle.nearest.specs.Orders.{Ordered};
 
@@ -62,6 +64,14 @@ fn least(whole: bool, x: u32) -> usize
     if whole { sets::size(x) } else { 0 }
 }
 
+// How many of the moves that take out one qubit leave the set as large as it was: both of two, for
+// the first puts a qubit in.
+fn detour(moves: usize) -> usize
+    ensures { λ r. ⌜ r ≡ detourOf moves ⌝ }
+{
+    if moves == 2 { 2 } else { 0 }
+}
+
 // How many moves gather x by the `len` qubits that stand from `from` on; no more are counted than
 // `most`. It stops where there are sure to be as many.
 fn count(
@@ -81,24 +91,24 @@ fn count(
     let mut earlier = set;
     let mut left = x;
     let mut n = 0;
+    // How many there are at least, and one.
+    let mut bound = least(whole, x);
     while 0 < k {
-        if most <= n {
-            return most;
-        }
-        if most - n < least(whole, left) {
+        if most < bound {
             return most;
         }
         let u = slot(order, from + k);
         earlier = earlier ^ sets::only(u);
         let out = out_of(turning::entry(near, u) & earlier, u, left);
         n += out.moves;
+        bound += detour(out.moves);
         left = out.left;
         k -= 1;
     }
     if most < n { most } else { n }
 }
 
-// The nearer of b and column k, which is x, gathered at v, where v is in x.
+// The nearer of b and column k, which is x, gathered at its qubit v.
 fn tried(
     near: &[u32],
     order: &[usize],
@@ -110,27 +120,25 @@ fn tried(
     v: usize,
     b: Choice,
 ) -> Choice
-    requires { ⌜ Ordered (now near) set (now order) (now len) × (v < 20) × Told whole (Works (now near) set x) ⌝ }
+    requires { ⌜ Ordered (now near) set (now order) (now len) × (v < 20) × (has x v ≡ true) × Told whole (Works (now near) set x) ⌝ }
     ensures { λ r. ⌜ r ≡ triedAt (now (near .entry)) set k x v b ⌝ }
 {
-    if sets::holds(x, v) {
-        let n = count(
-            near,
-            order,
-            Job::QUBITS * v,
-            slot(len, v),
-            set,
-            whole,
-            x,
-            b.moves,
-        );
-        if n < b.moves {
-            return Choice {
-                column: k,
-                qubit: v,
-                moves: n,
-            };
-        }
+    let n = count(
+        near,
+        order,
+        Job::QUBITS * v,
+        slot(len, v),
+        set,
+        whole,
+        x,
+        b.moves,
+    );
+    if n < b.moves {
+        return Choice {
+            column: k,
+            qubit: v,
+            moves: n,
+        };
     }
     b
 }
@@ -150,7 +158,13 @@ fn over_qubits(
     ensures { λ r. ⌜ r ≡ overQubits (now (near .entry)) set k x 20 0 b ⌝ }
 {
     let mut best = b;
-    for v in 0..Job::QUBITS {
+    let mut left = x;
+    while left != 0 {
+        let v = sets::lowest(left);
+        if Job::QUBITS <= v {
+            return best;
+        }
+        left = left ^ sets::only(v);
         best = tried(near, order, len, set, whole, k, x, v, best);
     }
     best

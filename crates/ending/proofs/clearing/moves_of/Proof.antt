@@ -1,21 +1,25 @@
 -- `ending::clearing::moves_of` meets its contract. Assumes nothing.
 use native.Mathlib.Omega.{arith}
-use Rattle.ending.proofs.Choosing.{followed-few, follow-short, moves-are}
+use Rattle.ending.proofs.Choosing.{along-short, both-moves}
 use borrow.Author.Needs.{needs}
 use Rattle.ending.proofs.clearing.moves_of.Statement.{statement}
 use Rattle.ending.proofs.clearing.moves_of.Tie as tie
 
-gather-requires : tie.Need-gather-requires
-gather-requires c κs = search needs
+along-requires : tie.Need-along-requires
+along-requires c κs = search needs
 
-follow-requires : tie.Need-follow-requires
-follow-requires c κs = followed-few _ _ _ _ 0 _ (c .gather .ensures)
+past-requires : tie.Need-past-requires
+past-requires c κs = along-short _ _ _ _ _ (c .along .ensures)
+
+along-requires-2 : tie.Need-along-requires-2
+along-requires-2 c κs = search needs
 
 add-result : tie.Need-add-result
-add-result c = omega (arith, followed-few _ _ _ _ 0 _ (c .before .before .before .gather .ensures), follow-short _ _ _ _ _ _ (c .before .before .before .gather .ensures) _ (c .before .before .follow .ensures))
+add-result c = omega (arith, along-short _ _ _ _ _ (c .before .before .before .before .along .ensures), along-short _ _ _ _ _ (c .before .before .along2 .ensures))
 
 returns : tie.Need-returns
-returns c = moves-are _ _ _ _ _ _ (c .before .before .before .gather .ensures) _ (c .before .before .follow .ensures)
+returns c = both-moves _ _ _ _ _ (c .before .before .before .before .along .ensures) _ _ _ (c .before .before .before .past .ensures) (c .before .before .along2 .ensures)
 
 pub moves-of-spec : {M : Type 1} → statement M
-moves-of-spec = tie.close (tie.spec gather-requires follow-requires add-result returns)
+moves-of-spec =
+    tie.close (tie.spec along-requires past-requires along-requires-2 add-result returns)

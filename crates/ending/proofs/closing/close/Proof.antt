@@ -1,5 +1,4 @@
 -- `ending::closing::close` meets its contract. Assumes nothing.
-use mathlib.Core.Path.{sym, _∙_}
 use Rattle.gates.specs.Layout.{gatesOf}
 use Rattle.ending.proofs.Writing.{written-both, written-same}
 use Rattle.ending.proofs.Recursion.{closing-back, closing-onward}
@@ -16,14 +15,8 @@ replayed-all-requires-2 c κs = search needs
 length-of-requires : tie.Need-length-of-requires
 length-of-requires c κs = search needs
 
-cnots-requires : tie.Need-cnots-requires
-cnots-requires c κs = search needs
-
-length-of-requires-2 : tie.Need-length-of-requires-2
-length-of-requires-2 c κs = search needs
-
-shorter-requires : tie.Need-shorter-requires
-shorter-requires c κs = search needs
+back-is-shorter-requires : tie.Need-back-is-shorter-requires
+back-is-shorter-requires c κs = search needs
 
 put-back-requires : tie.Need-put-back-requires
 put-back-requires c κs = search needs
@@ -37,8 +30,7 @@ same-length c = search needs
 returns : tie.Need-returns
 returns c =
     written-both _ _ _ _ _ _ _ _ _
-    (closing-back _ _ _ _ (gatesOf 20 (c .before .before .before .before .before .before .before .before .before .before .before .before .before .before .before .before .before .args .laid .now)) _ _ (c .before .before .before .before .before .before .before .before .before .before .before .before .before .before .replayed-all .ensures) (c .before .before .before .before .before .before .before .before .before .before .before .before .before .replayed-all2 .ensures) _ _ _ (c .before .before .before .before .before .before .before .before .before .before .before .cnots .ensures) (c .before .before .before .before .before .before .before .before .before .before .length-of2 .ensures) (c .before .before .before .before .before .before .before .before .before .before .before .before .length-of .ensures)
-    (sym (c .before .before .before .before .before .before .before .before .before .shorter .ensures) ∙ c .before .before .before .before .before .before .before .before .if1 .taken))
+    (closing-back _ _ _ _ (gatesOf 20 (c .before .before .before .before .before .before .before .before .before .before .before .before .before .before .before .args .laid .now)) _ _ (c .before .before .before .before .before .before .before .before .before .before .before .before .replayed-all .ensures) (c .before .before .before .before .before .before .before .before .before .before .before .replayed-all2 .ensures) _ (c .before .before .before .before .before .before .before .before .before .before .length-of .ensures) _ (c .before .before .before .before .before .before .before .before .before .back-is-shorter .ensures) (c .before .before .before .before .before .before .before .before .if1 .taken))
     (c .before .before .before .before .before .before .put-back .ensures .0) (c .before .before .before .before .before .before .put-back .ensures .1) (c .before .before .ending .ensures .0) (c .before .before .ending .ensures .1)
 
 ending-requires-2 : tie.Need-ending-requires-2
@@ -50,8 +42,7 @@ same-length-2 c = search needs
 returns-2 : tie.Need-returns-2
 returns-2 c =
     written-same _ _ _ _ _ _
-    (closing-onward _ _ _ _ (gatesOf 20 (c .before .before .before .before .before .before .before .before .before .before .before .before .before .args .laid .now)) _ _ (c .before .before .before .before .before .before .before .before .before .before .replayed-all .ensures) (c .before .before .before .before .before .before .before .before .before .replayed-all2 .ensures) _ _ _ (c .before .before .before .before .before .before .before .cnots .ensures) (c .before .before .before .before .before .before .length-of2 .ensures) (c .before .before .before .before .before .before .before .before .length-of .ensures)
-    (sym (c .before .before .before .before .before .shorter .ensures) ∙ c .before .before .before .before .if1 .left))
+    (closing-onward _ _ _ _ (gatesOf 20 (c .before .before .before .before .before .before .before .before .before .before .before .args .laid .now)) _ _ (c .before .before .before .before .before .before .before .before .replayed-all .ensures) (c .before .before .before .before .before .before .before .replayed-all2 .ensures) _ (c .before .before .before .before .before .before .length-of .ensures) _ (c .before .before .before .before .before .back-is-shorter .ensures) (c .before .before .before .before .if1 .left))
     (c .before .before .ending2 .ensures .0) (c .before .before .ending2 .ensures .1)
 
 pub close-spec : {M : Type 1} → statement M
@@ -61,9 +52,7 @@ close-spec =
     replayed-all-requires
     replayed-all-requires-2
     length-of-requires
-    cnots-requires
-    length-of-requires-2
-    shorter-requires
+    back-is-shorter-requires
     put-back-requires
     ending-requires
     same-length

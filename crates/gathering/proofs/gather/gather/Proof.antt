@@ -1,78 +1,19 @@
--- `gathering::gather::gather` meets its contract. The loop's invariant is `Gathered`; the measure is the number of members still to be taken out.
--- Assumes nothing.
-use mathlib.Core.Path.{refl}
-use Rattle.gathering.specs.Gather.{gatherOf}
-use Rattle.gathering.proofs.GatherCode.{Gathered, order-some, gathered-start, gathered-next, gathered-end}
+-- `gathering::gather::gather` meets its contract. Assumes nothing.
+use mathlib.Core.Path.{ap, _∙_}
+use Rattle.gathering.specs.Gather.{movesIn}
+use Rattle.gathering.proofs.GatherCode.{along-order}
 use borrow.Author.Needs.{needs}
-use native.Mathlib.Omega.{arith}
 use Rattle.gathering.proofs.gather.gather.Statement.{statement}
 use Rattle.gathering.proofs.gather.gather.Tie as tie
 
-abbrev Inv-loop : tie.InvT-loop
-Inv-loop near set v x qubit k₀ earlier₀ to₀ by₀ len₀ left₀ k earlier to by len left = Gathered near qubit to by len k earlier left (gatherOf near set v x)
-
-abbrev μ-loop : tie.MeasureT-loop
-μ-loop near set v x qubit k₀ earlier₀ to₀ by₀ len₀ left₀ k earlier to by len left = k
-
-by-distance-requires : tie.Need-by-distance-requires Inv-loop μ-loop
+by-distance-requires : tie.Need-by-distance-requires
 by-distance-requires c κs = search needs
 
-sub-k : tie.Need-sub-k Inv-loop μ-loop
-sub-k c = omega (arith, order-some _ _ _ 0 _ (c .before .before .by-distance .ensures))
+along-requires : tie.Need-along-requires
+along-requires c κs = search needs
 
-loop-holds : tie.Need-loop-holds Inv-loop μ-loop
-loop-holds c = gathered-start _ _ _ _ _ (c .before .before .by-distance .ensures)
-
-mul-u : tie.Need-mul-u Inv-loop μ-loop
-mul-u c = search needs
-
-array-read-u : tie.Need-array-read-u Inv-loop μ-loop
-array-read-u c = search needs
-
-only-requires : tie.Need-only-requires Inv-loop μ-loop
-only-requires c κs = search needs
-
-neighbours-requires : tie.Need-neighbours-requires Inv-loop μ-loop
-neighbours-requires c κs = search needs
-
-slice-aggregate-step : tie.Need-slice-aggregate-step Inv-loop μ-loop
-slice-aggregate-step c = search needs
-
-slice-aggregate-step-2 : tie.Need-slice-aggregate-step-2 Inv-loop μ-loop
-slice-aggregate-step-2 c = search needs
-
-step-requires : tie.Need-step-requires Inv-loop μ-loop
-step-requires c κs = search needs
-
-sub-k-2 : tie.Need-sub-k-2 Inv-loop μ-loop
-sub-k-2 c = search needs
-
-loop-less : tie.Need-loop-less Inv-loop μ-loop
-loop-less c = search needs
-
-loop-again : tie.Need-loop-again Inv-loop μ-loop
-loop-again c = gathered-next _ _ _ _ _ _ _ _ _ (c .before .before .before .before .before .before .before .before .loop .inv) _ _ _ _ _ _ (search needs) refl (c .before .before .before .before .before .before .only .ensures) (c .before .before .before .before .before .neighbours .ensures) (c .before .before .step .ensures)
-
-returns : tie.Need-returns Inv-loop μ-loop
-returns c = gathered-end _ _ _ _ _ _ _ _ _ (c .before .loop .inv) (search needs)
+returns : tie.Need-returns
+returns c = c .along .ensures ∙ ap movesIn (along-order _ _ _ _ _ (c .before .by-distance .ensures))
 
 pub gather-spec : {M : Type 1} → statement M
-gather-spec =
-    tie.close
-    (tie.spec
-    Inv-loop
-    μ-loop
-    by-distance-requires
-    sub-k
-    loop-holds
-    mul-u
-    array-read-u
-    only-requires
-    neighbours-requires
-    slice-aggregate-step
-    slice-aggregate-step-2
-    step-requires
-    sub-k-2
-    loop-less
-    loop-again
-    returns)
+gather-spec = tie.close (tie.spec by-distance-requires along-requires returns)
