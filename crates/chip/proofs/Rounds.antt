@@ -11,15 +11,12 @@ use lib.Seq.{drop-cons}
 use lib.Pow.{shr-shr}
 use lib.Bits.{bitAnd, bitOr, or-zero-r, or-zero-l, or-lt, and-le-r}
 use Rattle.sets.specs.Bit.{bit, has, when}
-use Rattle.sets.proofs.Bits.{bit-or, ext}
+use Rattle.sets.proofs.Bits.{or-assoc}
 use Rattle.sets.proofs.Members.{sub-eq}
 use Rattle.sets.proofs.Words.{has-true, has-false}
 use Rattle.chip.specs.Graph.{nbrs, grow, closure}
 use Rattle.chip.proofs.Closure.{closure-in, closure-keeps}
 use Rattle.sets.proofs.Finding.{sub-suc, sub-none}
-
-or-assoc : (a b c : ℕ) → bitOr (bitOr a b) c ≡ bitOr a (bitOr b c)
-or-assoc a b c = ext (bitOr (bitOr a b) c) (bitOr a (bitOr b c)) (λ i. simp bit-or (omega arith))
 
 -- ---- the neighbours of a set: `all` so far, and those of the members from u on
 

@@ -13,7 +13,7 @@ use lib.Seq.{drop-cons}
 use Rattle.sets.specs.Pick.{pick}
 use Rattle.sets.specs.Bit.{bit, has, In}
 use Rattle.sets.specs.Size.{singleOf, lowestOf}
-use Rattle.sets.proofs.Bits.{bit-zero, bit-suc, bit-lt, bit-or, bit-of-zero, ext}
+use Rattle.sets.proofs.Bits.{bit-zero, bit-suc, bit-lt, bit-or, bit-of-zero, or-assoc}
 use Rattle.sets.proofs.Words.{has-false, out-has}
 use Rattle.gates.specs.declared.gate.Gate.the-variants.{Rotation}
 use Rattle.columns.specs.Pieces.{Piece, piece, idle, after, andThen, Memory, held, wrote}
@@ -34,9 +34,6 @@ alone-yes x e = rw e
 pub alone-no : (x : ℕ) → singleOf x ≡ false → 0 ≡ aloneOf x
 unfolding aloneOf
 alone-no x e = rw e
-
-or-assoc : (a b c : ℕ) → bitOr (bitOr a b) c ≡ bitOr a (bitOr b c)
-or-assoc a b c = ext (bitOr (bitOr a b) c) (bitOr a (bitOr b c)) (λ i. simp bit-or (omega arith))
 
 singles-cons : (x : ℕ) (xs : List ℕ) → singlesOf (x ∷ xs) ≡ bitOr (aloneOf x) (singlesOf xs)
 unfolding singlesOf

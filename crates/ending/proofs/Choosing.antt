@@ -18,7 +18,7 @@ use Rattle.gathering.specs.declared.gather.Order.{Order}
 use Rattle.gathering.specs.Order.{orderOf, orderIn}
 use Rattle.gathering.specs.Gather.{flip, gatherOf, alongOf, controlOf, targetOf, movesIn, cnotsIn, Plain}
 use Rattle.gathering.proofs.GatherWorks.{gather-few}
-use Rattle.gathering.proofs.GatherCode.{cnots-flip, moves-back, along-order, along-plain, along-few, gather-plain, moves-len}
+use Rattle.gathering.proofs.GatherCode.{same-moves, cnots-flip, moves-back, along-order, along-plain, along-few, gather-plain, moves-len}
 use Rattle.ending.specs.declared.clearing.Best.{Best}
 use Rattle.ending.specs.declared.clearing.Standing.{Standing}
 use Rattle.ending.specs.Rows.{played}
@@ -41,13 +41,10 @@ flip-targets (Cnot c t ∷ gs) = ap (λ (l : List ℕ). c ∷ l) (flip-targets g
 flip-targets (Rotation q a ∷ gs) = ap (λ (l : List ℕ). 0 ∷ l) (flip-targets gs)
 flip-targets (Bad ∷ gs) = ap (λ (l : List ℕ). 0 ∷ l) (flip-targets gs)
 
-parts : {t b t′ b′ : List ℕ} {n n′ : ℕ} → t ≡ t′ → b ≡ b′ → n ≡ n′ → _≡_ {A = Moves} (record { to = t; by = b; len = n }) (record { to = t′; by = b′; len = n′ })
-parts et eb en = cc
-
 swapped-moves : (gs : List Gate) → swappedOf (movesIn gs) ≡ movesIn (flip gs)
 unfolding swappedOf movesIn
 swapped-moves gs =
-    parts (ap (sets (replicate 38 0) 0) (sym (flip-controls gs))) (ap (sets (replicate 38 0) 0) (sym (flip-targets gs))) (sym (flip-length gs))
+    same-moves (ap (sets (replicate 38 0) 0) (sym (flip-controls gs))) (ap (sets (replicate 38 0) 0) (sym (flip-targets gs))) (sym (flip-length gs))
 
 flip-plain : (gs : List Gate) → Plain gs → Plain (flip gs)
 flip-plain [] p = tt

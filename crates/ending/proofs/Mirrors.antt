@@ -21,13 +21,14 @@ use Rattle.gates.specs.declared.gate.Gate.the-variants.{Cnot, Rotation, Bad}
 use Rattle.gates.specs.Layout.{Good}
 use Rattle.circuit.specs.Circuit.{step, run, start, finalOf}
 use Rattle.gates.specs.All.{All}
+use Rattle.gates.proofs.Alls.{all-map}
 use Rattle.circuit.proofs.Steps.{cnot-past-target, cnot-target, cnot-other, step-length}
 use Rattle.circuit.proofs.Circuits.{run-length, start-length, final-is, start-at}
 use Rattle.gathering.specs.Gather.{turns, flip}
 use Rattle.ending.specs.Mirror.{mirrorsOf, mirrorOf, Paired, Bordered, Parted}
 use Rattle.ending.specs.Ends.{Ready}
 use Rattle.gathering.proofs.OrderParts.{bits-lt}
-use Rattle.circuit.proofs.Wiring.{wires-past}
+use Rattle.circuit.proofs.Wiring.{wires-past, good-up}
 
 pub mirror-is : (gs : List Gate) (j : ℕ) → mirrorOf gs j ≡ getD (mirrorsOf gs) j 0
 unfolding mirrorOf
@@ -208,17 +209,13 @@ same-mirror g h gg gh e j l =
         ∙ ap₂ dot (sym (e i k)) (ap (mirrorOf h) d)
     at i k (no n) = mirror-nul g gg i j k l n ∙ sym (mirror-nul h gh i j k l n) ∙ ap (λ (m : ℕ). dot m (mirrorOf h j)) (sym (e i k))
 
-good-up : (n : ℕ) (gs : List Gate) → n ≤ 20 → All (Good n) gs → All (Good 20) gs
-unfolding All Good
-good-up n [] l g = tt
-good-up n (Cnot c t ∷ gs) l g = ((omega (arith, g .0 .0), omega (arith, g .0 .1), g .0 .2), good-up n gs l (g .1))
-good-up n (Rotation q a ∷ gs) l g = ((omega (arith, g .0 .0), g .0 .1), good-up n gs l (g .1))
-good-up n (Bad ∷ gs) l g = absurd (g .0)
-
 -- two lists of good gates on n qubits with the same final parities below n have the same mirror
 pub mirror-same : (n : ℕ) (g h : List Gate) → n ≤ 20 → All (Good n) g → All (Good n) h → ((i : ℕ) → i < n → finalOf g i ≡ finalOf h i) → (j : ℕ) → j < 20 → mirrorOf g j ≡ mirrorOf h j
-mirror-same n g h l gg gh e = same-mirror g h (good-up n g l gg) (good-up n h l gh) (λ i k. at i (decLt i n))
+mirror-same n g h l gg gh e = same-mirror g h (all-map (Good n) (Good 20) up g gg) (all-map (Good n) (Good 20) up h gh) (λ i k. at i (decLt i n))
   where
+    up : (e : Gate) → Good n e → Good 20 e
+    up e k = good-up n 20 e l k
+
     at : (i : ℕ) → Dec (i < n) → finalOf g i ≡ finalOf h i
     at i (yes k) = e i k
     at i (no k) = final-is g i ∙ wires-past n g start i (omega arith) gg ∙ sym (wires-past n h start i (omega arith) gh) ∙ sym (final-is h i)

@@ -6,7 +6,7 @@ use Prim.Native.Nat.{ℕ, _+_, _-_, _≤_, _<_}
 use native.Mathlib.Omega.{arith}
 use native.Mathlib.Numerals.{add-one}
 use native.Mathlib.Decide.{ℕ-discrete}
-use lib.ListN.{getD, length, drop, set, length-set, length-map, List·getD-map}
+use lib.ListN.{getD, length, drop, drop-of-length-le, set, length-set, length-map, List·getD-map}
 use lib.Seq.{getD-set-same, getD-set-other, drop-cons, ext-getD}
 use Rattle.gates.specs.declared.gate.Gate.{Gate}
 use Rattle.gates.specs.declared.gate.Gate.the-variants.{Cnot, Rotation, Bad}
@@ -16,7 +16,6 @@ use Rattle.gathering.specs.Gather.{cnotsIn}
 use Rattle.columns.proofs.Turns.{turned-zero}
 use Rattle.gathering.proofs.GatherCode.{cnots-step, cnots-none}
 use Rattle.ending.specs.Rows.{played, seen}
-use Rattle.ending.proofs.Writing.{drop-all}
 
 pub played-append : (L M : List Gate) (x : ℕ) → played (L ++ M) x ≡ played M (played L x)
 played-append [] M x = refl
@@ -102,7 +101,7 @@ module _ (b : Bool) (laid N : List ℕ) where
       ∙ sym (ap (λ (r : List ℕ). map (played (seen b (gatesOf 20 r))) A) (drop-cons laid i 0 l ∙ ap (λ (k : ℕ). getD laid i 0 ∷ drop k laid) (sym (add-one i)))) ∙ h
 
   pub replayed-end : (i : ℕ) (A : List ℕ) → length laid ≤ i → map (played (seen b (gatesOf 20 (drop i laid)))) A ≡ map (played (seen b (gatesOf 20 laid))) N → A ≡ map (played (seen b (gatesOf 20 laid))) N
-  replayed-end i A l h = sym (ap (λ (r : List ℕ). map (played (seen b (gatesOf 20 r))) A) (drop-all laid i l) ∙ seen-none b A) ∙ h
+  replayed-end i A l h = sym (ap (λ (r : List ℕ). map (played (seen b (gatesOf 20 r))) A) (drop-of-length-le laid l) ∙ seen-none b A) ∙ h
 
 pub fed-rotation : (b : Bool) (q a x : ℕ) → played (seen b (Rotation q a ∷ [])) x ≡ x
 fed-rotation true q a x = refl

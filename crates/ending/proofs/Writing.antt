@@ -4,7 +4,7 @@ use mathlib.Core.List.{List, [], _∷_, _++_, append-assoc, append-nil}
 use Prim.Native.Nat.{ℕ, zero, suc, _+_, _-_, _≤_, _<_}
 use native.Mathlib.Omega.{arith}
 use native.Mathlib.Numerals.{add-one}
-use lib.ListN.{getD, length, take, drop, length-append}
+use lib.ListN.{getD, length, take, drop, drop-of-length-le, length-append}
 use lib.Seq.{take-suc, take-length, drop-cons}
 use Rattle.gates.specs.declared.gate.Gate.{Gate}
 use Rattle.gates.specs.declared.gate.Gate.the-variants.{Cnot, Rotation, Bad}
@@ -110,12 +110,6 @@ back-one Bad = omega arith
 next-drop : (xs : List ℕ) (i : ℕ) → i < length xs → drop i xs ≡ getD xs i 0 ∷ drop (i + 1) xs
 next-drop xs i l = drop-cons xs i 0 l ∙ ap (λ (k : ℕ). getD xs i 0 ∷ drop k xs) (sym (add-one i))
 
-pub drop-all : (xs : List ℕ) (i : ℕ) → length xs ≤ i → drop i xs ≡ []
-drop-all [] zero h = refl
-drop-all [] (suc i) h = refl
-drop-all (x ∷ xs) zero h = absurd (omega arith)
-drop-all (x ∷ xs) (suc i) h = drop-all xs i (omega arith)
-
 module _ (laid : List ℕ) where
   pub count-next : (i n m : ℕ) (g : Gate) → i < length laid → g ≡ gateOf 20 (getD laid i 0) → m ≡ length (backOf (g ∷ []))
       → n + length (backOf (gatesOf 20 (drop i laid))) ≡ length (backOf (gatesOf 20 laid))
@@ -127,7 +121,7 @@ module _ (laid : List ℕ) where
 
   pub count-end : (i n : ℕ) → length laid ≤ i → n + length (backOf (gatesOf 20 (drop i laid))) ≡ length (backOf (gatesOf 20 laid)) → n ≡ length (backOf (gatesOf 20 laid))
   count-end i n l h =
-      let z : length (backOf (gatesOf 20 (drop i laid))) ≡ 0 = ap (λ (xs : List ℕ). length (backOf (gatesOf 20 xs))) (drop-all laid i l) in
+      let z : length (backOf (gatesOf 20 (drop i laid))) ≡ 0 = ap (λ (xs : List ℕ). length (backOf (gatesOf 20 xs))) (drop-of-length-le laid l) in
       omega arith
 
 -- ---- the mirror
@@ -153,4 +147,4 @@ module _ (n : ℕ) (gates : List ℕ) where
 
   pub mirror-end : (i : ℕ) (all : List ℕ) → length gates ≤ i → run (flip (gatesOf n (drop i gates))) all ≡ mirrorsOf (gatesOf n gates) → all ≡ mirrorsOf (gatesOf n gates)
   unfolding run
-  mirror-end i all l h = sym (ap (λ (xs : List ℕ). run (flip (gatesOf n xs)) all) (drop-all gates i l)) ∙ h
+  mirror-end i all l h = sym (ap (λ (xs : List ℕ). run (flip (gatesOf n xs)) all) (drop-of-length-le gates l)) ∙ h

@@ -139,6 +139,9 @@ pub along-is : (near : List ℕ) (Q : ℕ) (o : Order) (x k : ℕ) → k ≡ min
 unfolding alongOf
 along-is near Q o x k e = ap (λ (j : ℕ). gatherFrom near (o .qubit) (j - 1) Q x) e
 
+pub same-moves : {t b t′ b′ : List ℕ} {n n′ : ℕ} → t ≡ t′ → b ≡ b′ → n ≡ n′ → _≡_ {A = Moves} (record { to = t; by = b; len = n }) (record { to = t′; by = b′; len = n′ })
+same-moves et eb en = cc
+
 module _ (near qs to by : List ℕ) (len k E x : ℕ) (all : List Gate) (g : Gathered near qs to by len k E x all) where
   pub gathered-next : (u d n : ℕ) (ts bs : List ℕ) (r : Gathering) → 0 < k → u ≡ getD qs k 0 → d ≡ onlyOf u → n ≡ getD near u 0
       → Stepped to by len (bitAnd n (bitXor E d)) u x ts bs r → Gathered near qs ts bs (r .len) (k - 1) (bitXor E d) (r .x) all
@@ -186,13 +189,10 @@ module _ (near qs to by : List ℕ) (len k E x : ℕ) (all : List Gate) (g : Gat
 
   pub gathered-end : k ≤ 0 → (record { to = to; by = by; len = len }) ≡ movesIn all
   unfolding movesIn
-  gathered-end z = parts (sym (ap (λ (l : List Gate). sets to len (map controlOf l)) none) ∙ g .tos) (sym (ap (λ (l : List Gate). sets by len (map targetOf l)) none) ∙ g .bys) (omega (arith, g .count, ap length none))
+  gathered-end z = same-moves (sym (ap (λ (l : List Gate). sets to len (map controlOf l)) none) ∙ g .tos) (sym (ap (λ (l : List Gate). sets by len (map targetOf l)) none) ∙ g .bys) (omega (arith, g .count, ap length none))
     where
       none : gatherFrom near qs k E x ≡ []
       none = ap (λ (j : ℕ). gatherFrom near qs j E x) (omega arith) ∙ gather-none near qs E x
-
-      parts : {t b t′ b′ : List ℕ} {n n′ : ℕ} → t ≡ t′ → b ≡ b′ → n ≡ n′ → _≡_ {A = Moves} (record { to = t; by = b; len = n }) (record { to = t′; by = b′; len = n′ })
-      parts et eb en = cc
 
 -- ---- moves read back
 

@@ -268,7 +268,7 @@ pub moves-out : (a u x : ℕ) → has x u ≡ false → movesAt a u x ≡ []
 unfolding movesAt
 moves-out a u x e = rw e
 
-pub left-out : (a u x : ℕ) → has x u ≡ false → leftAt a u x ≡ x
+left-out : (a u x : ℕ) → has x u ≡ false → leftAt a u x ≡ x
 unfolding leftAt
 left-out a u x e = rw e
 

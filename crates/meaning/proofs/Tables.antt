@@ -12,7 +12,7 @@ use lib.ListN.{length, getD, set, take, drop, replicate, length-append, length-m
 use lib.Seq.{ext-getD, getD-set-same, getD-set-other, set-append-left, take-append-le, drop-append-le, take-append-seam, drop-append-add}
 use borrow.Author.Tests.{leb-true, leb-false}
 use Rattle.sets.specs.Pick.{pick, either}
-use Rattle.sets.proofs.Finding.{first-true, first-before}
+use Rattle.sets.proofs.Finding.{sub-suc, first-true, first-before}
 use Rattle.gates.specs.declared.gate.Gate.{Gate}
 use Rattle.gates.specs.declared.gate.Gate.the-variants.{Rotation}
 use Rattle.table.specs.declared.sums.Sums.{Sums}
@@ -51,10 +51,7 @@ put-append k v xs zs h =
     ap₂ (λ (a b : List ℕ). a ++ v ∷ b) (take-append-le k xs zs h) (drop-append-le k xs zs h) ∙ sym (append-assoc (take k xs) (v ∷ drop k xs) zs)
 
 drop-zeros : (n : ℕ) (xs : List ℕ) → length xs < n → drop (length xs + 1) (xs ++ replicate (n - length xs) 0) ≡ replicate (n - (length xs + 1)) 0
-drop-zeros n xs h = drop-append-add xs (replicate (n - length xs) 0) 1 ∙ ap (λ (k : ℕ). drop 1 (replicate k 0)) (less n (length xs) h)
-  where
-    less : (n m : ℕ) → m < n → n - m ≡ suc (n - (m + 1))
-    less n m l = omega arith
+drop-zeros n xs h = drop-append-add xs (replicate (n - length xs) 0) 1 ∙ ap (λ (k : ℕ). drop 1 (replicate k 0)) (sub-suc n (length xs) h)
 
 -- moving in among the places that are taken is putting in
 padded-moved : (n k v : ℕ) (xs : List ℕ) → k ≤ length xs → length xs < n → movedIn (padded n xs) k (length xs) v ≡ padded n (putIn k v xs)

@@ -78,6 +78,3 @@ entry-out out xs o a p e = ap (λ (m : Memory). m .out) e
 pub entry-at : (out xs o : List ℕ) (a : ℕ) (p : Piece) → held xs o a false ≡ wrote out 0 p → a ≡ emitAt out 0 (p .laid)
 unfolding wrote
 entry-at out xs o a p e = ap (λ (m : Memory). m .at) e
-
-pub of-parts : (near : List ℕ) (Q : ℕ) (out : List ℕ) {ps ps′ angles angles′ : List ℕ} → ps ≡ ps′ → angles ≡ angles′ → wrote out 0 (nearestFor near Q ps angles) ≡ wrote out 0 (nearestFor near Q ps′ angles′)
-of-parts near Q out ep ea = cc

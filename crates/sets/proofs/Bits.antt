@@ -167,6 +167,9 @@ pub bit-or : (a b i : ℕ) → bit (bitOr a b) i ≡ max (bit a i) (bit b i)
 bit-or a b zero = bit-zero (bitOr a b) ∙ or-low a b ∙ simp bit-zero
 bit-or a b (suc i) = bit-suc (bitOr a b) i ∙ ap (λ (n : ℕ). bit n i) (or-shr a b 1) ∙ bit-or (a / 2) (b / 2) i ∙ simp bit-suc
 
+pub or-assoc : (a b c : ℕ) → bitOr (bitOr a b) c ≡ bitOr a (bitOr b c)
+or-assoc a b c = ext (bitOr (bitOr a b) c) (bitOr a (bitOr b c)) (λ i. simp bit-or (omega arith))
+
 -- ---- a choice by a bit
 
 pub bit-when : (b x j : ℕ) → bit (when b x) j ≡ when b (bit x j)

@@ -39,6 +39,3 @@ entry-out out xs o r p e = sym (ended-out xs o r) ∙ ap (λ (m : Memory). m .ou
 pub entry-answer : (out xs o : List ℕ) (r : Laid) (p : Piece) → ended xs o r ≡ wrote out 0 p → r ≡ answerOf out p
 unfolding wrote answerOf
 entry-answer out xs o r p e = ended-answer xs o r ∙ ap (λ (m : Memory). pick (m .stuck) (Stuck (m .at)) (On (m .at))) e
-
-pub of-parts : (near : List ℕ) (Q : ℕ) (out : List ℕ) {ps ps′ angles angles′ : List ℕ} → ps ≡ ps′ → angles ≡ angles′ → wrote out 0 (stepsFor near Q ps angles) ≡ wrote out 0 (stepsFor near Q ps′ angles′)
-of-parts near Q out ep ea = cc

@@ -11,6 +11,7 @@ use lib.ListN.{length, getD, set, take, replicate, length-append, length-take}
 use lib.Seq.{take-suc, take-all, getD-take, take-append-seam, length-take-le, set-at}
 use borrow.Author.Tests.{eq-eqb, ne-eqb}
 use Rattle.sets.specs.Pick.{pick}
+use Rattle.sets.proofs.Finding.{sub-suc}
 use Rattle.table.specs.declared.sums.Sums.{Sums}
 use Rattle.table.specs.Table.{kept, padded, keptTable}
 
@@ -51,10 +52,7 @@ kept-length (x ∷ xs) (y ∷ ys) (s ∷ ss) e = go (eqb s 0) (kept-length xs ys
     go false h = ap suc h
 
 zeros-less : (n m : ℕ) → m < n → replicate {A = ℕ} (n - m) 0 ≡ 0 ∷ replicate (n - (m + 1)) 0
-zeros-less n m h = ap (λ (k : ℕ). replicate {A = ℕ} k 0) (less n m h)
-  where
-    less : (n m : ℕ) → m < n → n - m ≡ suc (n - (m + 1))
-    less n m l = omega arith
+zeros-less n m h = ap (λ (k : ℕ). replicate {A = ℕ} k 0) (sub-suc n m h)
 
 padded-snoc : (n : ℕ) (xs : List ℕ) (v : ℕ) → length xs < n → set (padded n xs) (length xs) v ≡ padded n (xs ++ v ∷ [])
 unfolding padded

@@ -1,7 +1,9 @@
 -- `nearest::lay_terms` meets its contract: the columns are the terms counted. Assumes nothing.
-use mathlib.Core.Path.{_∙_}
+use mathlib.Core.Path.{ap₂, _∙_}
+use Rattle.columns.specs.Pieces.{wrote}
 use Rattle.columns.proofs.Parts.{part-long, part-is}
-use Rattle.nearest.proofs.Entry.{entry-out, entry-at, of-parts}
+use Rattle.nearest.specs.Nearest.{nearestFor}
+use Rattle.nearest.proofs.Entry.{entry-out, entry-at}
 use borrow.Author.Needs.{needs}
 use Rattle.nearest.proofs.lay_terms.Statement.{statement}
 use Rattle.nearest.proofs.lay_terms.Tie as tie
@@ -32,7 +34,7 @@ returns c =
     let a = c .before .before .before .before .before .before .before .before .before .args in
     let n = c .before .before .before .before .before .before .before .at-most in
     let b = c .before .before .before .lay-columns in
-    let e = b .ensures ∙ of-parts (a .near) (a .set) (a .out .now) (part-is (a .count) (a .parity) (search needs) (n .result) (n .ensures)) (part-is (a .count) (a .t4) (search needs) (n .result) (n .ensures)) in
+    let e = b .ensures ∙ ap₂ (λ ps rs. wrote (a .out .now) 0 (nearestFor (a .near) (a .set) ps rs)) (part-is (a .count) (a .parity) (search needs) (n .result) (n .ensures)) (part-is (a .count) (a .t4) (search needs) (n .result) (n .ensures)) in
     (entry-out (a .out .now) (b .last .1 .1 .0) (b .last .1 .1 .1 .1 .0) (b .result) _ e, entry-at (a .out .now) (b .last .1 .1 .0) (b .last .1 .1 .1 .1 .0) (b .result) _ e)
 
 pub lay-terms-spec : {M : Type 1} → statement M
