@@ -49,7 +49,8 @@ fn alone(x: u32) -> u32
     if sets::single(x) { x } else { 0 }
 }
 
-// The qubits that are columns by themselves. No column ends the pass early, so that many are looked at at once.
+// The qubits that are columns by themselves. No column ends the pass early, so that several can be
+// looked at at once.
 fn singles(cols: &[u32]) -> u32
     ensures { λ r. ⌜ r ≡ singlesOf (now (cols .entry)) ⌝ }
 {
@@ -60,7 +61,8 @@ fn singles(cols: &[u32]) -> u32
     s
 }
 
-// Every column of one qubit, lowest qubit first. After most CNOTs there is nothing to strike off, and one pass over the columns shows it.
+// Every column of one qubit, lowest qubit first. After most CNOTs there is nothing to strike off, and
+// one pass over the columns shows it.
 pub fn strike(cols: &mut [u32], angles: &[u32], out: &mut [u32], at: usize) -> usize
     ensures { λ r. ⌜ held (now (cols .exit)) (now (out .exit)) r false ≡ wrote (now (out .entry)) at (strikeOff (now (angles .entry)) (now (cols .entry))) ⌝ }
 {
