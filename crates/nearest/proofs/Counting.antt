@@ -1,16 +1,21 @@
 -- How many moves a gathering has, counted along the order without laying them. Assumes nothing.
 use mathlib.Core.Path.{_≡_, sym, ap, ap₂, _∙_, subst}
-use mathlib.Core.Logic.{_≢_}
-use mathlib.Core.Bool.{true, false}
+use mathlib.Core.Logic.{_≢_, _⊎_, inl, inr}
+use mathlib.Core.Bool.{Bool, true, false}
 use mathlib.Core.List.{List, _++_}
-use Prim.Native.Nat.{ℕ, suc, _+_, _-_, _*_, _≤_, _<_, min}
+use Prim.Native.Nat.{ℕ, suc, _+_, _-_, _*_, _^_, _≤_, _<_, min}
 use native.Mathlib.Omega.{arith}
-use lib.Bits.{bitAnd, bitXor}
+use native.Mathlib.Decide.{decLt}
+use lib.Bits.{bitAnd, bitXor, and-zero-r}
 use lib.ListN.{getD, length, drop, length-append}
 use lib.Seq.{getD-drop}
-use borrow.Author.Tests.{eq-eqb, ne-eqb}
-use Rattle.sets.specs.Bit.{has}
+use borrow.Author.Tests.{eq-eqb, ne-eqb, le-ltb}
+use Rattle.sets.specs.Pick.{pick}
+use Rattle.sets.specs.Bit.{bit, has, In}
 use Rattle.sets.specs.Size.{lowestOf, onlyOf}
+use Rattle.sets.proofs.Bits.{bit-pow-same, bit-cases, bit-of-zero}
+use Rattle.sets.proofs.Members.{in-and, and-in, single-sub}
+use Rattle.sets.proofs.Words.{in-has, out-has, has-past, only-is}
 use Rattle.gathering.specs.Gather.{movesAt, leftAt, gatherFrom}
 use Rattle.gathering.proofs.GatherWorks.{gather-step, gather-none, moves-few}
 use Rattle.nearest.specs.Choice.{outAt}
@@ -20,6 +25,29 @@ abbrev out : ℕ → ℕ → Out
 out n x = record { moves = n; left = x }
 
 -- ---- one qubit is taken out
+
+-- what x has of u: nothing, or the set of u alone
+module _ (u x d : ℕ) (ed : d ≡ onlyOf u) where
+  pub own-none : x < 4294967296 → bitAnd x d ≡ 0 → has x u ≡ false
+  own-none l z = go (decLt u 32) (bit-cases x u)
+    where
+      go : Dec (u < 32) → (bit x u ≡ 0) ⊎ (bit x u ≡ 1) → has x u ≡ false
+      go (no h) s = has-past x u l (omega arith)
+      go (yes h) (inl s) = out-has x u s
+      go (yes h) (inr s) =
+          let own : In u d = subst (In u) (sym (ed ∙ only-is u h)) (bit-pow-same u) in
+          absurd (omega (arith, and-in x d u s own, ap (λ (m : ℕ). bit m u) z, bit-of-zero u))
+
+  pub own-some : bitAnd x d ≢ 0 → (has x u ≡ true) × (bitAnd x d ≡ onlyOf u)
+  unfolding onlyOf
+  own-some n = go (decLt u 32)
+    where
+      go : Dec (u < 32) → (has x u ≡ true) × (bitAnd x d ≡ onlyOf u)
+      go (no h) = absurd (n (ap (bitAnd x) (ed ∙ ap (λ (t : Bool). pick t (2 ^ u) 0) (le-ltb u 32 (omega arith))) ∙ and-zero-r x))
+      go (yes h) =
+          let e : d ≡ 2 ^ u = ed ∙ only-is u h in
+          let alone : bitAnd x d ≡ 2 ^ u = single-sub u (bitAnd x d) (λ i k. subst (In i) e (in-and x d i k .1)) n in
+          (in-has x u (in-and x d u (subst (In u) (sym alone) (bit-pow-same u)) .0), alone ∙ sym (only-is u h))
 
 module _ (a u x : ℕ) where
   pub out-not : has x u ≡ false → out 0 x ≡ outAt a u x

@@ -32,23 +32,24 @@ struct Out {
 fn out_of(beside: u32, u: usize, x: u32) -> Out
     ensures { λ r. ⌜ r ≡ outAt beside u x ⌝ }
 {
-    if sets::holds(x, u) {
-        if beside & x == 0 {
-            if beside == 0 {
-                return Out { moves: 0, left: x };
-            }
-            let p = sets::lowest(beside);
-            return Out {
-                moves: 2,
-                left: x ^ sets::only(p) ^ sets::only(u),
-            };
-        }
+    let own = x & sets::only(u);
+    if own == 0 {
+        return Out { moves: 0, left: x };
+    }
+    if beside & x != 0 {
         return Out {
             moves: 1,
-            left: x ^ sets::only(u),
+            left: x ^ own,
         };
     }
-    Out { moves: 0, left: x }
+    if beside == 0 {
+        return Out { moves: 0, left: x };
+    }
+    let p = sets::lowest(beside);
+    Out {
+        moves: 2,
+        left: x ^ sets::only(p) ^ own,
+    }
 }
 
 fn slot(xs: &[usize], k: usize) -> usize
