@@ -2,7 +2,7 @@
 use mathlib.Core.List.{List, [], _∷_}
 use Prim.Native.Nat.{ℕ, suc, _+_, _-_, _*_, max}
 use lib.ListN.{getD, set, replicate}
-use Rattle.gates.specs.Limits.{mostQubits}
+use Rattle.gates.specs.Limits.{mostQubits, mostParities}
 use Rattle.gates.specs.declared.gate.Gate.{Gate}
 use Rattle.gates.specs.declared.gate.Gate.the-variants.{Cnot, Rotation, Bad}
 
@@ -52,3 +52,7 @@ depthOf gs = highest (layersFrom gs (replicate mostQubits 0))
 -- "With t terms, laying needs B = 2(n-1)t + t + 2n(n-1) output records"
 unfoldable pub boundOf : ℕ → ℕ → ℕ
 boundOf n t = 2 * (n - 1) * t + t + 2 * n * (n - 1)
+
+-- "For n = 20, t = 256, B is 10,744": the largest B of a job
+abbrev pub largest : ℕ
+largest = boundOf mostQubits mostParities

@@ -1,6 +1,7 @@
 // Counts of a list of gates, and the bound.
 use gates::gate;
 use gates::gate::Gate;
+use gates::job::Job;
 ghost use mathlib.Core.Path.{_≡_};
 ghost use Rattle.gates.specs.Layout.{gatesOf};
 ghost use Rattle.tallies.specs.Tally.{oneCnot, oneRotation, cnotsOf, rotationsOf, boundOf};
@@ -50,6 +51,10 @@ pub fn rotations(records: &[u32], n: usize) -> usize
     }
     count
 }
+
+// The largest B of a job.
+pub const LARGEST: usize =
+    2 * (Job::QUBITS - 1) * Job::PARITIES + Job::PARITIES + 2 * Job::QUBITS * (Job::QUBITS - 1);
 
 // How many output records the laying of t terms on n qubits may need.
 pub fn bound(n: u8, t: u16) -> usize
