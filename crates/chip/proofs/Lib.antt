@@ -5,4 +5,3 @@ pub mod Tests
 pub mod Rounds
 pub mod Neighbours
 pub mod Order
-pub mod Examples

@@ -1,4 +1,3 @@
 pub mod Graph
 pub mod Couplers
 pub mod Ordered
-pub mod Examples

@@ -9,7 +9,8 @@ use native.Mathlib.Decide.{ℕ-discrete}
 use lib.ListN.{getD}
 use lib.Bits.{bitAnd}
 use Rattle.sets.specs.Pick.{pick}
-use Rattle.sets.specs.Bit.{bit, In, Sub}
+use Rattle.sets.specs.Bit.{bit, In, Sub, has}
+use Rattle.sets.proofs.Deciding.{both-yes, both-not}
 use Rattle.sets.proofs.Bits.{bit-cases}
 use Rattle.sets.proofs.Members.{in-and, and-in, sub-eq}
 use Rattle.sets.proofs.Words.{in-has, out-has}
@@ -43,14 +44,14 @@ on-append S (x ∷ g) h = go (isOn S x) (on-append S g h)
 on-all : (near : List ℕ) (S : ℕ) (gs : List Gate) → All (Inside near S) gs → gatesOn S gs ≡ gs
 unfolding gatesOn isOn All Inside
 on-all near S [] a = refl
-on-all near S (Cnot c t ∷ gs) a = ap (λ (b : Bool). pick b (Cnot c t ∷ gatesOn S gs) (gatesOn S gs)) (in-has S c (a .0 .1)) ∙ ap (λ (l : List Gate). Cnot c t ∷ l) (on-all near S gs (a .1))
+on-all near S (Cnot c t ∷ gs) a = ap (λ (b : Bool). pick b (Cnot c t ∷ gatesOn S gs) (gatesOn S gs)) (both-yes (has S c) (has S t) (in-has S c (a .0 .1)) (in-has S t (a .0 .2))) ∙ ap (λ (l : List Gate). Cnot c t ∷ l) (on-all near S gs (a .1))
 on-all near S (Rotation q x ∷ gs) a = ap (λ (b : Bool). pick b (Rotation q x ∷ gatesOn S gs) (gatesOn S gs)) (in-has S q (a .0)) ∙ ap (λ (l : List Gate). Rotation q x ∷ l) (on-all near S gs (a .1))
 on-all near S (Bad ∷ gs) a = absurd (a .0)
 
 on-none : (near : List ℕ) (S R : ℕ) → ((i : ℕ) → In i R → bit S i ≡ 0) → (gs : List Gate) → All (Inside near R) gs → gatesOn S gs ≡ []
 unfolding gatesOn isOn All Inside
 on-none near S R off [] a = refl
-on-none near S R off (Cnot c t ∷ gs) a = ap (λ (b : Bool). pick b (Cnot c t ∷ gatesOn S gs) (gatesOn S gs)) (out-has S c (off c (a .0 .1))) ∙ on-none near S R off gs (a .1)
+on-none near S R off (Cnot c t ∷ gs) a = ap (λ (b : Bool). pick b (Cnot c t ∷ gatesOn S gs) (gatesOn S gs)) (both-not (has S c) (has S t) (out-has S c (off c (a .0 .1)))) ∙ on-none near S R off gs (a .1)
 on-none near S R off (Rotation q x ∷ gs) a = ap (λ (b : Bool). pick b (Rotation q x ∷ gatesOn S gs) (gatesOn S gs)) (out-has S q (off q (a .0))) ∙ on-none near S R off gs (a .1)
 on-none near S R off (Bad ∷ gs) a = absurd (a .0)
 

@@ -1,13 +1,14 @@
 -- The three demands, of `answered` and `outputOf`, which the contract of `laying::lay::lay` ties to the program. Assumes nothing.
 use mathlib.Core.Path.{_≡_, refl, sym, ap, ap₂, _∙_, subst}
-use mathlib.Core.Logic.{_≢_}
+use mathlib.Core.Logic.{_≢_, _⊎_, inl, inr, _↔_}
 use mathlib.Core.Bool.{Bool, true, false}
 use mathlib.Core.List.{List, _++_, map}
 use Prim.Native.Nat.{ℕ, _≤_}
 use native.Mathlib.Omega.{arith}
 use native.Mathlib.Decide.{ℕ-discrete}
 use lib.Dec.{eqb}
-use lib.ListN.{length, drop}
+use lib.ListN.{length, take, drop, length-map}
+use lib.Seq.{take-append-seam}
 use borrow.Author.Tests.{eqb-true, eqb-false}
 use Rattle.sets.specs.Pick.{pick}
 use Rattle.gates.specs.declared.gate.Gate.{Gate}
@@ -22,14 +23,17 @@ use Rattle.verdicts.specs.Verdicts.{numberOf, placeOf, judgedQubits, judgedCoup
 use Rattle.verdicts.specs.InOrder.{andThen}
 use Rattle.verdicts.proofs.Judged.{zero-accepted, then-on, then-stop, then-zero}
 use Rattle.verdicts.proofs.Passing.{accepted-good}
+use Rattle.verdicts.proofs.Rows.{Tests, row-fails}
+use Rattle.gates.proofs.Alls.{records-gates}
 use Rattle.chip.specs.Couplers.{nearOf}
-use Rattle.isles.specs.Islands.{islandsOf}
+use Rattle.isles.specs.Islands.{islandOf, islandsOf}
 use Rattle.laying.specs.declared.lay.Answer.{Answer}
 use Rattle.laying.specs.declared.lay.Answer.the-variants.{Laid, Refused}
 use Rattle.laying.specs.Layable.{Layable}
 use Rattle.judging.specs.Tests.{judgedCount, judgedParities, judgedReach, judgedRoom, judgedMeaning, judgedJob}
-use Rattle.laying.specs.Verdict.{judgedStuck, verdictOf, circuitOf, countsOf, answered, outputOf, verdictIn, recordsIn, cnotsIn, rotationsIn, depthIn}
-use Rattle.laying.specs.Demands.{Island, gatesOn, Faithful, judgedSix, Stays, Strays, Agree}
+use Rattle.laying.specs.Verdict.{judgedStuck, verdictOf, circuitOf, countsOf, answered, outputOf, verdictIn, recordsIn, cnotsIn, rotationsIn, depthIn, laidRecords}
+use Rattle.laying.specs.Reach.{Within}
+use Rattle.laying.specs.Demands.{Island, InIsland, gatesOn, Faithful, judgedSix, Stays, InIslands, Strays, Agree}
 use Rattle.laying.proofs.Job.{only-inside}
 use Rattle.judging.proofs.Judging.{qubits-few, over-few}
 use Rattle.laying.proofs.Accepting.{reach-within, within-reach, reach-number, reach-place, parities-whole, job-layable, job-room, job-listed, job-not-stuck, room-number}
@@ -87,7 +91,7 @@ module _ (n : ℕ) (couplers gates out : List ℕ) where
 -- ---- demand 2
 
 -- an accepted job passed tests 1 to 8
-accepted-job : (n : ℕ) (couplers gates : List ℕ) (room : ℕ) → numberOf (verdictOf n couplers gates room) ≡ 0 → numberOf (judgedJob n couplers gates room) ≡ 0
+pub accepted-job : (n : ℕ) (couplers gates : List ℕ) (room : ℕ) → numberOf (verdictOf n couplers gates room) ≡ 0 → numberOf (judgedJob n couplers gates room) ≡ 0
 unfolding verdictOf
 accepted-job n couplers gates room z = then-zero (judgedJob n couplers gates room) _ z .0
 
@@ -105,6 +109,21 @@ demand-2 n couplers gates room z =
       cnots = circuit-cnots n couplers gates job;
       bound = circuit-bounded n couplers gates job;
     }
+
+-- the records laid are the circuit's
+pub records-are : (n : ℕ) (couplers gates out : List ℕ) → numberOf (verdictOf n couplers gates (length out)) ≡ 0
+    → laidRecords n couplers gates out ≡ map recordOf (circuitOf n couplers gates)
+records-are n couplers gates out z =
+    let C : List Gate = circuitOf n couplers gates in
+    let a = demand-1-accepted n couplers gates out z in
+    ap₂ (λ (k : ℕ) (l : List ℕ). take k l) (a .0 ∙ sym (length-map C recordOf)) (a .4) ∙ take-append-seam (map recordOf C) (drop (length C) out)
+
+-- the same of the lent output: the gates of the records laid are the circuit
+pub demand-2-lent : (n : ℕ) (couplers gates out : List ℕ) → numberOf (verdictOf n couplers gates (length out)) ≡ 0
+    → gatesOf n (laidRecords n couplers gates out) ≡ circuitOf n couplers gates
+demand-2-lent n couplers gates out z =
+    let job = job-layable n couplers gates (length out) (accepted-job n couplers gates (length out) z) in
+    ap (gatesOf n) (records-are n couplers gates out z) ∙ records-gates n (circuitOf n couplers gates) (let f = job .few in omega arith) (circuit-good n couplers gates job)
 
 -- B is never exceeded: the records fit the room lent
 pub demand-2-fits : (n : ℕ) (couplers gates : List ℕ) (room : ℕ) → numberOf (verdictOf n couplers gates room) ≡ 0 → length (circuitOf n couplers gates) ≤ room
@@ -173,10 +192,31 @@ module _ (n : ℕ) (couplers gates : List ℕ) (room : ℕ) (six : numberOf (jud
       let a : reach ≡ andThen reach (judgedRoom n drawn room) = then-stop reach (judgedRoom n drawn room) ne in
       a ∙ then-stop (andThen reach (judgedRoom n drawn room)) (judgedStuck n (nearOf n couplers) drawn) (λ z. ne (ap numberOf a ∙ z)) ∙ rest
 
+  reached : Reachable n couplers drawn → reach ≡ Accepted
+  reached r = within-reach n couplers drawn few allGood (only-inside n couplers few ok drawn r)
+
+  strays : (numberOf reach ≡ 0 → ⊥) → Strays n couplers drawn (placeOf reach)
+  unfolding Stays InIsland
+  strays ne =
+      let s = reach-place n couplers drawn few allGood ne in
+      record {
+        most = s .0;
+        before = λ i l j m. in-linked n couplers few ok i j (let b = s .0 in omega arith) (s .1 i l j m);
+        here = λ l stay. s .2 l (λ j m. linked-in n couplers few ok (placeOf reach) j (stay j m));
+      }
+
+  -- test 7 is passed by what is reachable, and by nothing else
+  pub reach-tests : Tests reach 7 (Reachable n couplers drawn) (Reachable n couplers drawn → ⊥) (Strays n couplers drawn)
+  reach-tests = record { decided = go (ℕ-discrete (numberOf reach) 0); apart = λ r f. f r; refuses = omega arith }
+    where
+      go : Dec (numberOf reach ≡ 0) → ((numberOf reach ≡ 0) × Reachable n couplers drawn) ⊎ ((numberOf reach ≡ 7) × (Reachable n couplers drawn → ⊥) × Strays n couplers drawn (placeOf reach))
+      go (yes z) = inl (z, circuit-reaches n couplers gates (layable z))
+      go (no ne) = inr (reach-number n couplers drawn few allGood ne, λ r. ne (ap numberOf (reached r)), strays ne)
+
   -- refused as unreachable only where no circuit of coupler CNOTs and rotations has the meaning
   pub demand-2-unreachable : numberOf (verdictOf n couplers gates room) ≡ 7 → Reachable n couplers drawn → ⊥
   demand-2-unreachable h r =
-      let p : reach ≡ Accepted = within-reach n couplers drawn few allGood (only-inside n couplers few ok drawn r) in
+      let p : reach ≡ Accepted = reached r in
       let q : judgedStuck n (nearOf n couplers) drawn ≡ Accepted = stuck-passed n couplers gates (layable (ap numberOf p)) in
       room-number n drawn room
       (ap numberOf (ap₂ (λ (v w : Verdict). andThen (andThen v (judgedRoom n drawn room)) w) (sym p) (sym q) ∙ rest) ∙ h)
@@ -184,25 +224,31 @@ module _ (n : ℕ) (couplers gates : List ℕ) (room : ℕ) (six : numberOf (jud
   -- and wherever none has
   pub demand-2-refused : (Reachable n couplers drawn → ⊥) → numberOf (verdictOf n couplers gates room) ≡ 7
   demand-2-refused no-circuit =
-      let ne : numberOf reach ≡ 0 → ⊥ = λ z. no-circuit (circuit-reaches n couplers gates (layable z)) in
-      sym (ap numberOf (refused-7 ne)) ∙ reach-number n couplers drawn few allGood ne
+      let e : numberOf reach ≡ 7 = row-fails reach-tests .exactly .1 no-circuit in
+      sym (ap numberOf (refused-7 (λ z. omega (arith, e, z)))) ∙ e
 
   -- at the lowest wire whose final parity leaves its island, else n
   pub demand-2-place : numberOf (verdictOf n couplers gates room) ≡ 7 → Strays n couplers drawn (placeOf (verdictOf n couplers gates room))
-  unfolding Stays
   demand-2-place h =
       let ne : numberOf reach ≡ 0 → ⊥ = λ z. demand-2-unreachable h (circuit-reaches n couplers gates (layable z)) in
-      subst (λ (v : Verdict). Strays n couplers drawn (placeOf v)) (refused-7 ne) strays
+      subst (λ (v : Verdict). Strays n couplers drawn (placeOf v)) (refused-7 ne) (strays ne)
+
+  -- document 01, "Islands": "reachable exactly when each wire's final parity is inside that wire's island and each term is inside one island"
+  pub reachable-in-islands : Reachable n couplers drawn ↔ InIslands n couplers drawn
+  unfolding Stays InIsland
+  reachable-in-islands = (λ r. linked (only-inside n couplers few ok drawn r), λ i. circuit-reaches n couplers gates (layable (ap numberOf (within-reach n couplers drawn few allGood (found i)))))
     where
-      strays : Strays n couplers drawn (placeOf reach)
-      strays =
-          let ne : numberOf reach ≡ 0 → ⊥ = λ z. demand-2-unreachable h (circuit-reaches n couplers gates (layable z)) in
-          let s = reach-place n couplers drawn few allGood ne in
-          record {
-            most = s .0;
-            before = λ i l j m. in-linked n couplers few ok i j (let b = s .0 in omega arith) (s .1 i l j m);
-            here = λ l stay. s .2 l (λ j m. linked-in n couplers few ok (placeOf reach) j (stay j m));
-          }
+      linked : Within n (islandOf (nearOf n couplers)) drawn → InIslands n couplers drawn
+      linked w = record {
+        finals = λ i h j m. in-linked n couplers few ok i j h (w .finals i h j m);
+        terms = λ p t. let s = w .terms p t in (s .0, s .1, λ j m. in-linked n couplers few ok (s .0) j (s .1) (s .2 j m));
+      }
+
+      found : InIslands n couplers drawn → Within n (islandOf (nearOf n couplers)) drawn
+      found i = record {
+        finals = λ q h j m. linked-in n couplers few ok q j (i .finals q h j m);
+        terms = λ p t. let s = i .terms p t in (s .0, s .1, λ j m. linked-in n couplers few ok (s .0) j (s .2 j m));
+      }
 
 -- ---- demand 3
 

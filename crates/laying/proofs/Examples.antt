@@ -1,7 +1,9 @@
 -- The examples of document 01 marked P hold, all of them. Assumes nothing.
 use mathlib.Core.Path.{_≡_, refl, ap}
-use mathlib.Core.List.{List, _++_}
-use Prim.Native.Nat.{ℕ}
+use mathlib.Core.Logic.{_≢_, inr}
+use mathlib.Core.List.{List}
+use Prim.Native.Nat.{ℕ, _≤_}
+use native.Mathlib.Omega.{arith}
 use lib.Count.{trailingZeros}
 use Rattle.sets.specs.Columns.{units, cnot}
 use Rattle.sets.specs.Search.{firstOf, someOf}
@@ -13,40 +15,59 @@ use Rattle.table.specs.Table.{kept}
 use Rattle.tallies.specs.Tally.{boundOf}
 use Rattle.meaning.specs.Same.{Reachable}
 use Rattle.verdicts.specs.Verdicts.{numberOf, placeOf, firstFailing, judgedQubits, wrongAt, judgedCouplers, badAt, judgedGates}
+use Rattle.gates.specs.Limits.{mostQubits}
 use Rattle.gates.specs.Example.{True}
+use Rattle.verdicts.specs.Rows.{Passes1, WrongRecord}
 use Rattle.meaning.specs.Examples.{records5, records6, meaningExamples}
 use Rattle.meaning.proofs.Examples.{meaning-examples}
 use Rattle.gates.proofs.Examples.{true-append}
 use Rattle.chip.specs.Graph.{nbrs, grow, closure}
 use Rattle.chip.specs.Couplers.{linkOf, addOf, addAll, nearOf}
 use Rattle.isles.specs.Islands.{islandOf, islandsFrom, islandsOf}
-use Rattle.chip.specs.Examples.{chipExamples}
-use Rattle.chip.proofs.Examples.{chip-examples}
 use Rattle.share.specs.Own.{insideOf}
 use Rattle.judging.specs.Tests.{judgedCount, judgedParities, leavesAt, strayAt, scatters, scattered, judgedReach, judgedRoom, judgedMeaning, judgedJob}
 use Rattle.laying.specs.Verdict.{verdictOf}
-use Rattle.laying.specs.Examples.{couplers4, once4, twice4, gates9, layingExamples, provedExamples}
+use Rattle.laying.specs.Examples.{couplers4, once4, twice4, loop8, gates9, layingExamples, provedExamples}
 use Rattle.laying.proofs.Accepting.{job-layable}
 use Rattle.laying.proofs.Accepted.{circuit-reaches, job-accepted}
+use Rattle.laying.proofs.Rows.{rows}
 
 -- what is found by computing it: three refusals, and three jobs that pass tests 1 to 8
 record Computed : Type 0 where
   once : (room : ℕ) → (numberOf (verdictOf 3 couplers4 once4 room) ≡ 7) × (placeOf (verdictOf 3 couplers4 once4 room) ≡ 2)
   term : (room : ℕ) → (numberOf (verdictOf 3 couplers4 records5 room) ≡ 7) × (placeOf (verdictOf 3 couplers4 records5 room) ≡ 3)
-  short : numberOf (verdictOf 2 couplers4 gates9 6) ≡ 8
+  short : (numberOf (verdictOf 2 couplers4 gates9 6) ≡ 8) × (placeOf (verdictOf 2 couplers4 gates9 6) ≡ 0)
   twice : numberOf (judgedJob 3 couplers4 twice4 12) ≡ 0
   none : numberOf (judgedJob 3 couplers4 records6 12) ≡ 0
   enough : numberOf (judgedJob 2 couplers4 gates9 7) ≡ 0
 
 computed : Computed
 unfolding verdictOf judgedJob judgedMeaning judgedQubits judgedCouplers wrongAt judgedCount judgedGates badAt firstFailing firstOf someOf judgedParities overAt borne borneFrom bears insert judgedReach strayAt leavesAt insideOf scattered scatters terms kept sumOf given gives judgedRoom boundOf run start step units cnot lowestOf trailingZeros islandsOf islandsFrom islandOf closure grow nbrs nearOf addAll addOf linkOf couplerOf gateOf cnotOf rotationOf packed kindIn aIn bIn
-computed = record { once = λ room. (refl, refl); term = λ room. (refl, refl); short = refl; twice = refl; none = refl; enough = refl }
+computed = record { once = λ room. (refl, refl); term = λ room. (refl, refl); short = (refl, refl); twice = refl; none = refl; enough = refl }
 
 accepted : (n : ℕ) (xs ys : List ℕ) (room : ℕ) → numberOf (judgedJob n xs ys room) ≡ 0 → numberOf (verdictOf n xs ys room) ≡ 0
 accepted n xs ys room e = ap numberOf (job-accepted n xs ys room e)
 
 reached : (n : ℕ) (xs ys : List ℕ) (room : ℕ) → numberOf (judgedJob n xs ys room) ≡ 0 → Reachable n xs (gatesOf n ys)
 reached n xs ys room e = circuit-reaches n xs ys (job-layable n xs ys room e)
+
+-- 7 and 8 are rows of the table
+
+qubits-pass : (n : ℕ) (xs ys : List ℕ) (room : ℕ) → Passes1 n → numberOf (verdictOf n xs ys room) ≢ 1
+qubits-pass n xs ys room p e = rows n xs ys room .row-1 .exactly .0 e p
+
+qubits-fail : (n : ℕ) (xs ys : List ℕ) (room : ℕ) → (Passes1 n → ⊥) → numberOf (verdictOf n xs ys room) ≡ 1
+qubits-fail n xs ys room f = rows n xs ys room .row-1 .exactly .1 f
+
+loop-wrong : (n : ℕ) → WrongRecord n (packed 0 0 0)
+unfolding packed aIn bIn
+loop-wrong n = inr (inr (inr refl))
+
+loop-refused : (n : ℕ) → 1 ≤ n → n ≤ mostQubits → (ys : List ℕ) (room : ℕ) → (numberOf (verdictOf n loop8 ys room) ≡ 3) × (placeOf (verdictOf n loop8 ys room) ≡ 0)
+loop-refused n l m ys room =
+    let row = rows n loop8 ys room .row-3 in
+    let e = row .exactly .1 ((l, m), (omega arith, (0, omega arith, loop-wrong n))) in
+    (e, (let w = row .place e .within in omega (arith, w)))
 
 laying-examples : True layingExamples
 unfolding True
@@ -56,11 +77,19 @@ laying-examples = (
     computed .term,
     (
       (reached 3 couplers4 records6 12 (computed .none), accepted 3 couplers4 records6 12 (computed .none)),
-      ((computed .short, accepted 2 couplers4 gates9 7 (computed .enough)), tt),
+      (
+        (λ xs ys room. (
+          qubits-fail 0 xs ys room (λ (p : Passes1 0). omega (arith, p .0)),
+          qubits-fail 21 xs ys room (λ (p : Passes1 21). omega (arith, p .1)),
+          qubits-pass 1 xs ys room (omega arith, omega arith),
+          qubits-pass 20 xs ys room (omega arith, omega arith),
+        )),
+        (loop-refused, ((computed .short .0, computed .short .1, accepted 2 couplers4 gates9 7 (computed .enough)), tt)),
+      ),
     ),
   ),
 )
 
 -- all examples marked P
 pub examples : True provedExamples
-examples = true-append (meaningExamples ++ chipExamples) layingExamples (true-append meaningExamples chipExamples meaning-examples chip-examples) laying-examples
+examples = true-append meaningExamples layingExamples meaning-examples laying-examples

@@ -18,4 +18,6 @@ pub mod Linking
 pub mod Each
 pub mod Twice
 pub mod Demands
+pub mod Rows
+pub mod Archive
 pub mod Examples

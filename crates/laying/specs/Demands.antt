@@ -5,7 +5,7 @@ use mathlib.Core.List.{List, [], _∷_}
 use Prim.Native.Nat.{ℕ, _-_, _+_, _*_, _≤_, _<_}
 use lib.Dec.{eqb}
 use lib.ListN.{length, getD}
-use Rattle.sets.specs.Pick.{pick}
+use Rattle.sets.specs.Pick.{pick, both}
 use Rattle.sets.specs.Bit.{In, Sub, has}
 use Rattle.gates.specs.declared.gate.Gate.{Gate}
 use Rattle.gates.specs.declared.gate.Gate.the-variants.{Cnot, Rotation, Bad}
@@ -33,9 +33,13 @@ pub record Island (n : ℕ) (couplers : List ℕ) (S q : ℕ) : Type 0 where
   pub all : (j : ℕ) → Linked couplers n q j → In j S
   pub only : (j : ℕ) → In j S → Linked couplers n q j
 
--- a gate is on the set S: its qubits are (those of a laid gate are all in one island)
+-- "A parity is inside an island when all its qubits are": p is inside the island of q
+unfoldable pub InIsland : ℕ → List ℕ → ℕ → ℕ → Type 0
+InIsland n couplers q p = (j : ℕ) → In j p → Linked couplers n q j
+
+-- a gate is on the set S: all its qubits are
 unfoldable pub isOn : ℕ → Gate → Bool
-isOn S (Cnot c t) = has S c
+isOn S (Cnot c t) = both (has S c) (has S t)
 isOn S (Rotation q a) = has S q
 isOn S Bad = false
 
@@ -75,7 +79,12 @@ judgedSix n couplers gates =
 
 -- the final parity of wire i is inside its island
 unfoldable pub Stays : ℕ → List ℕ → List Gate → ℕ → Type 0
-Stays n couplers drawn i = (j : ℕ) → In j (finalOf drawn i) → Linked couplers n i j
+Stays n couplers drawn i = InIsland n couplers i (finalOf drawn i)
+
+-- "each wire's final parity is inside that wire's island and each term is inside one island"
+pub record InIslands (n : ℕ) (couplers : List ℕ) (drawn : List Gate) : Type 0 where
+  pub finals : (i : ℕ) → i < n → Stays n couplers drawn i
+  pub terms : (p : ℕ) → Term drawn p → (q : ℕ) × (q < n) × InIsland n couplers q p
 
 -- "lowest wire whose final parity leaves its island, else n"
 pub record Strays (n : ℕ) (couplers : List ℕ) (drawn : List Gate) (k : ℕ) : Type 0 where
@@ -84,6 +93,11 @@ pub record Strays (n : ℕ) (couplers : List ℕ) (drawn : List Gate) (k : ℕ) 
   pub here : k < n → Stays n couplers drawn k → ⊥
 
 -- ---- demand 3
+
+-- the same couplers, as sets: "one listed twice or turned round counts once"
+pub record SameCouplers (couplers couplers′ : List ℕ) : Type 0 where
+  pub there : (u v : ℕ) → Listed couplers u v → Listed couplers′ u v
+  pub back : (u v : ℕ) → Listed couplers′ u v → Listed couplers u v
 
 -- two jobs agree on the set S: "the same couplers inside, the same final parities of its wires, the same sums of all parities inside it"
 pub record Agree (S : ℕ) (couplers couplers′ : List ℕ) (drawn drawn′ : List Gate) : Type 0 where

@@ -1,13 +1,14 @@
--- Examples 4, 5, 6 and 9 of document 01, "Examples by number", of the entry point's verdict; and the list of all that are marked P.
+-- Examples 4 to 9 of document 01, "Examples by number", of the entry point's verdict; and the list of all that are marked P.
 use mathlib.Core.Path.{_≡_}
+use mathlib.Core.Logic.{_≢_}
 use mathlib.Core.List.{List, [], _∷_, _++_}
-use Prim.Native.Nat.{ℕ}
+use Prim.Native.Nat.{ℕ, _≤_}
+use Rattle.gates.specs.Limits.{mostQubits}
 use Rattle.gates.specs.Layout.{packed, gatesOf}
 use Rattle.meaning.specs.Same.{Reachable}
 use Rattle.verdicts.specs.Verdicts.{numberOf, placeOf}
 use Rattle.gates.specs.Example.{Example}
 use Rattle.meaning.specs.Examples.{cnotRecord, rotationRecord, records5, records6, meaningExamples}
-use Rattle.chip.specs.Examples.{chipExamples}
 use Rattle.laying.specs.Verdict.{verdictOf}
 
 -- "coupler 0-1"
@@ -37,16 +38,37 @@ fifth = record { number = 5; says = (room : ℕ) → (numberOf (verdictOf 3 coup
 abbrev pub sixth : Example
 sixth = record { number = 6; says = Reachable 3 couplers4 (gatesOf 3 records6) × (numberOf (verdictOf 3 couplers4 records6 12) ≡ 0) }
 
+-- "n=0 and n=21: 1. n=1 and 20 pass that test", whatever the rest of the job
+abbrev pub seventh : Example
+seventh = record {
+  number = 7;
+  says = (couplers gates : List ℕ) (room : ℕ) → (numberOf (verdictOf 0 couplers gates room) ≡ 1) × (numberOf (verdictOf 21 couplers gates room) ≡ 1)
+      × (numberOf (verdictOf 1 couplers gates room) ≢ 1) × (numberOf (verdictOf 20 couplers gates room) ≢ 1);
+}
+
+-- "coupler 0-0: 3, place 0", whatever the number of qubits and the gates
+abbrev pub loop8 : List ℕ
+loop8 = packed 0 0 0 ∷ []
+
+abbrev pub eighth : Example
+eighth = record {
+  number = 8;
+  says = (n : ℕ) → 1 ≤ n → n ≤ mostQubits → (gates : List ℕ) (room : ℕ) → (numberOf (verdictOf n loop8 gates room) ≡ 3) × (placeOf (verdictOf n loop8 gates room) ≡ 0);
+}
+
 -- "n=2, t=1: B is 7; 6 records lent give 8", 7 do not
 abbrev pub gates9 : List ℕ
 gates9 = rotationRecord 0 5 ∷ []
 
 abbrev pub ninth : Example
-ninth = record { number = 9; says = (numberOf (verdictOf 2 couplers4 gates9 6) ≡ 8) × (numberOf (verdictOf 2 couplers4 gates9 7) ≡ 0) }
+ninth = record {
+  number = 9;
+  says = (numberOf (verdictOf 2 couplers4 gates9 6) ≡ 8) × (placeOf (verdictOf 2 couplers4 gates9 6) ≡ 0) × (numberOf (verdictOf 2 couplers4 gates9 7) ≡ 0);
+}
 
 abbrev pub layingExamples : List Example
-layingExamples = fourth ∷ fifth ∷ sixth ∷ ninth ∷ []
+layingExamples = fourth ∷ fifth ∷ sixth ∷ seventh ∷ eighth ∷ ninth ∷ []
 
 -- all that are marked P
 abbrev pub provedExamples : List Example
-provedExamples = meaningExamples ++ chipExamples ++ layingExamples
+provedExamples = meaningExamples ++ layingExamples

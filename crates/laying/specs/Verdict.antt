@@ -2,7 +2,7 @@
 use mathlib.Core.List.{List, _++_, map}
 use Prim.Native.Nat.{ℕ}
 use lib.Dec.{eqb}
-use lib.ListN.{length, drop}
+use lib.ListN.{length, take, drop}
 use Rattle.sets.specs.Pick.{pick}
 use Rattle.gates.specs.declared.gate.Gate.{Gate}
 use Rattle.verdicts.specs.declared.verdict.Verdict.{Verdict}
@@ -73,3 +73,7 @@ rotationsIn (Refused v) = 0
 abbrev pub depthIn : Answer → ℕ
 depthIn (Laid records cnots rotations depth) = depth
 depthIn (Refused v) = 0
+
+-- what was laid: "the first records of the output are the circuit"
+abbrev pub laidRecords : ℕ → List ℕ → List ℕ → List ℕ → List ℕ
+laidRecords n couplers gates out = take (recordsIn (answered n couplers gates (length out))) (outputOf n couplers gates out)

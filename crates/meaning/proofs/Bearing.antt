@@ -1,15 +1,18 @@
 -- The parities that bear a rotation: how they grow with the gates, and that no other has an angle. Assumes nothing.
-use mathlib.Core.Path.{_≡_, refl, ap, _∙_, subst}
-use mathlib.Core.Logic.{_≢_, ⊎-elim}
+use mathlib.Core.Path.{_≡_, refl, sym, ap, _∙_, subst}
+use mathlib.Core.Logic.{_≢_, _⊎_, inl, inr, ⊎-elim}
+use mathlib.Core.Bool.{Bool, true, false}
 use mathlib.Core.List.{List, [], _∷_, _++_}
 use Prim.Native.Nat.{ℕ, _+_, _^_, _%_, _≤_, _<_, zero-le}
 use native.Mathlib.Omega.{arith}
 use native.Mathlib.Decide.{ℕ-discrete}
-use lib.ListN.{length, getD}
+use lib.Dec.{eqb, ltb}
+use lib.ListN.{length, getD, take, drop, take-append-drop}
+use Rattle.sets.specs.Pick.{pick}
 use Rattle.gates.specs.declared.gate.Gate.{Gate}
 use Rattle.gates.specs.declared.gate.Gate.the-variants.{Cnot, Rotation, Bad}
 use Rattle.circuit.specs.Circuit.{step, run, start, gives, given, sumOf, Term}
-use Rattle.meaning.specs.Borne.{insert, bears, borneFrom, borne, sumsOf, terms, Ascending, Among}
+use Rattle.meaning.specs.Borne.{insert, bears, borneFrom, borne, Meets, sumsOf, terms, Ascending, Among}
 use Rattle.gates.specs.Layout.{Good}
 use Rattle.gates.specs.All.{All}
 use Rattle.circuit.proofs.Steps.{gives-cnot, gives-bad, gives-other, step-length}
@@ -74,6 +77,48 @@ unfolding borneFrom
 borne-from-keeps [] W ps p h = h
 borne-from-keeps (g ∷ gs) W ps p h = borne-from-keeps gs (step g W) (bears g W ps) p (bears-keeps g W ps p h)
 
+-- a parity is among them exactly when some rotation meets it
+
+pub meets-borne : (p : ℕ) (gs : List Gate) → Meets p gs start → Among p (borne gs)
+unfolding borne
+meets-borne p gs m = rw (m .stands, borne-from-append (m .before) (Rotation (m .qubit) (m .angle) ∷ m .behind) start []) there
+  where
+    W : List ℕ
+    W = run (m .before) start
+
+    there : Among p (borneFrom (Rotation (m .qubit) (m .angle) ∷ m .behind) W (borneFrom (m .before) start []))
+    there =
+        unfold borneFrom bears in
+        borne-from-keeps (m .behind) (step (Rotation (m .qubit) (m .angle)) W) (insert (getD W (m .qubit) 0) (borneFrom (m .before) start [])) p
+        (subst (λ (r : ℕ). Among r (insert (getD W (m .qubit) 0) (borneFrom (m .before) start []))) (m .bearing) (insert-has (getD W (m .qubit) 0) (borneFrom (m .before) start [])))
+
+meets-later : (p : ℕ) (g : Gate) (gs : List Gate) (W : List ℕ) → Meets p gs (step g W) → Meets p (g ∷ gs) W
+unfolding run
+meets-later p g gs W m = record {
+  before = g ∷ m .before;
+  qubit = m .qubit;
+  angle = m .angle;
+  behind = m .behind;
+  stands = ap (λ (l : List Gate). g ∷ l) (m .stands);
+  bearing = m .bearing;
+}
+
+bears-meets : (p : ℕ) (g : Gate) (gs : List Gate) (W ps : List ℕ) → Among p (bears g W ps) → Among p ps ⊎ Meets p (g ∷ gs) W
+unfolding bears run
+bears-meets p (Cnot c t) gs W ps h = inl h
+bears-meets p (Rotation q a) gs W ps h =
+    ⊎-elim (λ e. inr (record { before = []; qubit = q; angle = a; behind = gs; stands = refl; bearing = e })) (λ k. inl k) (insert-back (getD W q 0) p ps h)
+bears-meets p Bad gs W ps h = inl h
+
+borne-from-meets : (p : ℕ) (gs : List Gate) (W ps : List ℕ) → Among p (borneFrom gs W ps) → Among p ps ⊎ Meets p gs W
+unfolding borneFrom
+borne-from-meets p [] W ps h = inl h
+borne-from-meets p (g ∷ gs) W ps h = ⊎-elim (λ k. bears-meets p g gs W ps k) (λ m. inr (meets-later p g gs W m)) (borne-from-meets p gs (step g W) (bears g W ps) h)
+
+pub borne-meets : (p : ℕ) (gs : List Gate) → Among p (borne gs) → Meets p gs start
+unfolding borne
+borne-meets p gs h = ⊎-elim (λ k. absurd (among-none p k)) (λ m. m) (borne-from-meets p gs start [] h)
+
 bears-given : (g : Gate) (W ps : List ℕ) (p : ℕ) → gives p g W ≢ 0 → Among p (bears g W ps)
 unfolding bears
 bears-given (Cnot c t) W ps p n = absurd (n (gives-cnot p c t W))
@@ -108,6 +153,38 @@ not-borne p gs n = go (ℕ-discrete (given p gs start) 0)
     go : Dec (given p gs start ≡ 0) → given p gs start ≡ 0
     go (yes e) = e
     go (no ne) = absurd (n (given-borne p gs ne))
+
+-- ---- more gates, no fewer parities
+
+insert-grows : (p : ℕ) (xs : List ℕ) → length xs ≤ length (insert p xs)
+unfolding insert
+insert-grows p [] = omega arith
+insert-grows p (x ∷ xs) = go (ltb x p) (eqb x p) (insert-grows p xs)
+  where
+    go : (a b : Bool) → length xs ≤ length (insert p xs) → length (x ∷ xs) ≤ length (pick a (x ∷ insert p xs) (pick b (x ∷ xs) (p ∷ x ∷ xs)))
+    go true b h = omega arith
+    go false true h = omega arith
+    go false false h = omega arith
+
+bears-grows : (g : Gate) (W ps : List ℕ) → length ps ≤ length (bears g W ps)
+unfolding bears
+bears-grows (Cnot c t) W ps = omega arith
+bears-grows (Rotation q a) W ps = insert-grows (getD W q 0) ps
+bears-grows Bad W ps = omega arith
+
+borne-from-grows : (gs : List Gate) (W ps : List ℕ) → length ps ≤ length (borneFrom gs W ps)
+unfolding borneFrom
+borne-from-grows [] W ps = omega arith
+borne-from-grows (g ∷ gs) W ps = omega (arith, bears-grows g W ps, borne-from-grows gs (step g W) (bears g W ps))
+
+pub borne-grows : (k : ℕ) (gs : List Gate) → length (borne (take k gs)) ≤ length (borne gs)
+unfolding borne
+borne-grows k gs =
+    omega (
+      arith,
+      borne-from-grows (drop k gs) (run (take k gs) start) (borneFrom (take k gs) start []),
+      ap length (sym (borne-from-append (take k gs) (drop k gs) start []) ∙ ap (λ (l : List Gate). borneFrom l start []) (take-append-drop k gs)),
+    )
 
 -- ---- the terms: exactly the parities whose sum is not 0, ascending, each once
 

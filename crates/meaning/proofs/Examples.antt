@@ -11,4 +11,4 @@ use Rattle.meaning.specs.Examples.{meaningExamples}
 
 pub meaning-examples : True meaningExamples
 unfolding True meaningExamples packed kindIn aIn bIn cnotOf rotationOf gateOf units cnot step run start finalOf gives given sumOf insert bears borneFrom borne kept terms raised layered layersFrom highest depthOf boundOf
-meaning-examples = ((refl, refl), ((refl, refl, refl), (refl, ((refl, refl), (refl, (refl, (refl, tt)))))))
+meaning-examples = ((refl, refl), ((refl, refl, refl), (refl, ((refl, refl), (refl, ((refl, refl, refl, refl, refl), (refl, tt)))))))

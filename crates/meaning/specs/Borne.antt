@@ -1,7 +1,7 @@
 -- The parities that bear a rotation, and the terms among them, ascending (document 01, "Meaning of a circuit", refusal 6).
 use mathlib.Core.Path.{_≡_}
 use mathlib.Core.Logic.{_⊎_}
-use mathlib.Core.List.{List, [], _∷_, map}
+use mathlib.Core.List.{List, [], _∷_, _++_, map}
 use Prim.Native.Nat.{ℕ, _+_, _<_}
 use lib.Dec.{eqb, ltb}
 use lib.ListN.{length, getD, take}
@@ -11,7 +11,7 @@ use Rattle.gates.specs.Limits.{mostParities}
 use Rattle.gates.specs.declared.gate.Gate.{Gate}
 use Rattle.gates.specs.declared.gate.Gate.the-variants.{Cnot, Rotation, Bad}
 use Rattle.table.specs.Table.{kept}
-use Rattle.circuit.specs.Circuit.{step, start, sumOf}
+use Rattle.circuit.specs.Circuit.{step, run, start, sumOf}
 
 -- p put into an ascending list, once
 unfoldable pub insert : ℕ → List ℕ → List ℕ
@@ -31,6 +31,15 @@ borneFrom (g ∷ gs) W ps = borneFrom gs (step g W) (bears g W ps)
 -- the different parities that bear a rotation ("sum 0 and angle 0 included"), ascending
 unfoldable pub borne : List Gate → List ℕ
 borne gs = borneFrom gs start []
+
+-- a rotation in the list meets parity p, from the wires W on: its wire bears p at that moment
+pub record Meets (p : ℕ) (gs : List Gate) (W : List ℕ) : Type 0 where
+  pub before : List Gate
+  pub qubit : ℕ
+  pub angle : ℕ
+  pub behind : List Gate
+  pub stands : gs ≡ before ++ Rotation qubit angle ∷ behind
+  pub bearing : getD (run before W) qubit 0 ≡ p
 
 -- refusal 6: the "gate that brings the 257th, from 0"; the number of gates where none does
 unfoldable pub overAt : List Gate → ℕ

@@ -48,6 +48,6 @@ meaningExamples =
     ∷ record { number = 3; says = terms gates3 ≡ [] }
     ∷ record { number = 5; says = (sumOf 5 (gatesOf 3 records5) ≡ 40) × (terms (gatesOf 3 records5) ≡ 5 ∷ []) }
     ∷ record { number = 6; says = terms (gatesOf 3 records6) ≡ [] }
-    ∷ record { number = 9; says = boundOf 2 1 ≡ 7 }
+    ∷ record { number = 9; says = (boundOf 2 1 ≡ 7) × (boundOf 1 1 ≡ 1) × (boundOf 4 3 ≡ 45) × (boundOf 16 10 ≡ 790) × (boundOf 20 256 ≡ 10744) }
     ∷ record { number = 10; says = depthOf gates10 ≡ 3 }
     ∷ []

@@ -3,3 +3,4 @@ pub mod Accepted
 pub mod RoundTrip
 pub mod Values
 pub mod Examples
+pub mod Rows

@@ -46,3 +46,10 @@ then-zero v w e = go (eqb (numberOf v) 0) refl e
     go : (t : Bool) → eqb (numberOf v) 0 ≡ t → numberOf (pick t w v) ≡ 0 → (numberOf v ≡ 0) × (numberOf w ≡ 0)
     go true q e = (eqb-true (numberOf v) 0 q, e)
     go false q e = let z : _≡_ {A = Bool} false true = sym q ∙ eq-eqb (numberOf v) 0 e in let y : _≡_ {A = ℕ} 0 1 = cc z in absurd (omega arith)
+
+pub then-assoc : (u v w : Verdict) → andThen (andThen u v) w ≡ andThen u (andThen v w)
+then-assoc u v w = go (eqb (numberOf u) 0) refl
+  where
+    go : (t : Bool) → eqb (numberOf u) 0 ≡ t → andThen (pick t v u) w ≡ pick t (andThen v w) u
+    go true e = refl
+    go false e = ap (λ (b : Bool). pick b w u) e
