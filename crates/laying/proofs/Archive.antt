@@ -174,3 +174,11 @@ one-circuit-for-one-meaning n couplers couplers′ gates gates′ out out′ one
           finals = λ i h. a .finals i h ∙ ap (λ (g : List Gate). finalOf g i) same-laid ∙ sym (b .finals i h);
           sums = λ p. a .sums p ∙ ap (λ (g : List Gate). sumOf p g) same-laid ∙ sym (b .sums p);
         }
+
+-- What was laid is laid as it stands, where it is accepted as a job itself.
+pub laid-again : (n : ℕ) (couplers gates out out′ : List ℕ) → numberOf (verdictOf n couplers gates (length out)) ≡ 0
+    → numberOf (verdictOf n couplers (laidRecords n couplers gates out) (length out′)) ≡ 0
+    → laidRecords n couplers (laidRecords n couplers gates out) out′ ≡ laidRecords n couplers gates out
+laid-again n couplers gates out out′ one two =
+    sym (one-circuit-for-one-meaning n couplers couplers gates (laidRecords n couplers gates out) out out′ one two (record { there = λ u v k. k; back = λ u v k. k }) .0
+    (subst (SameMeaning n (gatesOf n gates)) (sym (demand-2-lent n couplers gates out one)) (demand-2 n couplers gates (length out) one .same)))
