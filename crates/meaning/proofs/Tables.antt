@@ -8,7 +8,7 @@ use native.Mathlib.Nat.{le-of-suc-le-suc, not-suc-le-zero, zero-lt-suc}
 use native.Mathlib.Omega.{arith}
 use native.Mathlib.Decide.{ℕ-discrete, decLt}
 use lib.Dec.{leb}
-use lib.ListN.{length, getD, set, take, drop, replicate, length-append, length-map, length-set, length-take, length-drop, length-replicate, List·getD-append}
+use lib.ListN.{length, getD, set, take, drop, replicate, length-append, length-map, length-set, length-take, length-drop, List·getD-append}
 use lib.Seq.{ext-getD, getD-set-same, getD-set-other, set-append-left, take-append-le, drop-append-le, take-append-seam, drop-append-add}
 use borrow.Author.Tests.{leb-true, leb-false}
 use Rattle.sets.specs.Pick.{pick, either}
@@ -27,10 +27,6 @@ use Rattle.meaning.proofs.Lists.{insert-held, insert-new, at-among}
 use Rattle.meaning.proofs.Bearing.{borne-snoc, bears-rotation, borne-ascending, not-borne}
 
 -- ---- a list at the front of many places
-
-pub padded-length : (n : ℕ) (xs : List ℕ) → length xs ≤ n → length (padded n xs) ≡ n
-unfolding padded
-padded-length n xs h = length-append xs (replicate (n - length xs) 0) ∙ ap (λ (k : ℕ). length xs + k) (length-replicate (n - length xs) 0) ∙ omega arith
 
 pub padded-at : (n : ℕ) (xs : List ℕ) (i : ℕ) → i < length xs → getD (padded n xs) i 0 ≡ getD xs i 0
 unfolding padded
