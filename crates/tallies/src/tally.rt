@@ -53,8 +53,9 @@ pub fn rotations(records: &[u32], n: usize) -> usize
 }
 
 // The largest B of a job.
-pub const LARGEST: usize =
-    2 * (Job::QUBITS - 1) * Job::PARITIES + Job::PARITIES + 2 * Job::QUBITS * (Job::QUBITS - 1);
+pub const LARGEST: usize = 2 * (Job::QUBITS - 1) * Job::PARITIES
+    + Job::PARITIES
+    + 2 * Job::QUBITS * (Job::QUBITS - 1);
 
 // How many output records the laying of t terms on n qubits may need.
 pub fn bound(n: u8, t: u16) -> usize
