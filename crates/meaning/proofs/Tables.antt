@@ -158,9 +158,6 @@ module _ (gs : List Gate) (q a : ℕ) (few : length (borne gs) ≤ 256) where
   unfolding sumOf
   sum-more = ap (λ (m : ℕ). m % 65536) (given-snoc p gs (Rotation q a) start ∙ ap (λ (m : ℕ). given p gs start + m) (gives-borne p q a (run gs start) refl)) ∙ omega arith
 
-  up : Ascending ps
-  up = borne-ascending gs
-
   -- p has its place: it is at k, and nowhere else
   module _ (l : k < length ps) (e : getD ps k 0 ≡ p) where
     elsewhere : (i : ℕ) → i < length ps → i ≢ k → p ≢ getD ps i 0

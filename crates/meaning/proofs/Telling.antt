@@ -23,12 +23,12 @@ use Rattle.gates.specs.Layout.{gateOf, gatesOf}
 use Rattle.circuit.specs.Circuit.{step, run, start, given, sumOf}
 use Rattle.meaning.specs.Borne.{borne, borneFrom, sumsOf, overAt}
 use Rattle.table.specs.Table.{padded, Added, tabled, addedTo}
-use Rattle.meaning.specs.Told.{Fed, fedMeaning, tableOf, meaningOf, toldOf}
+use Rattle.meaning.specs.Told.{tableOf, meaningOf, toldOf}
 use Rattle.circuit.specs.State.{fedWires, wiresOf}
 use Rattle.circuit.proofs.Steps.{gives-cnot, gives-bad}
 use Rattle.circuit.proofs.Circuits.{run-snoc, given-snoc}
 use Rattle.meaning.proofs.Bearing.{borne-cnot, borne-bad}
-use Rattle.meaning.proofs.Feeding.{fed-same}
+use Rattle.meaning.proofs.Feeding.{Fed, fedMeaning, fed-same}
 use Rattle.meaning.proofs.Tables.{added-fits, added-full}
 
 -- ---- one gate more
