@@ -10,8 +10,13 @@ use Rattle.sets.specs.Bit.{bit, In, Sub}
 use Rattle.sets.proofs.Bits.{bit-pow-same, bit-cases, bit-xor, bit-lt, xor-cancel}
 use Rattle.sets.proofs.Members.{put-same, put-keeps, put-cases, in-pow, sub-cases, some-bit}
 use Rattle.sets.proofs.Ones.{ones-pow}
-use Rattle.chip.specs.Graph.{Near, Symm, Chain, here, next, Joined, Grown, seed, add}
+use Rattle.chip.specs.Graph.{Near, Symm, Chain, here, next, Joined}
 use Rattle.chip.proofs.Chains.{chain-cat, chain-rev, leave}
+
+-- a connected set as a growth order: R from v on, each later member beside an earlier one
+pub data Grown (near : List ℕ) (v : ℕ) : ℕ → Type 0 where
+  seed : {R : ℕ} → R ≡ 2 ^ v → Grown near v R
+  add : {S R : ℕ} (u w : ℕ) → Grown near v S → bit S u ≡ 0 → In w S → Near near w u → R ≡ bitXor S (2 ^ u) → Grown near v R
 
 pub grown-root : {near : List ℕ} {v R : ℕ} → Grown near v R → In v R
 grown-root {v = v} (seed e) = ap (λ (n : ℕ). bit n v) e ∙ bit-pow-same v

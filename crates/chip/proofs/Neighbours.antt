@@ -1,4 +1,4 @@
--- The neighbours that coupler records give: as many as qubits, symmetric, and exactly the listed couplers. Assumes nothing.
+-- The neighbours that coupler records give: symmetric, never a qubit itself, and exactly the listed couplers. Assumes nothing.
 use mathlib.Core.Path.{_≡_, refl, sym, ap, _∙_, subst}
 use mathlib.Core.Logic.{_≢_, _⊎_, inl, inr}
 use mathlib.Core.Bool.{Bool, true, false}
@@ -26,7 +26,7 @@ use Rattle.gates.specs.declared.coupler.Coupler.the-variants.{Ends, Wrong}
 use Rattle.verdicts.specs.declared.verdict.Verdict.the-variants.{Accepted, ManyCouplers, WrongCoupler}
 use Rattle.gates.proofs.Records.{kind-packed, a-packed, b-packed}
 use Rattle.chip.specs.Graph.{Near, Symm}
-use Rattle.chip.specs.Couplers.{linkOf, addOf, addAll, nearOf, Chip}
+use Rattle.chip.specs.Couplers.{linkOf, addOf, addAll, nearOf}
 use Rattle.sets.proofs.Deciding.{never}
 
 -- ---- what a record says
@@ -195,11 +195,6 @@ add-from n x (Ends a b) e near len u v h = go (decLt a 20) (decLt b 20)
 
 -- ---- a list of records
 
-all-length : (n : ℕ) (xs near : List ℕ) → length (addAll n xs near) ≡ length near
-unfolding addAll
-all-length n [] near = refl
-all-length n (x ∷ xs) near = all-length n xs (addOf (couplerOf n x) near) ∙ add-length (couplerOf n x) near
-
 all-keeps : (n : ℕ) (xs near : List ℕ) → length near ≡ 20 → (u v : ℕ) → Near near u v → Near (addAll n xs near) u v
 unfolding addAll
 all-keeps n [] near len u v h = h
@@ -254,10 +249,6 @@ none-near u v h = go (decLt u 20)
 -- ---- what the crates above use
 
 module _ (n : ℕ) (xs : List ℕ) where
-  pub near-length : length (nearOf n xs) ≡ 20
-  unfolding nearOf
-  near-length = all-length n xs (replicate 20 0) ∙ length-replicate {A = ℕ} 20 0
-
   -- neighbours are joined by a record, and what a record joins are neighbours
   pub near-among : (u v : ℕ) → Near (nearOf n xs) u v → Among n xs u v
   unfolding nearOf
@@ -291,10 +282,6 @@ module _ (n : ℕ) (xs : List ℕ) where
 
       go : Among n xs u v → u ≢ v
       go (p, q, (k, l, j)) = ends (getD xs k 0) j
-
-  -- no qubit is its own neighbour
-  pub near-self : (u : ℕ) → Near (nearOf n xs) u u → ⊥
-  near-self u h = near-other u u h refl
 
   pub near-below : (u v : ℕ) → Near (nearOf n xs) u v → (u < n) × (v < n)
   near-below u v h = go (near-among u v h)
@@ -337,6 +324,3 @@ module _ (n : ℕ) (xs : List ℕ) where
 
   pub accepted-near : n ≤ 20 → judgedCouplers n xs ≡ Accepted → (u v : ℕ) → u < n → v < n → Listed xs u v → Near (nearOf n xs) u v
   accepted-near few ok u v hu hv l = listed-near few u v hu hv (accepted-other few ok u v hu l) l
-
-  pub near-chip : Chip n (nearOf n xs)
-  near-chip = record { long = near-length; symm = near-symm; other = near-other; below = near-below }

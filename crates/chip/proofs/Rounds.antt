@@ -12,10 +12,8 @@ use lib.Pow.{shr-shr}
 use lib.Bits.{bitAnd, bitOr, or-zero-r, or-zero-l, or-lt, and-le-r}
 use Rattle.sets.specs.Bit.{bit, has, when}
 use Rattle.sets.proofs.Bits.{or-assoc}
-use Rattle.sets.proofs.Members.{sub-eq}
 use Rattle.sets.proofs.Words.{has-true, has-false}
 use Rattle.chip.specs.Graph.{nbrs, grow, closure}
-use Rattle.chip.proofs.Closure.{closure-in, closure-keeps}
 use Rattle.sets.proofs.Finding.{sub-suc, sub-none}
 
 -- ---- the neighbours of a set: `all` so far, and those of the members from u on
@@ -78,9 +76,6 @@ module _ (near : List ℕ) (Q : ℕ) where
   -- the last round instead of the first
   pub closure-last : (k S : ℕ) → grow near Q (closure near Q k S) ≡ closure near Q (k + 1) S
   closure-last k S = closure-snoc k S ∙ ap (λ (n : ℕ). closure near Q n S) (sym (add-one k))
-
-  pub closure-full : (k : ℕ) → closure near Q k Q ≡ Q
-  closure-full k = sub-eq (closure near Q k Q) Q (closure-in near Q k Q (λ i h. h)) (closure-keeps near Q k Q)
 
   pub closure-lt : (n k S : ℕ) → Q < 2 ^ n → S < 2 ^ n → closure near Q k S < 2 ^ n
   unfolding closure grow

@@ -36,8 +36,3 @@ near-low near u v len n = go (decLt u 20)
     go (no h) =
         let far : 20 ≤ u = omega arith in
         absurd (omega (arith, ap (λ (x : ℕ). bit x v) (List·getD-eq-default near 0 {n = u} (omega arith)), bit-of-zero v))
-
--- a search finds where there is something to find
-pub first-some : (f : ℕ → Bool) (n u : ℕ) → u < n → f u ≡ true → firstOf f n 0 < n
-unfolding someOf
-first-some f n u h e = ltb-true (firstOf f n 0) n (some-of f n u h e)

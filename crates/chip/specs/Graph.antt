@@ -1,9 +1,9 @@
 -- A chip as a graph: the neighbours of qubit q are the members of the q-th set of `near` (document 01, "Islands").
 use mathlib.Core.Path.{_≡_}
 use mathlib.Core.List.{List, [], _∷_}
-use Prim.Native.Nat.{ℕ, zero, suc, _/_, _%_, _^_}
+use Prim.Native.Nat.{ℕ, zero, suc, _/_, _%_}
 use lib.ListN.{getD}
-use lib.Bits.{bitAnd, bitOr, bitXor}
+use lib.Bits.{bitAnd, bitOr}
 use Rattle.sets.specs.Bit.{bit, when, In}
 
 -- v is a neighbour of u
@@ -22,11 +22,6 @@ pub data Chain (near : List ℕ) (Q u : ℕ) : ℕ → Type 0 where
 -- Q is connected: any two members are joined by a chain inside it; the empty set too
 unfoldable pub Joined : List ℕ → ℕ → Type 0
 Joined near Q = (a b : ℕ) → In a Q → In b Q → Chain near Q a b
-
--- the same as a growth order: R from v on, each later member beside an earlier one
-pub data Grown (near : List ℕ) (v : ℕ) : ℕ → Type 0 where
-  seed : {R : ℕ} → R ≡ 2 ^ v → Grown near v R
-  add : {S R : ℕ} (u w : ℕ) → Grown near v S → bit S u ≡ 0 → In w S → Near near w u → R ≡ bitXor S (2 ^ u) → Grown near v R
 
 -- the neighbours of the members of S
 unfoldable pub nbrs : ℕ → List ℕ → ℕ

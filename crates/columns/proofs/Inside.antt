@@ -4,7 +4,7 @@ use mathlib.Core.List.{List, [], _∷_}
 use Prim.Native.Nat.{ℕ, _+_, _^_, _<_}
 use native.Mathlib.Omega.{arith}
 use lib.ListN.{length, getD}
-use Rattle.sets.specs.Bit.{bit, In}
+use Rattle.sets.specs.Bit.{bit}
 use Rattle.sets.proofs.Members.{in-lt}
 use Rattle.gates.specs.declared.gate.Gate.{Gate}
 use Rattle.gates.specs.declared.gate.Gate.the-variants.{Cnot, Rotation, Bad}
@@ -14,7 +14,7 @@ use Rattle.gates.specs.All.{All}
 use Rattle.tallies.specs.Tally.{tally, cnotsOf, rotationsOf}
 use Rattle.circuit.proofs.Steps.{step-cnot, step-rotation, cnot-other}
 use Rattle.circuit.proofs.Circuits.{run-none, run-cons}
-use Rattle.columns.specs.Terms.{Inside, Small, Bears}
+use Rattle.columns.specs.Terms.{Inside, Small}
 
 -- no bad gate: the list is as long as its CNOTs and rotations are many
 pub inside-length : (near : List ℕ) (Q : ℕ) (gs : List Gate) → All (Inside near Q) gs → length gs ≡ cnotsOf gs + rotationsOf gs
@@ -43,7 +43,3 @@ outside-keeps near Q i z (Rotation q v ∷ gs) W a =
     ap (λ (w : List ℕ). getD w i 0) (run-cons (Rotation q v) gs W) ∙ outside-keeps near Q i z gs (step (Rotation q v) W) (a .1)
     ∙ ap (λ (w : List ℕ). getD w i 0) (step-rotation q v W)
 outside-keeps near Q i z (Bad ∷ gs) W a = absurd (a .0)
-
--- so the wires of another island stand as before
-pub others-bear : (near : List ℕ) (Q P : ℕ) → ((i : ℕ) → In i P → bit Q i ≡ 0) → (gs : List Gate) (W : List ℕ) → All (Inside near Q) gs → Bears P W → Bears P (run gs W)
-others-bear near Q P apart gs W a b i h = outside-keeps near Q i (apart i h) gs W a ∙ b i h

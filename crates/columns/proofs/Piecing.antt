@@ -1,5 +1,5 @@
 -- Pieces of laying one after another, and what they leave in the lent memory. Assumes nothing.
-use mathlib.Core.Path.{_≡_, refl, sym, ap, _∙_}
+use mathlib.Core.Path.{_≡_, sym, ap, _∙_}
 use mathlib.Core.Bool.{Bool, true, false}
 use mathlib.Core.List.{List, []}
 use Prim.Native.Nat.{ℕ}
@@ -7,10 +7,6 @@ use Rattle.sets.specs.Pick.{pick}
 use Rattle.emitting.specs.Emit.{emit, emitAt}
 use Rattle.columns.specs.Pieces.{Piece, piece, after, andThen, Memory, held, wrote}
 use Rattle.emitting.proofs.Emitting.{emit-none, emit-at-none, emit-append, emit-at-append}
-
-pub wrote-is : (out : List ℕ) (at : ℕ) (p : Piece) → wrote out at p ≡ held (p .cols) (emit out at (p .laid)) (emitAt out at (p .laid)) (p .stuck)
-unfolding wrote
-wrote-is out at p = refl
 
 -- nothing laid
 pub wrote-none : (out : List ℕ) (at : ℕ) (xs : List ℕ) (b : Bool) → held xs out at b ≡ wrote out at (piece xs [] b)

@@ -40,9 +40,6 @@ emit-append out at g h =
     ∙ ap (λ k. sets (sets out at (map recordOf g)) (at + k) (map recordOf h)) (length-map g recordOf)
     ∙ go (ltb (length out) (at + length g)) refl
   where
-    l : ℕ
-    l = length out
-
     o : List ℕ
     o = sets out at (map recordOf g)
 

@@ -1,33 +1,16 @@
--- The closing behind a way of laying terms: its gates fit what such a way promises, and change no sum. Assumes nothing.
+-- The closing behind a way of laying terms changes no sum. Assumes nothing.
 use mathlib.Core.Path.{_≡_, _∙_}
 use mathlib.Core.List.{List, [], _∷_, _++_}
-use Prim.Native.Nat.{ℕ, _+_}
+use Prim.Native.Nat.{ℕ}
 use native.Mathlib.Omega.{arith}
 use Rattle.gates.specs.declared.gate.Gate.{Gate}
 use Rattle.gates.specs.declared.gate.Gate.the-variants.{Cnot, Rotation, Bad}
 use Rattle.circuit.specs.Circuit.{step, run, given}
-use Rattle.gates.specs.All.{All}
 use Rattle.circuit.proofs.Steps.{gives-cnot}
 use Rattle.circuit.proofs.Circuits.{given-none, given-cons, given-append}
-use Rattle.columns.specs.Terms.{Inside}
-use Rattle.gathering.specs.Gather.{Coupled, Within}
+use Rattle.gathering.specs.Gather.{Coupled}
 
 module _ (near : List ℕ) (Q : ℕ) where
-  -- gates inside Q as a way of laying promises them
-  pub inside-within : (gs : List Gate) → All (Inside near Q) gs → Within near Q gs
-  unfolding All Inside
-  inside-within [] h = tt
-  inside-within (Cnot c t ∷ gs) h = ((h .0 .1, h .0 .2, h .0 .3, h .0 .0), inside-within gs (h .1))
-  inside-within (Rotation q a ∷ gs) h = inside-within gs (h .1)
-  inside-within (Bad ∷ gs) h = absurd (h .0)
-
-  pub coupled-all : (gs : List Gate) → Coupled near Q gs → All (Inside near Q) gs
-  unfolding All Inside
-  coupled-all [] h = tt
-  coupled-all (Cnot c t ∷ gs) h = ((h .0 .3, h .0 .0, h .0 .1, h .0 .2), coupled-all gs (h .1))
-  coupled-all (Rotation q a ∷ gs) h = absurd h
-  coupled-all (Bad ∷ gs) h = absurd h
-
   pub coupled-given : (p : ℕ) (gs : List Gate) (W : List ℕ) → Coupled near Q gs → given p gs W ≡ 0
   coupled-given p [] W h = given-none p W
   coupled-given p (Cnot c t ∷ gs) W h =

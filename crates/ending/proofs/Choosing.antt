@@ -16,9 +16,9 @@ use Rattle.gates.specs.declared.gate.Gate.the-variants.{Cnot, Rotation, Bad}
 use Rattle.gathering.specs.declared.gather.Moves.{Moves}
 use Rattle.gathering.specs.declared.gather.Order.{Order}
 use Rattle.gathering.specs.Order.{orderOf, orderIn}
-use Rattle.gathering.specs.Gather.{flip, gatherOf, alongOf, controlOf, targetOf, movesIn, cnotsIn, Plain}
+use Rattle.gathering.specs.Gather.{flip, gatherOf, alongOf, controlOf, targetOf, movesIn, cnotsIn}
 use Rattle.gathering.proofs.GatherWorks.{gather-few}
-use Rattle.gathering.proofs.GatherCode.{same-moves, cnots-flip, moves-back, along-order, along-plain, along-few, gather-plain, moves-len}
+use Rattle.gathering.proofs.GatherCode.{Plain, same-moves, cnots-flip, moves-back, along-order, along-plain, along-few, gather-plain, moves-len}
 use Rattle.ending.specs.declared.clearing.Best.{Best}
 use Rattle.ending.specs.declared.clearing.Standing.{Standing}
 use Rattle.ending.specs.Rows.{played}

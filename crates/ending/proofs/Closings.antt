@@ -2,7 +2,7 @@
 use mathlib.Core.Path.{_≡_, refl, sym, ap, ap₂, _∙_, subst}
 use mathlib.Core.Bool.{Bool, true, false}
 use mathlib.Core.List.{List, [], _∷_, _++_, map}
-use Prim.Native.Nat.{ℕ, _+_, _^_, _≤_, _<_}
+use Prim.Native.Nat.{ℕ, _^_, _≤_, _<_}
 use native.Mathlib.Omega.{arith}
 use native.Mathlib.Decide.{ℕ-discrete}
 use lib.Bits.{bitXor, xor-self, xor-zero-l}
@@ -31,10 +31,15 @@ use Rattle.gathering.specs.Gather.{turns, flip, Coupled, Within}
 use Rattle.gathering.proofs.GatherWorks.{turns-append, coupled-append, coupled-within}
 use Rattle.gathering.proofs.OrderParts.{sub-lt}
 use Rattle.ending.specs.Closing.{endingOf, onwardOf, backOf, backFirst, closingOf}
-use Rattle.ending.specs.Ends.{Ready, Ends, Ended, Brings, Closes}
+use Rattle.ending.specs.Ends.{Ready, Ends, Ended, Closes}
 use Rattle.ending.proofs.Turning.{within-append, flip-within, turns-sub, comb-turns, wires-out, all-played, turns-zero, row-turned, comb-own}
 use Rattle.ending.proofs.Endings.{ready-turns, ends-right, ends-none, spent-is}
 use Rattle.ending.proofs.Choice.{ending-ends}
+
+-- behind the gates gs, the CNOTs M bring each row of Q to its own wire
+pub record Brings (near : List ℕ) (Q : ℕ) (N : List ℕ) (gs M : List Gate) : Type 0 where
+  pub coupled : Coupled near Q M
+  pub right : (i : ℕ) → In i Q → turns (gs ++ M) (getD N i 0) ≡ 2 ^ i
 
 -- ---- CNOTs in reverse undo themselves
 

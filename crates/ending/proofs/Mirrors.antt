@@ -11,10 +11,10 @@ use lib.ListN.{length, getD, List·getD-eq-default}
 use lib.Pow.{pow-lt, pow-pos}
 use Rattle.sets.specs.Bit.{bit, when, In, Sub}
 use Rattle.sets.specs.Columns.{turn, comb, dot, cnot}
-use Rattle.sets.proofs.Bits.{bit-pow-same, bit-pow-other, bit-lt, bit-cases, bit-xor, bit-and, bit-of-zero, bit-high, zero-ext, xor-cancel}
+use Rattle.sets.proofs.Bits.{bit-pow-same, bit-pow-other, bit-cases, bit-xor, bit-and, bit-high, zero-ext, xor-cancel}
 use Rattle.sets.proofs.Comb.{comb-turn, comb-pow}
 use Rattle.sets.proofs.Dot.{dot-xor, dot-comm, dot-pow, dot-zero, dot-when}
-use Rattle.sets.proofs.Members.{in-lt, in-and, xor-sub, in-pow}
+use Rattle.sets.proofs.Members.{in-lt, in-and, xor-sub}
 use Rattle.sets.proofs.Ones.{ones-of-zero}
 use Rattle.gates.specs.declared.gate.Gate.{Gate}
 use Rattle.gates.specs.declared.gate.Gate.the-variants.{Cnot, Rotation, Bad}
@@ -22,19 +22,20 @@ use Rattle.gates.specs.Layout.{Good}
 use Rattle.circuit.specs.Circuit.{step, run, start, finalOf}
 use Rattle.gates.specs.All.{All}
 use Rattle.gates.proofs.Alls.{all-map}
-use Rattle.circuit.proofs.Steps.{cnot-past-target, cnot-target, cnot-other, step-length}
+use Rattle.circuit.proofs.Steps.{cnot-target, cnot-other, step-length}
 use Rattle.circuit.proofs.Circuits.{run-length, start-length, final-is, start-at}
 use Rattle.gathering.specs.Gather.{turns, flip}
-use Rattle.ending.specs.Mirror.{mirrorsOf, mirrorOf, Paired, Bordered, Parted}
+use Rattle.ending.specs.Mirror.{mirrorsOf, mirrorOf, Bordered}
 use Rattle.ending.specs.Ends.{Ready}
 use Rattle.gathering.proofs.OrderParts.{bits-lt}
 use Rattle.circuit.proofs.Wiring.{wires-past, good-up}
 
-pub mirror-is : (gs : List Gate) (j : ℕ) → mirrorOf gs j ≡ getD (mirrorsOf gs) j 0
-unfolding mirrorOf
-mirror-is gs j = refl
-
 -- ---- dual lists
+
+-- row i meets mirror row j in an odd number of qubits exactly where i is j
+record Paired (n : ℕ) (W D : List ℕ) : Type 0 where
+  one : (i : ℕ) → i < n → dot (getD W i 0) (getD D i 0) ≡ 1
+  nul : (i j : ℕ) → i < n → j < n → i ≢ j → dot (getD W i 0) (getD D j 0) ≡ 0
 
 dot-xor-r : (e a b : ℕ) → dot e (bitXor a b) ≡ (dot e a + dot e b) % 2
 dot-xor-r e a b = dot-comm e (bitXor a b) ∙ dot-xor e a b ∙ ap₂ (λ (m k : ℕ). (m + k) % 2) (dot-comm a e) (dot-comm b e)
@@ -171,10 +172,6 @@ pub mirror-small : (gs : List Gate) (j : ℕ) → mirrorOf gs j < 2 ^ 20
 unfolding mirrorOf mirrorsOf Small
 mirror-small gs j = small-run (flip gs) start small-start j
 
-pub final-small : (gs : List Gate) (i : ℕ) → finalOf gs i < 2 ^ 20
-unfolding finalOf Small
-final-small gs i = small-run gs start small-start i
-
 -- ---- the mirror is determined by the final parities
 
 -- a set that meets nothing of Q, and one inside Q
@@ -306,69 +303,3 @@ mirror-same-inside g h Q low gg gh bg bh e j hj =
         ∙ ap₂ dot (sym (e i k)) (ap (mirrorOf h) d)
     at i k (no n) =
         mirror-nul g gg i j (lt i k) (lt j hj) n ∙ sym (mirror-nul h gh i j (lt i k) (lt j hj) n) ∙ ap (λ (m : ℕ). dot m (mirrorOf h j)) (sym (e i k))
-
--- ---- gates that join no wire of Q with another
-
--- wires of Q bear sets inside Q, the others sets that have nothing of Q
-record Kept (Q : ℕ) (W : List ℕ) : Type 0 where
-  own : (i : ℕ) → In i Q → Sub (getD W i 0) Q
-  others : (i : ℕ) → bit Q i ≡ 0 → (k : ℕ) → In k (getD W i 0) → bit Q k ≡ 0
-
-kept-cnot : (Q c t : ℕ) (W : List ℕ) → bit Q c ≡ bit Q t → Kept Q W → Kept Q (cnot c t W)
-kept-cnot Q c t W e r = go (decLt t (length W))
-  where
-    go : Dec (t < length W) → Kept Q (cnot c t W)
-    go (no l) = subst (Kept Q) (sym (cnot-past-target c t W (omega arith))) r
-    go (yes l) = record { own = λ i h. mine i h (ℕ-discrete i t); others = λ i z. theirs i z (ℕ-discrete i t) }
-      where
-        mine : (i : ℕ) → In i Q → Dec (i ≡ t) → Sub (getD (cnot c t W) i 0) Q
-        mine i h (no n) = rw (cnot-other c t i W n) (r .own i h)
-        mine i h (yes d) =
-            let ht : In t Q = ap (bit Q) (sym d) ∙ h in
-            rw d (rw (cnot-target c t W l) (xor-sub (getD W c 0) (getD W t 0) Q (r .own c (e ∙ ht)) (r .own t ht)))
-
-        theirs : (i : ℕ) → bit Q i ≡ 0 → Dec (i ≡ t) → (k : ℕ) → In k (getD (cnot c t W) i 0) → bit Q k ≡ 0
-        theirs i z (no n) k h = r .others i z k (sym (ap (λ (m : ℕ). bit m k) (cnot-other c t i W n)) ∙ h)
-        theirs i z (yes d) k h = at (bit-cases (getD W c 0) k) (sym (ap (λ (m : ℕ). bit m k) (ap (λ (m : ℕ). getD (cnot c t W) m 0) d ∙ cnot-target c t W l)) ∙ h)
-          where
-            zt : bit Q t ≡ 0
-            zt = ap (bit Q) (sym d) ∙ z
-
-            at : (bit (getD W c 0) k ≡ 0) ⊎ (bit (getD W c 0) k ≡ 1) → In k (bitXor (getD W c 0) (getD W t 0)) → bit Q k ≡ 0
-            at (inr m) x = r .others c (e ∙ zt) k m
-            at (inl m) x = r .others t zt k (omega (arith, x, bit-xor (getD W c 0) (getD W t 0) k, bit-lt (getD W t 0) k))
-
-kept-run : (Q : ℕ) (gs : List Gate) (W : List ℕ) → Parted Q gs → Kept Q W → Kept Q (run gs W)
-unfolding run step
-kept-run Q [] W p r = r
-kept-run Q (Cnot c t ∷ gs) W p r = kept-run Q gs (cnot c t W) (p .1) (kept-cnot Q c t W (p .0) r)
-kept-run Q (Rotation q a ∷ gs) W p r = kept-run Q gs W p r
-kept-run Q (Bad ∷ gs) W p r = kept-run Q gs W p r
-
-kept-start : (Q : ℕ) → Kept Q start
-kept-start Q = record { own = λ i h k m. at i h k m (decLt i 20); others = λ i z k m. off i z k m (decLt i 20) }
-  where
-    at : (i : ℕ) → In i Q → (k : ℕ) → In k (getD start i 0) → Dec (i < 20) → In k Q
-    at i h k m (yes l) = ap (bit Q) (in-pow i k (sym (ap (λ (n : ℕ). bit n k) (start-at i l)) ∙ m)) ∙ h
-    at i h k m (no l) = absurd (omega (arith, m, ap (λ (n : ℕ). bit n k) (List·getD-eq-default start 0 {n = i} (omega (arith, start-length))), bit-of-zero k))
-
-    off : (i : ℕ) → bit Q i ≡ 0 → (k : ℕ) → In k (getD start i 0) → Dec (i < 20) → bit Q k ≡ 0
-    off i z k m (yes l) = ap (bit Q) (in-pow i k (sym (ap (λ (n : ℕ). bit n k) (start-at i l)) ∙ m)) ∙ z
-    off i z k m (no l) = absurd (omega (arith, m, ap (λ (n : ℕ). bit n k) (List·getD-eq-default start 0 {n = i} (omega (arith, start-length))), bit-of-zero k))
-
-flip-parted : (Q : ℕ) (gs : List Gate) → Parted Q gs → Parted Q (flip gs)
-flip-parted Q [] p = tt
-flip-parted Q (Cnot c t ∷ gs) p = (sym (p .0), flip-parted Q gs (p .1))
-flip-parted Q (Rotation q a ∷ gs) p = flip-parted Q gs p
-flip-parted Q (Bad ∷ gs) p = flip-parted Q gs p
-
--- "CNOTs only between wires of one island": no final parity leaves Q
-pub parted-bordered : (Q : ℕ) (gs : List Gate) → Parted Q gs → Bordered gs Q
-unfolding finalOf
-parted-bordered Q gs p =
-    let r : Kept Q (run gs start) = kept-run Q gs start p (kept-start Q) in
-    record { own = r .own; others = λ i l. r .others i }
-
-pub parted-mirror : (Q : ℕ) (gs : List Gate) → Parted Q gs → (j : ℕ) → In j Q → Sub (mirrorOf gs j) Q
-unfolding mirrorOf mirrorsOf
-parted-mirror Q gs p = kept-run Q (flip gs) start (flip-parted Q gs p) (kept-start Q) .own

@@ -49,11 +49,6 @@ pub record Ended (near : List ℕ) (Q : ℕ) (N : List ℕ) (L : List Gate) : Ty
   pub short : length L ≤ spent (ones Q)
   pub right : (i : ℕ) → In i Q → turns L (getD N i 0) ≡ 2 ^ i
 
--- behind the gates gs, the CNOTs M bring each row of Q to its own wire
-pub record Brings (near : List ℕ) (Q : ℕ) (N : List ℕ) (gs M : List Gate) : Type 0 where
-  pub coupled : Coupled near Q M
-  pub right : (i : ℕ) → In i Q → turns (gs ++ M) (getD N i 0) ≡ 2 ^ i
-
 -- what the closing M of an island Q does behind the gates gs that were laid on it: N has the parities asked for
 pub record Closes (near : List ℕ) (Q : ℕ) (N : List ℕ) (gs M : List Gate) : Type 0 where
   pub coupled : Coupled near Q M

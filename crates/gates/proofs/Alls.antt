@@ -13,10 +13,6 @@ pub all-none : (P : Gate → Type 0) → All P []
 unfolding All
 all-none P = tt
 
-pub all-cons : (P : Gate → Type 0) (g : Gate) (gs : List Gate) → P g → All P gs → All P (g ∷ gs)
-unfolding All
-all-cons P g gs h k = (h, k)
-
 pub all-one : (P : Gate → Type 0) (g : Gate) → P g → All P (g ∷ [])
 unfolding All
 all-one P g p = (p, tt)
@@ -25,11 +21,6 @@ pub all-append : (P : Gate → Type 0) (g h : List Gate) → All P g → All P h
 unfolding All
 all-append P [] h a b = b
 all-append P (x ∷ g) h a b = (a .0, all-append P g h (a .1) b)
-
-pub all-front : (P : Gate → Type 0) (g h : List Gate) → All P (g ++ h) → All P g
-unfolding All
-all-front P [] h a = tt
-all-front P (x ∷ g) h a = (a .0, all-front P g h (a .1))
 
 pub all-map : (P Q : Gate → Type 0) → ((g : Gate) → P g → Q g) → (gs : List Gate) → All P gs → All Q gs
 unfolding All

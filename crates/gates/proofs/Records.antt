@@ -31,10 +31,6 @@ pub packed-back : (x : ℕ) → packed (kindIn x) (aIn x) (bIn x) ≡ x
 unfolding packed kindIn aIn bIn
 packed-back x = omega arith
 
-pub packed-lt : (k a b : ℕ) → k < 256 → a < 256 → b < 65536 → packed k a b < 4294967296
-unfolding packed
-packed-lt k a b hk ha hb = omega arith
-
 -- ---- gates
 
 pub gate-record : (n : ℕ) (g : Gate) → n ≤ 256 → Good n g → gateOf n (recordOf g) ≡ g

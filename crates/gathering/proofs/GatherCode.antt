@@ -20,7 +20,7 @@ use Rattle.gathering.specs.declared.gather.Order.{Order}
 use Rattle.gathering.specs.declared.gather.Moves.{Moves}
 use Rattle.gathering.specs.declared.gather.Gathering.{Gathering}
 use Rattle.gathering.specs.Order.{orderOf, orderIn}
-use Rattle.gathering.specs.Gather.{flip, movesAt, leftAt, gatherFrom, gatherOf, alongOf, controlOf, targetOf, movesIn, Stepped, cnotsIn, Plain}
+use Rattle.gathering.specs.Gather.{flip, movesAt, leftAt, gatherFrom, gatherOf, alongOf, controlOf, targetOf, movesIn, Stepped, cnotsIn}
 use Rattle.gathering.proofs.OrderGrows.{order-few}
 use Rattle.gathering.proofs.GatherWorks.{gather-step, gather-none, moves-few, gather-from-few, gather-few}
 use Rattle.sets.proofs.Storing.{sets-append, map-append}
@@ -209,6 +209,13 @@ pub cnots-flip : (to by : List ℕ) (k n : ℕ) → cnotsIn by to k n ≡ flip (
 unfolding cnotsIn
 cnots-flip to by k zero = refl
 cnots-flip to by k (suc n) = ap (λ (l : List Gate). Cnot (getD by k 0) (getD to k 0) ∷ l) (cnots-flip to by (k + 1) n)
+
+-- nothing but CNOTs
+abbrev pub Plain : List Gate → Type 0
+Plain [] = Unit {0}
+Plain (Cnot c t ∷ gs) = Plain gs
+Plain (Rotation q a ∷ gs) = ⊥
+Plain (Bad ∷ gs) = ⊥
 
 cnots-back : (gs : List Gate) (to by : List ℕ) (k : ℕ) → Plain gs → ((j : ℕ) → j < length gs → getD to (k + j) 0 ≡ getD (map controlOf gs) j 0)
     → ((j : ℕ) → j < length gs → getD by (k + j) 0 ≡ getD (map targetOf gs) j 0) → cnotsIn to by k (length gs) ≡ gs

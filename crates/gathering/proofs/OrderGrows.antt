@@ -205,10 +205,6 @@ order-first near Q v = refl
 
 -- ---- what a growth order is: the members, each once
 
-pub along-size : {near os : List ℕ} {k S : ℕ} → Along near os k S → ones S ≡ suc k
-along-size {os = os} (root e) = ap ones e ∙ ones-pow (getD os 0 0)
-along-size {os = os} (then {k = k} {E = E} w a z h n e) = ap ones e ∙ ones-put (getD os (suc k) 0) E z ∙ ap suc (along-size a)
-
 pub along-in : {near os : List ℕ} {k S : ℕ} → Along near os k S → (j : ℕ) → j ≤ k → In (getD os j 0) S
 along-in {os = os} (root e) j l =
     let z : j ≡ 0 = omega arith in

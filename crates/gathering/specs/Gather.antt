@@ -131,10 +131,3 @@ pub record Stepped (to by : List ℕ) (len a u x : ℕ) (ts bs : List ℕ) (r : 
 unfoldable pub cnotsIn : List ℕ → List ℕ → ℕ → ℕ → List Gate
 cnotsIn to by k zero = []
 cnotsIn to by k (suc n) = Cnot (getD to k 0) (getD by k 0) ∷ cnotsIn to by (k + 1) n
-
--- nothing but CNOTs
-abbrev pub Plain : List Gate → Type 0
-Plain [] = Unit {0}
-Plain (Cnot c t ∷ gs) = Plain gs
-Plain (Rotation q a ∷ gs) = ⊥
-Plain (Bad ∷ gs) = ⊥

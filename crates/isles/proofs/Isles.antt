@@ -120,10 +120,6 @@ module _ (near : List ℕ) (sy : Symm near) where
   pub island-near : (u v : ℕ) → u < 20 → v < 20 → Near near u v → islandOf near u ≡ islandOf near v
   island-near u v hu hv n = island-same u v hu (chain-island near u v (next (here (every-in u hu)) n (every-in v hv)))
 
-  -- a neighbour of a member is a member
-  pub island-next : (q u v : ℕ) → q < 20 → v < 20 → In u (islandOf near q) → Near near u v → In v (islandOf near q)
-  island-next q u v h hv m n = chain-island near q v (next (island-chain near q u h m) n (every-in v hv))
-
   -- a chain that starts in an island stays in it
   pub island-stays : (q u v : ℕ) → q < 20 → In u (islandOf near q) → Chain near everyQubit u v → Chain near (islandOf near q) u v
   island-stays q u v h m (here k) = here m

@@ -19,13 +19,13 @@ use Rattle.gates.specs.Layout.{gateOf, gatesOf}
 use Rattle.circuit.specs.Circuit.{run, start}
 use Rattle.meaning.specs.Borne.{borne, borneFrom, overAt, terms}
 use Rattle.table.specs.Table.{termsIn}
-use Rattle.meaning.specs.Told.{toldOf, meaningOf, tableOf, termTable}
+use Rattle.meaning.specs.Told.{toldOf, meaningOf, tableOf}
 use Rattle.circuit.specs.State.{wiresOf}
 use Rattle.tallies.specs.Tally.{boundOf}
 use Rattle.verdicts.specs.Verdicts.{numberOf, judgedQubits, judgedCouplers, judgedGates}
 use Rattle.verdicts.proofs.Judged.{then-on, then-stop}
 use Rattle.meaning.proofs.Bearing.{terms-few}
-use Rattle.meaning.proofs.Terms.{terms-table}
+use Rattle.meaning.proofs.Terms.{termTable, terms-table}
 use Rattle.table.proofs.Keeping.{take-padded}
 use Rattle.chip.specs.Couplers.{nearOf}
 use Rattle.isles.specs.Islands.{islandsOf}

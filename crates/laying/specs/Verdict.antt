@@ -9,7 +9,7 @@ use Rattle.verdicts.specs.declared.verdict.Verdict.{Verdict}
 use Rattle.verdicts.specs.declared.verdict.Verdict.the-variants.{Accepted, Stuck}
 use Rattle.gates.specs.Layout.{gatesOf, recordOf}
 use Rattle.tallies.specs.Tally.{cnotsOf, rotationsOf, depthOf}
-use Rattle.verdicts.specs.Verdicts.{numberOf, placeOf}
+use Rattle.verdicts.specs.Verdicts.{numberOf}
 use Rattle.verdicts.specs.InOrder.{andThen}
 use Rattle.chip.specs.Couplers.{nearOf}
 use Rattle.laying.specs.Laid.{laidOf, stuckOn}
@@ -51,12 +51,6 @@ outputOf n couplers gates out =
 abbrev pub verdictIn : Answer → Verdict
 verdictIn (Laid records cnots rotations depth) = Accepted
 verdictIn (Refused v) = v
-
-abbrev pub numberIn : Answer → ℕ
-numberIn a = numberOf (verdictIn a)
-
-abbrev pub placeIn : Answer → ℕ
-placeIn a = placeOf (verdictIn a)
 
 abbrev pub recordsIn : Answer → ℕ
 recordsIn (Laid records cnots rotations depth) = records

@@ -13,7 +13,20 @@ use Rattle.meaning.specs.declared.told.Meaning.{Meaning}
 use Rattle.circuit.specs.State.{fedWires}
 use Rattle.table.specs.Table.{Added, addedTo}
 use Rattle.table.proofs.Ranks.{full-same}
-use Rattle.meaning.specs.Told.{Fed, fedMeaning}
+
+-- the meaning after a gate; `full` where the gate brings the 257th parity, and then nothing has changed
+pub record Fed : Type 0 where
+  pub meaning : Meaning
+  pub full : Bool
+
+-- a rotation goes to the table, any other gate to the wires; a full table leaves all as it was
+unfoldable pub fedMeaning : Meaning → Gate → Fed
+fedMeaning m (Cnot c t) = record { meaning = record { wires = fedWires (m .wires) (Cnot c t); sums = m .sums }; full = false }
+fedMeaning m (Rotation q a) = record {
+  meaning = record { wires = m .wires; sums = addedTo (m .sums) (getD (m .wires .parity) q 0) a .sums };
+  full = addedTo (m .sums) (getD (m .wires .parity) q 0) a .full;
+}
+fedMeaning m Bad = record { meaning = m; full = false }
 
 pub fed-cnot : (m : Meaning) (g : Gate) (c t : ℕ) (w : Wires) → g ≡ Cnot c t → w ≡ fedWires (m .wires) g
     → _≡_ {A = Fed} (record { meaning = record { wires = w; sums = m .sums }; full = false }) (fedMeaning m g)

@@ -45,12 +45,6 @@ up-ascending m (x ∷ xs) u zero (suc j) h l = up-at (suc x) xs (u .1) j (le-of-
 up-ascending m (x ∷ xs) u (suc i) zero h l = absurd (not-suc-le-zero h)
 up-ascending m (x ∷ xs) u (suc i) (suc j) h l = up-ascending (suc x) xs (u .1) i j (le-of-suc-le-suc h) (le-of-suc-le-suc l)
 
-pub ascending-up : (m : ℕ) (xs : List ℕ) → Ascending xs → (0 < length xs → m ≤ getD xs 0 0) → Up m xs
-unfolding Up Ascending
-ascending-up m [] a h = tt
-ascending-up m (x ∷ xs) a h =
-    (h (zero-lt-suc (length xs)), ascending-up (suc x) xs (λ i j l k. a (suc i) (suc j) (suc-le-suc l) (suc-le-suc k)) (λ l. a 0 1 (zero-lt-suc 0) (suc-le-suc l)))
-
 -- ---- members
 
 pub among-at : (xs : List ℕ) (k : ℕ) → k < length xs → Among (getD xs k 0) xs

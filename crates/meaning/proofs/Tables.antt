@@ -8,7 +8,7 @@ use native.Mathlib.Nat.{le-of-suc-le-suc, not-suc-le-zero, zero-lt-suc}
 use native.Mathlib.Omega.{arith}
 use native.Mathlib.Decide.{ℕ-discrete, decLt}
 use lib.Dec.{leb}
-use lib.ListN.{length, getD, set, take, drop, replicate, length-append, length-map, length-set, length-take, length-drop, length-replicate, List·getD-append}
+use lib.ListN.{length, getD, set, take, drop, replicate, length-append, length-map, length-set, length-take, length-drop, List·getD-append}
 use lib.Seq.{ext-getD, getD-set-same, getD-set-other, set-append-left, take-append-le, drop-append-le, take-append-seam, drop-append-add}
 use borrow.Author.Tests.{leb-true, leb-false}
 use Rattle.sets.specs.Pick.{pick, either}
@@ -27,10 +27,6 @@ use Rattle.meaning.proofs.Lists.{insert-held, insert-new, at-among}
 use Rattle.meaning.proofs.Bearing.{borne-snoc, bears-rotation, borne-ascending, not-borne}
 
 -- ---- a list at the front of many places
-
-pub padded-length : (n : ℕ) (xs : List ℕ) → length xs ≤ n → length (padded n xs) ≡ n
-unfolding padded
-padded-length n xs h = length-append xs (replicate (n - length xs) 0) ∙ ap (λ (k : ℕ). length xs + k) (length-replicate (n - length xs) 0) ∙ omega arith
 
 pub padded-at : (n : ℕ) (xs : List ℕ) (i : ℕ) → i < length xs → getD (padded n xs) i 0 ≡ getD xs i 0
 unfolding padded
@@ -161,9 +157,6 @@ module _ (gs : List Gate) (q a : ℕ) (few : length (borne gs) ≤ 256) where
   sum-more : sumOf p more ≡ (sumOf p gs % 65536 + a % 65536) % 65536
   unfolding sumOf
   sum-more = ap (λ (m : ℕ). m % 65536) (given-snoc p gs (Rotation q a) start ∙ ap (λ (m : ℕ). given p gs start + m) (gives-borne p q a (run gs start) refl)) ∙ omega arith
-
-  up : Ascending ps
-  up = borne-ascending gs
 
   -- p has its place: it is at k, and nowhere else
   module _ (l : k < length ps) (e : getD ps k 0 ≡ p) where

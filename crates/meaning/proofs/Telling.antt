@@ -23,13 +23,13 @@ use Rattle.gates.specs.Layout.{gateOf, gatesOf}
 use Rattle.circuit.specs.Circuit.{step, run, start, given, sumOf}
 use Rattle.meaning.specs.Borne.{borne, borneFrom, sumsOf, overAt}
 use Rattle.table.specs.Table.{padded, Added, tabled, addedTo}
-use Rattle.meaning.specs.Told.{Fed, fedMeaning, tableOf, meaningOf, toldOf}
+use Rattle.meaning.specs.Told.{tableOf, meaningOf, toldOf}
 use Rattle.circuit.specs.State.{fedWires, wiresOf}
 use Rattle.circuit.proofs.Steps.{gives-cnot, gives-bad}
 use Rattle.circuit.proofs.Circuits.{run-snoc, given-snoc}
 use Rattle.meaning.proofs.Bearing.{borne-cnot, borne-bad}
-use Rattle.meaning.proofs.Feeding.{fed-same}
-use Rattle.meaning.proofs.Tables.{padded-length, added-fits, added-full}
+use Rattle.meaning.proofs.Feeding.{Fed, fedMeaning, fed-same}
+use Rattle.meaning.proofs.Tables.{added-fits, added-full}
 
 -- ---- one gate more
 
@@ -107,18 +107,6 @@ telling-none gs w e = record {
   few = omega arith;
   still = first-all (overTest gs) (length gs);
 }
-
--- the two lists of the table fill their places
-module _ (gs : List Gate) (m : Meaning) (i : ℕ) (t : Telling gs m i) where
-  pub parity-long : length (m .sums .parity) ≡ 256
-  unfolding meaningOf tableOf
-  parity-long = ap (λ (k : Meaning). length (k .sums .parity)) (t .told) ∙ padded-length 256 (borne (take i gs)) (t .few)
-
-  pub sum-long : length (m .sums .sum) ≡ 256
-  unfolding meaningOf tableOf
-  sum-long =
-      ap (λ (k : Meaning). length (k .sums .sum)) (t .told)
-      ∙ padded-length 256 (sumsOf (take i gs) (borne (take i gs))) (omega (arith, t .few, length-map (borne (take i gs)) (λ r. sumOf r (take i gs))))
 
 take-more : (gs : List Gate) (i : ℕ) → i < length gs → take (i + 1) gs ≡ take i gs ++ getD gs i Bad ∷ []
 take-more gs i h = ap (λ (k : ℕ). take k gs) (add-one i) ∙ take-suc gs i Bad h

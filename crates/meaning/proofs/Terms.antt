@@ -2,12 +2,18 @@
 use mathlib.Core.Path.{_≡_, refl, sym}
 use mathlib.Core.List.{List}
 use lib.ListN.{length, take, length-map}
+use Rattle.gates.specs.Limits.{mostParities}
 use Rattle.gates.specs.declared.gate.Gate.{Gate}
+use Rattle.table.specs.declared.sums.Sums.{Sums}
 use Rattle.circuit.specs.Circuit.{sumOf}
 use Rattle.meaning.specs.Borne.{borne, sumsOf, terms}
 use Rattle.table.specs.Table.{kept, padded, keptTable, termsIn}
-use Rattle.meaning.specs.Told.{tableOf, termTable}
+use Rattle.meaning.specs.Told.{tableOf}
 use Rattle.table.proofs.Keeping.{kept-map, take-padded}
+
+-- the terms with their sums, as a table
+unfoldable pub termTable : List Gate → Sums
+termTable gs = record { parity = padded mostParities (terms gs); sum = padded mostParities (sumsOf gs (terms gs)); len = length (terms gs) }
 
 -- "the table's terms are exactly the parities whose sum is not 0, ascending, each once"
 pub terms-table : (gs : List Gate) → termsIn (tableOf gs) ≡ termTable gs

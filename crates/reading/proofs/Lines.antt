@@ -41,11 +41,6 @@ module _ (k a b : ℕ) (ha : a < 256) (hb : b < 65536) where
   packed-more : (t : List ℕ) → recordText (packed k a b) ++ t ≡ letter k ∷ 9 ∷ (digits a ++ (9 ∷ (digits b ++ (10 ∷ t))))
   packed-more t = record-more (packed k a b) t ∙ rw (kind-packed k a b ha hb, a-packed k a b ha hb, b-packed k a b ha hb)
 
-  -- a line of numbers within the text's limits is a record's
-  pub packed-text : recordText (packed k a b) ≡ lineText (letter k) (a ∷ b ∷ [])
-  unfolding recordText
-  packed-text = rw (kind-packed k a b ha hb, a-packed k a b ha hb, b-packed k a b ha hb)
-
   line-forth : (t : List ℕ) → lineOf k (recordText (packed k a b) ++ t) ≡ record { value = packed k a b; rest = some t }
   unfolding lineOf digitOf
   line-forth t =

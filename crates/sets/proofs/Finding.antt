@@ -29,15 +29,6 @@ first-end f n r h = rw (sub-none n r h)
 
 -- what the number found is: the property holds at it and at no number passed
 module _ (f : ℕ → Bool) where
-  pub first-ge : (d r : ℕ) → r ≤ firstOf f d r
-  unfolding firstOf
-  first-ge zero r = omega arith
-  first-ge (suc d) r = go (f r) (first-ge d (r + 1))
-    where
-      go : (b : Bool) → r + 1 ≤ firstOf f d (r + 1) → r ≤ pick b r (firstOf f d (r + 1))
-      go true h = omega arith
-      go false h = omega arith
-
   pub first-le : (d r : ℕ) → firstOf f d r ≤ r + d
   unfolding firstOf
   first-le zero r = omega arith

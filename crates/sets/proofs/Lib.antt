@@ -5,7 +5,6 @@ pub mod Turn
 pub mod Comb
 pub mod Dot
 pub mod Finding
-pub mod Choosing
 pub mod Words
 pub mod Deciding
 pub mod Storing

@@ -42,12 +42,6 @@ single (suc k) x l h = go (x % 2) refl (mod-lt x (zero-lt-suc 1)) (single k (x /
     go (suc zero) e p ih = let z : x / 2 ≡ 0 = ones-zero (x / 2) (omega (arith, ones-step x)) in (omega arith, zero-lt-suc k)
     go (suc (suc b)) e p ih = absurd (omega arith)
 
-pub trailing-pow : (k q : ℕ) → q < k → trailingZeros k (2 ^ q) ≡ q
-unfolding trailingZeros
-trailing-pow zero q l = absurd (not-suc-le-zero l)
-trailing-pow (suc k) zero l = refl
-trailing-pow (suc k) (suc q) l = rw (pow-half, pow-even) (ap suc (trailing-pow k q (le-of-suc-le-suc l)))
-
 -- trailingZeros of a number that is not 0 is its lowest set bit
 pub trailing-bit : (k x : ℕ) → x < 2 ^ k → x ≢ 0 → (trailingZeros k x < k) × (bit x (trailingZeros k x) ≡ 1) × ((j : ℕ) → j < trailingZeros k x → bit x j ≡ 0)
 unfolding trailingZeros

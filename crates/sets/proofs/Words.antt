@@ -10,10 +10,10 @@ use lib.Pow.{shl-exact, pow-mono}
 use lib.Count.{ones, trailingZeros}
 use borrow.Author.Tests.{lt-ltb, eqb-true, eqb-false, eq-eqb, ne-eqb, ltb-true, ltb-false}
 use Rattle.sets.specs.Bit.{bit, has, In}
-use Rattle.sets.specs.Size.{sizeOf, lowestOf, singleOf, onlyOf}
+use Rattle.sets.specs.Size.{lowestOf, singleOf, onlyOf}
 use Rattle.sets.proofs.Bits.{bit-lt, bit-high}
 use Rattle.sets.proofs.Members.{in-lt}
-use Rattle.sets.proofs.Ones.{single, ones-pow, trailing-pow, trailing-bit}
+use Rattle.sets.proofs.Ones.{single, ones-pow, trailing-bit}
 
 -- ---- the test for a member
 
@@ -45,6 +45,10 @@ pub only-is : (q : ℕ) → q < 32 → onlyOf q ≡ 2 ^ q
 unfolding onlyOf
 only-is q h = simp (lt-ltb q 32 h)
 
+-- a member of a set of 32 digits alone is its power of two
+pub only-of : (x q : ℕ) → x < 2 ^ 32 → has x q ≡ true → onlyOf q ≡ 2 ^ q
+only-of x q l e = only-is q (in-lt 32 x q l (has-true x q e))
+
 pub only-shift : (q : ℕ) → q < 32 → (1 * 2 ^ q) % 4294967296 ≡ onlyOf q
 only-shift q h = shl-exact 1 q 32 (lit< tt) (omega arith) ∙ one-mul (2 ^ q) ∙ sym (only-is q h)
 
@@ -66,14 +70,6 @@ pub single-pow : (q : ℕ) → singleOf (2 ^ q) ≡ true
 unfolding singleOf
 single-pow q = eq-eqb (ones (2 ^ q)) 1 (ones-pow q)
 
-pub single-not : (x : ℕ) → singleOf x ≡ false → sizeOf x ≢ 1
-unfolding singleOf sizeOf
-single-not x e = eqb-false (ones x) 1 e
-
-pub lowest-pow : (q : ℕ) → q < 32 → lowestOf (2 ^ q) ≡ q
-unfolding lowestOf
-lowest-pow q h = trailing-pow 32 q h
-
 -- ---- the lowest member of a set that is not empty
 
 pub lowest-in : (x : ℕ) → x < 2 ^ 32 → x ≢ 0 → In (lowestOf x) x
@@ -86,3 +82,6 @@ lowest-first x j l ne h = trailing-bit 32 x l ne .2 j h
 
 pub lowest-below : (n x : ℕ) → n ≤ 32 → x < 2 ^ n → x ≢ 0 → lowestOf x < n
 lowest-below n x few l ne = in-lt n x (lowestOf x) l (lowest-in x (lt-of-lt-of-le l (pow-mono few)) ne)
+
+pub only-lowest : (x : ℕ) → x < 2 ^ 32 → x ≢ 0 → onlyOf (lowestOf x) ≡ 2 ^ lowestOf x
+only-lowest x l ne = only-is (lowestOf x) (lowest-below 32 x (omega arith) l ne)

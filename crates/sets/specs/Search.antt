@@ -2,7 +2,7 @@
 use mathlib.Core.Bool.{Bool}
 use Prim.Native.Nat.{ℕ, zero, suc, _+_}
 use lib.Dec.{ltb}
-use Rattle.sets.specs.Pick.{pick, both}
+use Rattle.sets.specs.Pick.{pick}
 
 -- the lowest k with f k among the d numbers from r on, and r + d where there is none
 unfoldable pub firstOf : (ℕ → Bool) → ℕ → ℕ → ℕ
@@ -12,9 +12,3 @@ firstOf f (suc d) r = pick (f r) r (firstOf f d (r + 1))
 -- some number below n has the property
 unfoldable pub someOf : (ℕ → Bool) → ℕ → Bool
 someOf f n = ltb (firstOf f n 0) n
-
--- the best of the d numbers from r on: the one with the property and most worth, the lowest in a tie. So far it is b, of worth w
-unfoldable pub mostFrom : (ℕ → Bool) → (ℕ → ℕ) → ℕ → ℕ → ℕ → ℕ → ℕ
-mostFrom ok worth zero r b w = b
-mostFrom ok worth (suc d) r b w =
-    mostFrom ok worth d (r + 1) (pick (both (ok r) (ltb w (worth r))) r b) (pick (both (ok r) (ltb w (worth r))) (worth r) w)

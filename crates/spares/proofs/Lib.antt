@@ -1,3 +1,1 @@
 pub mod Spares
-pub mod Seeking
-pub mod Firsts

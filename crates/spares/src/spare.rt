@@ -1,9 +1,9 @@
-// Connected sets, the qubits that can be spared from them, and neighbours in them.
+// Connected sets, and the qubits that can be spared from them.
 use gates::job::Job;
 ghost use mathlib.Core.Path.{_≡_};
 ghost use Prim.Native.Nat.{_<_};
 ghost use Rattle.chip.specs.Graph.{nbrs, grow};
-ghost use Rattle.spares.specs.Spare.{reachOf, connectedOf, spareOf, firstSpareOf, linksOf, firstBesideOf, firstNearOf};
+ghost use Rattle.spares.specs.Spare.{reachOf, connectedOf, spareOf};
 
 // The neighbours of the members of `set`.
 fn beside(near: [u32; Job::QUBITS], set: u32) -> u32
@@ -59,61 +59,4 @@ pub fn spare(near: [u32; Job::QUBITS], set: u32, q: usize) -> bool
         return connected(near, set ^ sets::only(q));
     }
     false
-}
-
-// The lowest spare qubit of `set`; 20 where there is none.
-pub fn first_spare(near: [u32; Job::QUBITS], set: u32) -> usize
-    ensures { λ r. ⌜ r ≡ firstSpareOf near set ⌝ }
-{
-    let mut first = Job::QUBITS;
-    'search: for q in 0..Job::QUBITS {
-        if sets::holds(set, q) {
-            let rest = set ^ sets::only(q);
-            let mut reached = sets::only(sets::lowest(rest));
-            for k in 0..Job::QUBITS {
-                reached = grown(near, rest, reached);
-                if reached == rest {
-                    first = q;
-                    break 'search;
-                }
-            }
-        }
-    }
-    first
-}
-
-// v is a neighbour of u, which is in `from`.
-fn links(neighbours: u32, from: u32, u: usize, v: usize) -> bool
-    ensures { λ r. ⌜ r ≡ linksOf neighbours from u v ⌝ }
-{
-    if sets::holds(from, u) {
-        sets::holds(neighbours, v)
-    } else {
-        false
-    }
-}
-
-// The lowest qubit of `set` that is a neighbour of a member of `from`; 20 where there is none.
-pub fn first_beside(near: [u32; Job::QUBITS], set: u32, from: u32) -> usize
-    ensures { λ r. ⌜ r ≡ firstBesideOf near set from ⌝ }
-{
-    let mut first = Job::QUBITS;
-    'search: for v in 0..Job::QUBITS {
-        if sets::holds(set, v) {
-            for u in 0..Job::QUBITS {
-                if links(near[u], from, u, v) {
-                    first = v;
-                    break 'search;
-                }
-            }
-        }
-    }
-    first
-}
-
-// The lowest neighbour of q in `set`; 20 where there is none.
-pub fn first_near(near: [u32; Job::QUBITS], set: u32, q: usize) -> usize
-    ensures { λ r. ⌜ r ≡ firstNearOf near set q ⌝ }
-{
-    first_beside(near, set, sets::only(q))
 }

@@ -19,8 +19,7 @@ pub struct Grown {
 }
 
 // Where p stands, or is to stand, among the first n.
-fn rank(xs: &[u32], n: usize, p: u32) -> usize
-    requires { ⌜ length (now xs) ≡ 256 ⌝ }
+fn rank(xs: &[u32; Job::PARITIES], n: usize, p: u32) -> usize
     ensures { λ r. ⌜ r ≡ rankOf (now (xs .entry)) n p ⌝ }
 {
     for i in 0..Job::PARITIES {
@@ -52,8 +51,13 @@ fn moved_in(xs: &mut [u32], k: usize, n: usize, v: u32)
 
 // The angle a goes to the sum of parity p. The table is lent and changes in place: to copy its 2 KB
 // for each rotation would cost more than all the rest.
-pub fn add(parity: &mut [u32], sum: &mut [u32], len: usize, p: u32, a: u32) -> Grown
-    requires { ⌜ (length (now parity) ≡ 256) × (length (now sum) ≡ 256) ⌝ }
+pub fn add(
+    parity: &mut [u32; Job::PARITIES],
+    sum: &mut [u32; Job::PARITIES],
+    len: usize,
+    p: u32,
+    a: u32,
+) -> Grown
     ensures { λ r. ⌜ added (now (parity .exit)) (now (sum .exit)) (r .len) (r .full) ≡ addedTo (tabled (now (parity .entry)) (now (sum .entry)) len) p a ⌝ }
 {
     if Job::PARITIES < len {

@@ -1,5 +1,5 @@
 -- `meaning::told::tell` meets its contract: the gates before the loop's place are told, and none of them brings the 257th parity. Assumes nothing.
-use mathlib.Core.Path.{refl, sym}
+use mathlib.Core.Path.{refl}
 use mathlib.Core.Logic.{⊎-elim}
 use Prim.Native.Nat.{_-_, _<_}
 use lib.ListN.{length}
@@ -7,7 +7,7 @@ use Rattle.meaning.specs.declared.told.Meaning.{Meaning}
 use Rattle.gates.specs.Layout.{gatesOf}
 use Rattle.table.specs.Table.{tabled}
 use Rattle.meaning.proofs.Feeding.{fed-cnot, fed-rotation, fed-bad}
-use Rattle.meaning.proofs.Telling.{Telling, telling-none, parity-long, sum-long, tell-next, tell-full, tell-all}
+use Rattle.meaning.proofs.Telling.{Telling, telling-none, tell-next, tell-full, tell-all}
 use borrow.Author.Needs.{needs}
 use Rattle.meaning.proofs.told.tell.Statement.{statement}
 use Rattle.meaning.proofs.told.tell.Tie as tie
@@ -45,21 +45,15 @@ enum-known-g c = search needs
 borne-on-requires : tie.Need-borne-on-requires Inv-loop μ-loop
 borne-on-requires c κs = search needs
 
-slice-aggregate-add : tie.Need-slice-aggregate-add Inv-loop μ-loop
-slice-aggregate-add c = sym (parity-long _ _ _ (c .before .before .before .before .before .before .before .before .before .loop .inv))
-
-slice-aggregate-add-2 : tie.Need-slice-aggregate-add-2 Inv-loop μ-loop
-slice-aggregate-add-2 c = sym (sum-long _ _ _ (c .before .before .before .before .before .before .before .before .before .before .loop .inv))
-
 add-requires : tie.Need-add-requires Inv-loop μ-loop
-add-requires c κs = (parity-long _ _ _ (c .before .before .before .before .before .before .before .before .before .before .loop .inv), sum-long _ _ _ (c .before .before .before .before .before .before .before .before .before .before .loop .inv))
+add-requires c κs = search needs
 
 returns : tie.Need-returns Inv-loop μ-loop
 returns c =
-    let at = c .before .before .before .before .before .before .before .before .before .before .before .before .before .before .loop in
+    let at = c .before .before .before .before .before .before .before .before .before .before .before .before .loop in
     let m : Meaning = record { wires = at .wires; sums = tabled (at .parity) (at .sum) (at .len) } in
-    tell-full _ _ m (at .i) (at .inv) (search needs) _ (c .before .before .before .before .before .before .before .before .before .before .before .decode .ensures) _
-    (fed-rotation m _ _ _ _ _ (c .before .before .before .before .before .before .before .before .before .g .given .1) (c .before .before .before .before .before .before .borne-on .ensures) (c .before .before .before .add .ensures)) (c .if1 .taken)
+    tell-full _ _ m (at .i) (at .inv) (search needs) _ (c .before .before .before .before .before .before .before .before .before .decode .ensures) _
+    (fed-rotation m _ _ _ _ _ (c .before .before .before .before .before .before .before .g .given .1) (c .before .before .before .before .borne-on .ensures) (c .before .add .ensures)) (c .if1 .taken)
 
 enum-told-2 : tie.Need-enum-told-2 Inv-loop μ-loop
 enum-told-2 c = search needs
@@ -80,7 +74,7 @@ loop-again c =
     ⊎-elim
     (λ w. rw (w .3, w .4, w .5, w .6) (tell-next _ xs m (at .i) (at .inv) here _ d _ (fed-cnot m _ _ _ _ (w .1 .given .1) (w .2 .ensures)) refl))
     (⊎-elim
-    (λ w. rw (w .11, w .12, w .13, w .14) (tell-next _ xs m (at .i) (at .inv) here _ d _ (fed-rotation m _ _ _ _ _ (w .1 .given .1) (w .4 .ensures) (w .7 .ensures)) (w .10 .left)))
+    (λ w. rw (w .9, w .10, w .11, w .12) (tell-next _ xs m (at .i) (at .inv) here _ d _ (fed-rotation m _ _ _ _ _ (w .1 .given .1) (w .4 .ensures) (w .7 .ensures)) (w .8 .left)))
     (λ w. rw (w .2, w .3, w .4, w .5) (tell-next _ xs m (at .i) (at .inv) here _ d _ (fed-bad m _ (w .1 .given .1)) refl)))
     (c .match .came)
 
@@ -102,8 +96,6 @@ tell-spec =
     feed-requires
     enum-known-g
     borne-on-requires
-    slice-aggregate-add
-    slice-aggregate-add-2
     add-requires
     returns
     enum-told-2

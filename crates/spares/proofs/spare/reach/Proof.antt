@@ -2,11 +2,11 @@
 use mathlib.Core.Path.{_≡_, sym, ap, _∙_}
 use Prim.Native.Nat.{_≤_, _+_, _-_}
 use Rattle.sets.specs.Size.{onlyOf}
+use Rattle.sets.proofs.Words.{only-lowest}
 use Rattle.chip.specs.Graph.{closure}
 use Rattle.spares.specs.Spare.{reachOf}
 use Rattle.chip.proofs.Closure.{closure-still}
 use Rattle.chip.proofs.Rounds.{closure-round, closure-done}
-use Rattle.spares.proofs.Seeking.{seed-is}
 use borrow.Author.Needs.{needs}
 use native.Mathlib.Omega.{arith}
 use Rattle.spares.proofs.spare.reach.Statement.{statement}
@@ -28,7 +28,7 @@ loop-holds : tie.Need-loop-holds Inv-loop μ-loop
 unfolding reachOf
 loop-holds c =
     let a = c .before .before .args in
-    (search needs, ap (closure (a .near) (a .set) 20) (c .only .ensures ∙ ap onlyOf (c .before .lowest .ensures) ∙ seed-is (a .set) (search needs) (λ (z : a .set ≡ 0). omega (arith, c .before .before .pre))))
+    (search needs, ap (closure (a .near) (a .set) 20) (c .only .ensures ∙ ap onlyOf (c .before .lowest .ensures) ∙ only-lowest (a .set) (search needs) (λ (z : a .set ≡ 0). omega (arith, c .before .before .pre))))
 
 grown-requires : tie.Need-grown-requires Inv-loop μ-loop
 grown-requires c κs = search needs

@@ -3,8 +3,8 @@ use mathlib.Core.Path.{sym, ap, _∙_}
 use Prim.Native.Nat.{ℕ, _^_}
 use lib.Bits.{bitXor}
 use Rattle.sets.specs.Pick.{both}
+use Rattle.sets.proofs.Words.{only-of}
 use Rattle.spares.specs.Spare.{connectedOf, spareOf}
-use Rattle.spares.proofs.Seeking.{only-of}
 use borrow.Author.Needs.{needs}
 use Rattle.spares.proofs.spare.spare.Statement.{statement}
 use Rattle.spares.proofs.spare.spare.Tie as tie

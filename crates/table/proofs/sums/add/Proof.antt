@@ -17,14 +17,14 @@ rank-requires c κs = search needs
 mul-if3 : tie.Need-mul-if3
 mul-if3 c = search needs
 
-slice-read-if3 : tie.Need-slice-read-if3
-slice-read-if3 c = search needs
+element-copy-out-if3 : tie.Need-element-copy-out-if3
+element-copy-out-if3 c = search needs
 
 mul-sum : tie.Need-mul-sum
 mul-sum c = search needs
 
-slice-read-sum : tie.Need-slice-read-sum
-slice-read-sum c = search needs
+element-copy-out-sum : tie.Need-element-copy-out-sum
+element-copy-out-sum c = search needs
 
 add-sum : tie.Need-add-sum
 add-sum c = search needs
@@ -32,19 +32,13 @@ add-sum c = search needs
 mul-sum-2 : tie.Need-mul-sum-2
 mul-sum-2 c = search needs
 
-slice-write-sum : tie.Need-slice-write-sum
-slice-write-sum c = search needs
-
-same-length : tie.Need-same-length
-same-length c = search needs
-
-same-length-2 : tie.Need-same-length-2
-same-length-2 c = search needs
+element-write-sum : tie.Need-element-write-sum
+element-write-sum c = search needs
 
 returns-2 : tie.Need-returns-2
 unfolding grownAt
 returns-2 c =
-    let x = c .before .before .before .before .before .before .before .before .before .args in
+    let x = c .before .before .before .before .before .before .before .args in
     let s = tabled (x .parity .now) (x .sum .now) (x .len) in
     let k = c .before .before .before .before .rank .result in
     sym (add-held s (x .p) (x .a) k (c .before .before .before .before .before .before .if1 .left) (c .before .before .before .before .rank .ensures) (held-there s k _ (c .before .before .before .if2 .taken) (c .before .if3 .taken)))
@@ -53,32 +47,23 @@ moved-in-requires : tie.Need-moved-in-requires
 moved-in-requires c κs = (rw (c .before .before .before .rank .ensures) (rank-le _ _ _), search needs)
 
 moved-in-requires-2 : tie.Need-moved-in-requires-2
-moved-in-requires-2 c κs = (rw (c .before .before .before .before .before .before .before .rank .ensures) (rank-le _ _ _), search needs)
+moved-in-requires-2 c κs = (rw (c .before .before .before .before .before .rank .ensures) (rank-le _ _ _), search needs)
 
-add-t29 : tie.Need-add-t29
-add-t29 c = search needs
-
-same-length-3 : tie.Need-same-length-3
-same-length-3 c = search needs
-
-same-length-4 : tie.Need-same-length-4
-same-length-4 c = search needs
+add-t31 : tie.Need-add-t31
+add-t31 c = search needs
 
 returns-3 : tie.Need-returns-3
 unfolding newAt
 returns-3 c =
-    let x = c .before .before .before .before .before .before .before .before .before .before .before .before .before .before .before .args in
+    let x = c .before .before .before .before .before .before .before .before .before .args in
     let s = tabled (x .parity .now) (x .sum .now) (x .len) in
-    let k = c .before .before .before .before .before .before .before .before .before .before .rank .result in
-    let absent = ⊎-elim {C = heldAt s k (x .p) ≡ false} (λ w. held-not-other s k _ (w .0 .taken) (w .2 .left)) (λ w. held-not-past s k _ (w .left)) (c .before .before .before .before .before .before .before .before .before .if2 .came) in
-    cc (add-new s (x .p) (x .a) k (c .before .before .before .before .before .before .before .before .before .before .before .before .if1 .left) (c .before .before .before .before .before .before .before .before .before .before .rank .ensures) absent (c .before .before .before .before .before .before .before .before .if4 .taken), c .before .before .before .before .before .before .moved-in .ensures, c .before .before .moved-in2 .ensures)
-
-same-length-5 : tie.Need-same-length-5
-same-length-5 c = search needs
+    let k = c .before .before .before .before .before .before .rank .result in
+    let absent = ⊎-elim {C = heldAt s k (x .p) ≡ false} (λ w. held-not-other s k _ (w .0 .taken) (w .2 .left)) (λ w. held-not-past s k _ (w .left)) (c .before .before .before .before .before .if2 .came) in
+    cc (add-new s (x .p) (x .a) k (c .before .before .before .before .before .before .before .before .if1 .left) (c .before .before .before .before .before .before .rank .ensures) absent (c .before .before .before .before .if4 .taken), c .before .before .moved-in .ensures, c .moved-in2 .ensures)
 
 returns-4 : tie.Need-returns-4
 returns-4 c =
-    let x = c .before .before .before .before .before .before .before .args in
+    let x = c .before .before .before .before .before .args in
     let s = tabled (x .parity .now) (x .sum .now) (x .len) in
     let k = c .before .before .rank .result in
     let absent = ⊎-elim {C = heldAt s k (x .p) ≡ false} (λ w. held-not-other s k _ (w .0 .taken) (w .2 .left)) (λ w. held-not-past s k _ (w .left)) (c .before .if2 .came) in
@@ -91,20 +76,15 @@ add-spec =
     returns
     rank-requires
     mul-if3
-    slice-read-if3
+    element-copy-out-if3
     mul-sum
-    slice-read-sum
+    element-copy-out-sum
     add-sum
     mul-sum-2
-    slice-write-sum
-    same-length
-    same-length-2
+    element-write-sum
     returns-2
     moved-in-requires
     moved-in-requires-2
-    add-t29
-    same-length-3
-    same-length-4
+    add-t31
     returns-3
-    same-length-5
     returns-4)

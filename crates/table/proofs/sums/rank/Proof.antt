@@ -28,8 +28,8 @@ returns c =
 mul-if2 : tie.Need-mul-if2 Inv-loop μ-loop
 mul-if2 c = search needs
 
-shared-slice-read-if2 : tie.Need-shared-slice-read-if2 Inv-loop μ-loop
-shared-slice-read-if2 c = search needs
+element-copy-out-if2 : tie.Need-element-copy-out-if2 Inv-loop μ-loop
+element-copy-out-if2 c = search needs
 
 returns-2 : tie.Need-returns-2 Inv-loop μ-loop
 returns-2 c =
@@ -62,7 +62,7 @@ rank-spec =
     loop-holds
     returns
     mul-if2
-    shared-slice-read-if2
+    element-copy-out-if2
     returns-2
     add-i
     loop-less
