@@ -3,12 +3,11 @@ use mathlib.Core.Path.{_≡_, refl, sym, ap, ap₂, _∙_, subst}
 use mathlib.Core.Logic.{_↔_}
 use mathlib.Core.Bool.{Bool, true, false}
 use mathlib.Core.List.{List, [], _++_, map}
-use Prim.Native.Nat.{ℕ, zero, suc, _≤_, _<_}
+use Prim.Native.Nat.{ℕ, zero, suc, _<_}
 use native.Mathlib.Omega.{arith}
 use lib.Dec.{eqb}
 use lib.ListN.{length}
 use Rattle.sets.specs.Pick.{pick}
-use Rattle.sets.specs.Bit.{In}
 use Rattle.sets.specs.Size.{lowestOf}
 use Rattle.gates.specs.declared.gate.Gate.{Gate}
 use Rattle.gates.specs.Layout.{gatesOf, recordOf}
@@ -24,7 +23,6 @@ use Rattle.laying.specs.Laid.{onIsland, laidOf}
 use Rattle.laying.specs.Layable.{Layable}
 use Rattle.laying.specs.Verdict.{verdictOf, circuitOf, laidRecords}
 use Rattle.laying.specs.Demands.{Linked, same, more, Island, gatesOn, SameCouplers, Agree}
-use Rattle.laying.proofs.Parting.{Parts}
 use Rattle.laying.proofs.Job.{parts}
 use Rattle.laying.proofs.Both.{island-placed}
 use Rattle.laying.proofs.Alike.{gates-on}

@@ -29,10 +29,6 @@ pick-plus : (b : Bool) (x y : ℕ) → pick b (x + y) 0 ≡ pick b x 0 + pick b 
 pick-plus true x y = refl
 pick-plus false x y = refl
 
-pick-zero : (b : Bool) → pick {A = ℕ} b 0 0 ≡ 0
-pick-zero true = refl
-pick-zero false = refl
-
 module _ (n : ℕ) (isl : ℕ → ℕ) (few : n ≤ 20) (parts : Parts n isl) where
   -- a sum over the islands
   abbrev pub overIslands : (ℕ → ℕ) → ℕ

@@ -253,10 +253,6 @@ module _ (n : ℕ) (xs : List ℕ) (gs : List Gate) (few : n ≤ 20) (good : All
     pub laid-coupled : All (OnCoupler xs) laid
     laid-coupled = laid-all n Q few P lists (OnCoupler xs) (λ q l e. island-coupled q l) n (omega arith)
 
-    -- what is inside is reachable: by the circuit that is laid
-    pub laid-reaches : Reachable n xs gs
-    laid-reaches = record { circuit = laid; good = laid-good; coupled = laid-coupled; same = laid-same }
-
     -- "exactly t rotations", "at most 2(n-1)t + 2n(n-1) CNOTs"
     pub laid-rotations : rotationsOf laid ≡ length ts
     unfolding rotationsOf

@@ -9,10 +9,9 @@ use lib.Dec.{leb}
 use lib.ListN.{length}
 use borrow.Author.Tests.{leb-true, leb-false}
 use Rattle.sets.specs.Pick.{pick, both}
-use Rattle.gates.specs.Limits.{mostCouplers}
 use Rattle.verdicts.specs.declared.verdict.Verdict.{Verdict}
 use Rattle.verdicts.specs.declared.verdict.Verdict.the-variants.{Accepted, Room, LongText}
-use Rattle.verdicts.specs.Verdicts.{numberOf, placeOf, judgedQubits, judgedCouplers, judgedGates}
+use Rattle.verdicts.specs.Verdicts.{numberOf, placeOf, judgedQubits, judgedGates}
 use Rattle.verdicts.specs.InOrder.{andThen}
 use Rattle.verdicts.specs.Rows.{Row, Nowhere, Passes1, Passes2, Passes3, Passes5}
 use Rattle.verdicts.proofs.Judged.{then-assoc}
