@@ -20,7 +20,6 @@ use Rattle.verdicts.specs.Verdicts.{numberOf}
 use Rattle.verdicts.proofs.Judged.{then-on}
 use Rattle.gates.proofs.Alls.{all-map}
 use Rattle.meaning.proofs.Bearing.{terms-few}
-use Rattle.tallies.proofs.Tallies.{product-le}
 use Rattle.circuit.proofs.Wiring.{good-up}
 use Rattle.chip.specs.Couplers.{nearOf}
 use Rattle.isles.specs.Islands.{islandOf}
@@ -31,7 +30,7 @@ use Rattle.ways.specs.Memory.{Fine}
 use Rattle.judging.specs.Tests.{judgedJob}
 use Rattle.laying.specs.Verdict.{judgedStuck, verdictOf, circuitOf}
 use Rattle.laying.proofs.Job.{laid-same, laid-good, laid-coupled, laid-rotations, laid-cnots}
-use Rattle.laying.proofs.Both.{island-lays, island-placed, never-stuck}
+use Rattle.laying.proofs.Both.{bound-most, island-lays, island-placed, never-stuck}
 use Rattle.laying.proofs.Accepting.{job-layable}
 use Rattle.sets.proofs.Deciding.{both-no}
 
@@ -81,23 +80,10 @@ module _ (n : ℕ) (xs ys : List ℕ) (job : Layable n xs ys) where
   circuit-bounded = omega (arith, good-length n C circuit-good, circuit-rotations, circuit-cnots)
 
   pub circuit-fine : Fine C
-  circuit-fine = record { few = most; good = all-map (Good n) (Good 20) (λ g h. good-up n 20 g (job .few) h) C circuit-good }
-    where
-      t : ℕ
-      t = length (terms gs)
-
-      most : length C ≤ 10744
-      most =
-          let f = job .few in
-          let a : t ≤ 256 = omega (arith, terms-few gs, job .fit) in
-          omega (
-            arith,
-            good-length n C circuit-good,
-            circuit-rotations,
-            circuit-cnots,
-            product-le (2 * (n - 1)) t 38 256 (omega arith) a,
-            product-le (2 * n) (n - 1) 40 19 (omega arith) (omega arith),
-          )
+  circuit-fine = record {
+    few = omega (arith, circuit-bounded, bound-most n (length (terms gs)) (job .few) (omega (arith, terms-few gs, job .fit)));
+    good = all-map (Good n) (Good 20) (λ g h. good-up n 20 g (job .few) h) C circuit-good;
+  }
 
   -- "steps ran out" on no island
   pub none-stuck : stuckOn n (nearOf n xs) gs ≡ false

@@ -5,7 +5,7 @@ use mathlib.Core.List.{List, _++_, map}
 use Prim.Native.Nat.{ℕ, _+_}
 use native.Mathlib.Omega.{arith}
 use lib.Dec.{eqb}
-use lib.ListN.{length, take, drop, replicate}
+use lib.ListN.{length, take, drop}
 use borrow.Author.Tests.{eq-eqb, ne-eqb}
 use Rattle.sets.specs.Pick.{pick}
 use Rattle.gates.specs.declared.gate.Gate.{Gate}
@@ -22,7 +22,8 @@ use Rattle.laying.specs.declared.lay.Answer.the-variants.{Refused}
 use Rattle.laying.specs.Layable.{Layable}
 use Rattle.judging.specs.Tests.{judgedJob}
 use Rattle.laying.specs.Verdict.{verdictOf, circuitOf, countsOf, answered, outputOf}
-use Rattle.ways.proofs.Replaying.{gates-read, gates-back}
+use Rattle.ways.proofs.Replaying.{zeros, gates-read, held-fine}
+use Rattle.ways.proofs.Owned.{part-held}
 use Rattle.laying.proofs.Accepting.{job-layable, job-room}
 use Rattle.laying.proofs.Accepted.{circuit-good, circuit-fine, circuit-bounded, job-accepted}
 
@@ -69,7 +70,7 @@ module _ (n : ℕ) (xs ys : List ℕ) (out : List ℕ) where
     accepted : eqb (numberOf (verdictOf n xs ys room)) 0 ≡ true
     accepted = eq-eqb (numberOf (verdictOf n xs ys room)) 0 (ap numberOf (job-accepted n xs ys room e))
 
-    module _ (laid : List ℕ) (k : ℕ) (a : laid ≡ emit (replicate 10744 0) 0 C) (b : k ≡ emitAt (replicate 10744 0) 0 C) where
+    module _ (laid : List ℕ) (k : ℕ) (a : laid ≡ emit zeros 0 C) (b : k ≡ emitAt zeros 0 C) where
       counts-are : (r : Answer) → r ≡ countsOf (gatesOf n (take k laid)) → r ≡ answered n xs ys room
       unfolding answered
       counts-are r h =
@@ -80,7 +81,7 @@ module _ (n : ℕ) (xs ys : List ℕ) (out : List ℕ) where
       output-is : (out′ : List ℕ) → out′ ≡ emit out 0 (gatesOf 20 (take k laid)) → out′ ≡ outputOf n xs ys out
       unfolding outputOf
       output-is out′ h =
-          h ∙ ap (emit out 0) (ap₂ (λ (i : ℕ) (l : List ℕ). gatesOf 20 (take i l)) b a ∙ gates-back C (circuit-fine n xs ys job))
+          h ∙ ap (emit out 0) (part-held C laid k a b ∙ held-fine C (circuit-fine n xs ys job))
           ∙ emit-room out 0 C (omega (arith, circuit-bounded n xs ys job, job-room n xs ys room e))
           ∙ ap (λ (j : ℕ). map recordOf C ++ drop j out) (let z : 0 + length C ≡ length C = omega arith in z)
           ∙ sym (ap (λ (t : Bool). pick t (map recordOf C ++ drop (length C) out) out) accepted)

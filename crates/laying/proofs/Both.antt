@@ -10,11 +10,12 @@ use lib.ListN.{length, getD}
 use lib.Count.{ones, ones-le}
 use Rattle.sets.specs.Pick.{pick}
 use Rattle.sets.specs.Bit.{Sub}
+use Rattle.gates.specs.Limits.{mostQubits, mostParities}
 use Rattle.gates.specs.declared.gate.Gate.{Gate}
 use Rattle.gates.specs.Layout.{gatesOf}
 use Rattle.circuit.specs.Circuit.{run, start, finalOf}
 use Rattle.meaning.specs.Borne.{Among, terms, sumsOf}
-use Rattle.tallies.specs.Tally.{cnotsOf, rotationsOf}
+use Rattle.tallies.specs.Tally.{cnotsOf, rotationsOf, boundOf, largest}
 use Rattle.meaning.proofs.Lists.{among-at}
 use Rattle.tallies.proofs.Tallies.{product-le}
 use Rattle.meaning.proofs.Bearing.{terms-few}
@@ -70,11 +71,22 @@ of-shorter P a b x y = go (ltb (length b) (length a))
     go true = y
     go false = x
 
--- ---- room: 38 × 256 + 760 CNOTs and 256 rotations
+-- ---- room
 
-most : (m t c r : ℕ) → m ≤ 20 → t ≤ 256 → c ≤ 2 * (m - 1) * t + 2 * (m * (m - 1)) → r ≡ t → c + r ≤ 10744
-most m t c r hm ht hc hr =
-    omega (arith, hc, hr, product-le (2 * (m - 1)) t 38 256 (omega arith) ht, product-le m (m - 1) 20 19 hm (omega arith))
+-- B grows with n and t
+pub bound-most : (n t : ℕ) → n ≤ mostQubits → t ≤ mostParities → boundOf n t ≤ largest
+unfolding boundOf
+bound-most n t a b =
+    omega (
+      arith,
+      product-le (2 * (n - 1)) t (2 * (mostQubits - 1)) mostParities (omega arith) b,
+      product-le (2 * n) (n - 1) (2 * mostQubits) (mostQubits - 1) (omega arith) (omega arith),
+    )
+
+-- an island of m qubits with t terms
+within-bound : (m t c r : ℕ) → c ≤ 2 * (m - 1) * t + 2 * (m * (m - 1)) → r ≡ t → c + r ≤ boundOf m t
+unfolding boundOf
+within-bound m t c r hc hr = omega (arith, hc, hr)
 
 module _ (n : ℕ) (xs ys : List ℕ) (job : Layable n xs ys) where
   abbrev gs : List Gate
@@ -107,7 +119,7 @@ module _ (n : ℕ) (xs ys : List ℕ) (job : Layable n xs ys) where
 
     placed-fine : (L : List Gate) → Placed (near q) (Q q) (ps q) (angles q) L → Fine L
     placed-fine L p = record {
-      few = omega (arith, inside-length (near q) (Q q) L (p .inside), most (ones (Q q)) (length (ps q)) (cnotsOf L) (rotationsOf L) size few-terms (p .cnots) (p .rotations));
+      few = omega (arith, inside-length (near q) (Q q) L (p .inside), within-bound (ones (Q q)) (length (ps q)) (cnotsOf L) (rotationsOf L) (p .cnots) (p .rotations), bound-most (ones (Q q)) (length (ps q)) size few-terms);
       good = inside-good (near q) 20 (Q q) low L (p .inside) (p .small (small-angles n xs gs (job .few) (job .good) (job .fit) (job .within) q l));
     }
 

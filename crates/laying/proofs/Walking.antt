@@ -1,5 +1,5 @@
 -- The walk over the qubits that lays each island at its lowest qubit. Assumes nothing.
-use mathlib.Core.Path.{_≡_, refl, sym, ap, ap₂, _∙_, subst}
+use mathlib.Core.Path.{_≡_, refl, sym, ap, ap₂, _∙_}
 use mathlib.Core.Bool.{Bool, true, false}
 use mathlib.Core.List.{List, _++_}
 use Prim.Native.Nat.{ℕ, suc, _+_, _≤_, _<_}
@@ -33,7 +33,8 @@ use Rattle.laying.specs.Islands.{leads, laidTo}
 use Rattle.laying.specs.Laid.{onIsland, laidOf}
 use Rattle.ways.specs.Ways.{withClosing}
 use Rattle.laying.specs.Layable.{Layable}
-use Rattle.ways.specs.Memory.{Fine, stepsOwn, nearestOwn, closedBy, pieceOwn, memoryAt, answerAt}
+use Rattle.ways.specs.Memory.{stepsOwn, nearestOwn, closedBy, heldOwn, memoryAt, answerAt}
+use Rattle.ways.proofs.Owned.{AllFine, held-piece}
 use Rattle.laying.specs.Verdict.{circuitOf}
 use Rattle.laying.proofs.Job.{parts}
 use Rattle.laying.proofs.Composing.{laid-led, laid-not}
@@ -114,9 +115,6 @@ module _ (n : ℕ) (xs ys : List ℕ) where
         own-is : h ≡ o
         own-is = cc (k, set-is, d, sums-are, wires-are, m)
 
-        abbrev AllFine : Own → Type 0
-        AllFine u = Fine (stepsOwn u .laid) × Fine (nearestOwn u .laid) × Fine (closedBy u (stepsOwn u .laid)) × Fine (closedBy u (nearestOwn u .laid))
-
         fine : AllFine o
         unfolding stepsOwn nearestOwn closedBy withClosing ownOf
         fine =
@@ -127,19 +125,16 @@ module _ (n : ℕ) (xs ys : List ℕ) where
               ended-fine n xs ys job q l byNearest nearest-work,
             )
 
-        pub handed-fine : AllFine h
-        handed-fine = subst AllFine (sym own-is) fine
+        piece : heldOwn h ≡ onIsland (nearOf n xs) gs q
+        piece = ap heldOwn own-is ∙ held-piece o fine ∙ piece-is (nearOf n xs) gs q (job .fit)
 
-        piece : pieceOwn h ≡ onIsland (nearOf n xs) gs q
-        piece = ap pieceOwn own-is ∙ piece-is (nearOf n xs) gs q (job .fit)
-
-        on-it : pieceOwn h .stuck ≡ false
+        on-it : heldOwn h .stuck ≡ false
         on-it = ap (λ (p : Piece). p .stuck) piece ∙ never-stuck n xs ys job q l
 
-        gates-are : pieceOwn h .laid ≡ on q
+        gates-are : heldOwn h .laid ≡ on q
         gates-are = ap (λ (p : Piece). p .laid) piece
 
-        module _ (out₀ out out′ : List ℕ) (at : ℕ) (r : Laid) (a : out′ ≡ memoryAt (pieceOwn h) (pieceOwn h .laid) out at) (b : r ≡ answerAt (pieceOwn h) (pieceOwn h .laid) out at) where
+        module _ (out₀ out out′ : List ℕ) (at : ℕ) (r : Laid) (a : out′ ≡ memoryAt (heldOwn h) (heldOwn h .laid) out at) (b : r ≡ answerAt (heldOwn h) (heldOwn h .laid) out at) where
           memory-is : out′ ≡ emit out at (on q)
           unfolding memoryAt
           memory-is = a ∙ ap₂ (λ (s : Bool) (L : List Gate). pick s out (emit out at L)) on-it gates-are

@@ -81,7 +81,7 @@ pub fn lay(n: usize, couplers: &[u32], gates: &[u32], out: &mut [u32]) -> Answer
     if verdict::number(verdict) != 0 {
         return Answer::Refused { verdict };
     }
-    let mut laid = [0u32; island::MOST];
+    let mut laid = [0u32; tally::LARGEST];
     match lay_islands(n, couplers, gates, &mut laid) {
         Laid::On(k) => {
             island::replay(&laid[..k], out, 0);

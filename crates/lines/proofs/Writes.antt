@@ -7,10 +7,15 @@ use native.Mathlib.Numerals.{add-one}
 use native.Mathlib.Omega.{arith}
 use lib.ListN.{length, getD, take, drop, length-append, take-append-drop}
 use lib.Seq.{sets, sets-eq, take-suc, take-all}
-use lib.Dec.{ltb}
-use borrow.Author.Tests.{ltb-true, ltb-false}
+use lib.Dec.{leb, ltb}
+use borrow.Author.Tests.{ltb-true, ltb-false, leb-true, le-leb, lt-leb}
+use Rattle.sets.specs.Pick.{pick}
 use Rattle.lines.specs.Lines.{digits, fieldsText, lineText, letter, recordText, recordsText, textOf}
-use Rattle.lines.specs.Lent.{onto}
+use Rattle.lines.specs.Lent.{onto, lineEnd, lineAt, lineLength, lineAfter}
+use Rattle.lines.specs.Room.{roomAfter}
+use Rattle.lines.specs.declared.room.Room.{Room}
+use Rattle.lines.specs.declared.room.Room.the-variants.{Left, Over}
+use Rattle.lines.proofs.Rooms.{room-then, is-over, is-left}
 use Rattle.lines.proofs.Layouts.{kind-is, a-is, b-is}
 use Rattle.lines.proofs.Digits.{digits-small, digits-big}
 use Rattle.sets.proofs.Storing.{sets-append}
@@ -31,6 +36,32 @@ wrote-none l i = (omega arith, refl)
 -- stores from the front
 pub sets-onto : (new old : List ℕ) → length new ≤ length old → sets old 0 new ≡ onto new old
 sets-onto new old h = let z : 0 + length new ≡ length new = omega arith in sets-eq new old 0 (omega arith) ∙ ap (λ k. new ++ drop k old) z
+
+-- ---- a line: written where it fits, else nothing
+
+-- the line was put to l from i on, which gives m and the place e
+abbrev pub Lined : List ℕ → ℕ → List ℕ → List ℕ → ℕ → Type 0
+Lined l i line m e = (e ≡ lineEnd line i (length l)) × (m ≡ lineAt line i l)
+
+module _ (l : List ℕ) (i : ℕ) (line : List ℕ) where
+  pub lined-fits : {m : List ℕ} {e : ℕ} → i + length line ≤ length l → Wrote l i line m e → Lined l i line m e
+  lined-fits h w = (rw (le-leb _ _ h) (w .0), rw (le-leb _ _ h) (w .1))
+
+  pub lined-over : length l < i + length line → Lined l i line l i
+  lined-over h = (rw (lt-leb _ _ h), rw (lt-leb _ _ h))
+
+  pub lined-wrote : {m : List ℕ} {e : ℕ} → i + length line ≤ length l → Lined l i line m e → Wrote l i line m e
+  lined-wrote h p = (p .0 ∙ rw (le-leb _ _ h), p .1 ∙ rw (le-leb _ _ h))
+
+-- at the front
+pub lined-front : (l line : List ℕ) {m : List ℕ} {e : ℕ} → Lined l 0 line m e → (e ≡ lineLength line (length l)) × (m ≡ lineAfter line l)
+lined-front l line p =
+    let z : 0 + length line ≡ length line = omega arith in
+    (p .0 ∙ ap (λ k. pick (leb k (length l)) k 0) z, p .1 ∙ ap (λ k. pick (leb k (length l)) (sets l 0 line) l) z ∙ go (leb (length line) (length l)) refl)
+  where
+    go : (t : Bool) → leb (length line) (length l) ≡ t → pick t (sets l 0 line) l ≡ pick t (onto line l) l
+    go true e = sets-onto line l (leb-true (length line) (length l) e)
+    go false e = refl
 
 -- ---- numbers
 
@@ -92,6 +123,17 @@ module _ (xs : List ℕ) (i : ℕ) where
 pub line-length : (letter : ℕ) (vs : List ℕ) → length (lineText letter vs) ≡ 2 + length (fieldsText vs)
 unfolding lineText
 line-length letter vs = simp length-append (omega arith)
+
+-- whether a line fits behind `at`, as the code tests it
+module _ (room at letter : ℕ) (vs : List ℕ) {r s : Room} (p : r ≡ roomAfter (Left room) at) (q : s ≡ roomAfter r (2 + length (fieldsText vs))) where
+  behind-line : s ≡ roomAfter (Left room) (at + length (lineText letter vs))
+  behind-line = q ∙ ap (λ x. roomAfter x (2 + length (fieldsText vs))) p ∙ room-then (Left room) at (2 + length (fieldsText vs)) ∙ ap (λ k. roomAfter (Left room) (at + k)) (sym (line-length letter vs))
+
+  pub line-over : s ≡ Over → room < at + length (lineText letter vs)
+  line-over e = is-over room (at + length (lineText letter vs)) (sym e ∙ behind-line)
+
+  pub line-left : {x : ℕ} → s ≡ Left x → at + length (lineText letter vs) ≤ room
+  line-left e = is-left room (at + length (lineText letter vs)) (sym e ∙ behind-line)
 
 -- a record's line, from the numbers that the code takes out of it
 pub record-line : (x : ℕ) {l : ℕ} → l ≡ letter (x / 16777216) → lineText l (x / 65536 % 256 ∷ x % 65536 ∷ []) ≡ recordText x

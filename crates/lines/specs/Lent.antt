@@ -1,13 +1,22 @@
 -- What is left in lent memory (document 01, "Records and refusals": "what lies behind them stays").
-use Prim.Native.Nat.{ℕ}
+use Prim.Native.Nat.{ℕ, _+_}
 use mathlib.Core.List.{List, _++_}
 use lib.ListN.{drop, length}
+use lib.Seq.{sets}
 use lib.Dec.{leb}
 use Rattle.sets.specs.Pick.{pick}
 
 -- new stands at the front, and what lies behind it stays
 abbrev pub onto : List ℕ → List ℕ → List ℕ
 onto new old = new ++ drop (length new) old
+
+-- ---- a line from `at` on, in a room of so many bytes: the place behind it, or `at` and nothing written where it is too long
+
+abbrev pub lineEnd : List ℕ → ℕ → ℕ → ℕ
+lineEnd line at room = pick (leb (at + length line) room) (at + length line) at
+
+abbrev pub lineAt : List ℕ → ℕ → List ℕ → List ℕ
+lineAt line at old = pick (leb (at + length line) (length old)) (sets old at line) old
 
 -- ---- a single line in a room of so many bytes: its length, or 0 and nothing written where it is too long
 

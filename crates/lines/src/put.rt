@@ -1,10 +1,13 @@
 // Lines as they are written: a letter, numbers behind tabs, LF.
+use crate::room;
+use crate::room::Room;
 ghost use mathlib.Core.Path.{_≡_};
 ghost use mathlib.Core.List.{[], _∷_};
 ghost use Prim.Native.Nat.{_≤_, _+_};
 ghost use lib.ListN.{length};
 ghost use lib.Seq.{sets};
 ghost use Rattle.lines.specs.Lines.{digits, lineText};
+ghost use Rattle.lines.specs.Lent.{lineEnd, lineAt};
 
 fn put(text: &mut [u8], at: usize, byte: u8) -> usize
     requires { ⌜ at + 1 ≤ length (now text) ⌝ }
@@ -33,7 +36,7 @@ fn put_field(text: &mut [u8], at: usize, v: usize) -> usize
     put_number(text, p, v)
 }
 
-pub fn put_line(text: &mut [u8], at: usize, letter: u8, numbers: &[usize]) -> usize
+fn put_fitting(text: &mut [u8], at: usize, letter: u8, numbers: &[usize]) -> usize
     requires { ⌜ at + length (lineText letter (now numbers)) ≤ length (now text) ⌝ }
     ensures { λ r. ⌜ (r ≡ at + length (lineText letter (now (numbers .entry)))) × (now (text .exit) ≡ sets (now (text .entry)) at (lineText letter (now (numbers .entry)))) ⌝ }
 {
@@ -44,4 +47,15 @@ pub fn put_line(text: &mut [u8], at: usize, letter: u8, numbers: &[usize]) -> us
         k += 1;
     }
     put(text, p, b'\n')
+}
+
+// The place behind the line, or `at` where the line does not fit; then nothing is written.
+pub fn put_line(text: &mut [u8], at: usize, letter: u8, numbers: &[usize]) -> usize
+    ensures { λ r. ⌜ (r ≡ lineEnd (lineText letter (now (numbers .entry))) at (length (now (text .entry)))) × (now (text .exit) ≡ lineAt (lineText letter (now (numbers .entry))) at (now (text .entry))) ⌝ }
+{
+    let behind = room::after(Room::Left(text.len()), at);
+    match room::after_line(behind, numbers) {
+        Room::Over => at,
+        Room::Left(_) => put_fitting(text, at, letter, numbers),
+    }
 }

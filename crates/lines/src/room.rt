@@ -10,7 +10,7 @@ pub enum Room {
     Over,
 }
 
-fn after(room: Room, need: usize) -> Room
+pub(crate) fn after(room: Room, need: usize) -> Room
     ensures { λ r. ⌜ r ≡ roomAfter room need ⌝ }
 {
     match room {

@@ -11,6 +11,7 @@ ghost use lib.Dec.{leb};
 ghost use lib.ListN.{length};
 ghost use lib.Seq.{sets};
 ghost use Rattle.lines.specs.Lines.{recordText, recordsText, textOf};
+ghost use Rattle.lines.specs.Lent.{lineEnd, lineAt};
 ghost use Rattle.text.specs.Writings.{judgedText, writingOf, textAfter};
 
 pub enum Writing {
@@ -19,8 +20,7 @@ pub enum Writing {
 }
 
 fn put_record(text: &mut [u8], at: usize, x: u32) -> usize
-    requires { ⌜ at + length (recordText x) ≤ length (now text) ⌝ }
-    ensures { λ r. ⌜ (r ≡ at + length (recordText x)) × (now (text .exit) ≡ sets (now (text .entry)) at (recordText x)) ⌝ }
+    ensures { λ r. ⌜ (r ≡ lineEnd (recordText x) at (length (now (text .entry)))) × (now (text .exit) ≡ lineAt (recordText x) at (now (text .entry))) ⌝ }
 {
     let letter = letter::letter_of(x / 16777216);
     let numbers = [(x / 65536 % 256) as usize, (x % 65536) as usize];

@@ -1,28 +1,25 @@
 -- What the two ways and their closings leave in memory, for one island's own. Assumes nothing.
 use mathlib.Core.Path.{_≡_, refl, sym, ap, ap₂, _∙_}
 use mathlib.Core.Bool.{Bool, true, false}
-use mathlib.Core.List.{List, _++_}
-use Prim.Native.Nat.{ℕ, _+_, _≤_, _<_}
+use mathlib.Core.List.{List, [], _++_}
+use Prim.Native.Nat.{ℕ, _≤_, _<_}
 use native.Mathlib.Omega.{arith}
-use lib.ListN.{length, take, replicate}
+use lib.ListN.{length, take, length-map}
 use lib.Seq.{length-take-le}
 use borrow.Author.Tests.{lt-ltb, le-ltb}
 use Rattle.sets.specs.Pick.{pick}
 use Rattle.gates.specs.declared.gate.Gate.{Gate}
-use Rattle.gates.specs.Layout.{gatesOf}
+use Rattle.gates.specs.Layout.{gateOf, gatesOf}
 use Rattle.emitting.specs.Emit.{emit, emitAt}
-use Rattle.columns.specs.Pieces.{Piece}
+use Rattle.columns.specs.Pieces.{Piece, piece}
 use Rattle.emitting.proofs.Emitting.{emit-length, emit-append, emit-at-append}
 use Rattle.steps.specs.Steps.{answerOf}
 use Rattle.steps.specs.declared.Laid.{Laid}
 use Rattle.steps.specs.declared.Laid.the-variants.{On, Stuck}
 use Rattle.share.specs.declared.own.Own.{Own}
 use Rattle.ways.specs.Ways.{withClosing, shorter, islandLaid}
-use Rattle.ways.specs.Memory.{Fine, stepsOwn, nearestOwn, closedBy, pieceOwn, memoryAt, answerAt}
-use Rattle.ways.proofs.Replaying.{count-back, gates-back}
-
-abbrev zeros : List ℕ
-zeros = replicate 10744 0
+use Rattle.ways.specs.Memory.{held, Fine, stepsOwn, nearestOwn, closedBy, pieceOwn, heldOwn, memoryAt, answerAt}
+use Rattle.ways.proofs.Replaying.{zeros, records-held, held-fine}
 
 emit-at-le : (out : List ℕ) (gs : List Gate) → emitAt out 0 gs ≤ length out
 unfolding emitAt
@@ -37,11 +34,12 @@ module _ (L : List Gate) (w : List ℕ) (k : ℕ) (m : w ≡ emit zeros 0 L) (p 
   pub part-long : k ≡ length (take k w)
   part-long = sym (length-take-le k w part-fits)
 
-  pub part-gates : Fine L → gatesOf 20 (take k w) ≡ L
-  part-gates f = ap₂ (λ (j : ℕ) (l : List ℕ). gatesOf 20 (take j l)) p m ∙ gates-back L f
+  pub part-held : gatesOf 20 (take k w) ≡ held L
+  unfolding held
+  part-held = ap₂ (λ (j : ℕ) (l : List ℕ). gatesOf 20 (take j l)) p m ∙ ap (gatesOf 20) (records-held L)
 
-  pub part-count : Fine L → k ≡ length L
-  part-count f = p ∙ count-back L f
+  pub part-count : k ≡ length (held L)
+  part-count = part-long ∙ sym (length-map (take k w) (gateOf 20)) ∙ ap length part-held
 
 -- ---- the answer of the steps
 
@@ -101,37 +99,56 @@ closed-memory o gs out out₁ out₂ at r e a closing c m p = (
 -- ---- the choice
 
 module _ (o : Own) where
-  pub piece-stuck : pieceOwn o .stuck ≡ stepsOwn o .stuck
-  unfolding pieceOwn islandLaid stepsOwn
-  piece-stuck = refl
+  -- what is closed of the two ways
+  abbrev pub first : List Gate
+  first = closedBy o (held (stepsOwn o .laid))
 
-  pub piece-second : length (closedBy o (nearestOwn o .laid)) < length (closedBy o (stepsOwn o .laid)) → pieceOwn o .laid ≡ closedBy o (nearestOwn o .laid)
-  unfolding pieceOwn islandLaid stepsOwn nearestOwn closedBy withClosing shorter
-  piece-second h = simp (lt-ltb _ _ h)
+  abbrev pub second : List Gate
+  second = closedBy o (held (nearestOwn o .laid))
 
-  pub piece-first : length (closedBy o (stepsOwn o .laid)) ≤ length (closedBy o (nearestOwn o .laid)) → pieceOwn o .laid ≡ closedBy o (stepsOwn o .laid)
-  unfolding pieceOwn islandLaid stepsOwn nearestOwn closedBy withClosing shorter
-  piece-first h = simp (le-ltb _ _ h)
+  held-stuck : heldOwn o .stuck ≡ stepsOwn o .stuck
+  unfolding heldOwn
+  held-stuck = refl
 
--- what by_steps left: the gates with their closing, where it went on
-module _ (o : Own) (w : List ℕ) (r : Laid) (m : w ≡ memoryAt (stepsOwn o) (closedBy o (stepsOwn o .laid)) zeros 0)
-    (e : r ≡ answerAt (stepsOwn o) (closedBy o (stepsOwn o .laid)) zeros 0) where
-  pub first-count : (k : ℕ) → r ≡ On k → k ≡ emitAt zeros 0 (closedBy o (stepsOwn o .laid))
-  first-count k d = was-on (stepsOwn o) (closedBy o (stepsOwn o .laid)) zeros 0 r k e d .1
+  pub held-second : length (held second) < length (held first) → heldOwn o .laid ≡ held second
+  unfolding heldOwn shorter
+  held-second h = simp (lt-ltb _ _ h)
 
-  pub first-memory : (k : ℕ) → r ≡ On k → w ≡ emit zeros 0 (closedBy o (stepsOwn o .laid))
-  first-memory k d = m ∙ sym (memory-on (stepsOwn o) (closedBy o (stepsOwn o .laid)) zeros 0 (was-on (stepsOwn o) (closedBy o (stepsOwn o .laid)) zeros 0 r k e d .0))
+  pub held-first : length (held first) ≤ length (held second) → heldOwn o .laid ≡ held first
+  unfolding heldOwn shorter
+  held-first h = simp (le-ltb _ _ h)
 
-  pub first-on : (k : ℕ) → r ≡ On k → pieceOwn o .stuck ≡ false
-  first-on k d = piece-stuck o ∙ was-on (stepsOwn o) (closedBy o (stepsOwn o .laid)) zeros 0 r k e d .0
+  -- what by_steps left: the gates with their closing, where it went on
+  module _ (w : List ℕ) (r : Laid) (m : w ≡ memoryAt (stepsOwn o) first zeros 0) (e : r ≡ answerAt (stepsOwn o) first zeros 0) where
+    pub first-count : (k : ℕ) → r ≡ On k → k ≡ emitAt zeros 0 first
+    first-count k d = was-on (stepsOwn o) first zeros 0 r k e d .1
 
-  pub first-stuck : (k : ℕ) → r ≡ Stuck k → pieceOwn o .stuck ≡ true
-  first-stuck k d = piece-stuck o ∙ was-stuck (stepsOwn o) (closedBy o (stepsOwn o .laid)) zeros 0 r k e d
+    pub first-memory : (k : ℕ) → r ≡ On k → w ≡ emit zeros 0 first
+    first-memory k d = m ∙ sym (memory-on (stepsOwn o) first zeros 0 (was-on (stepsOwn o) first zeros 0 r k e d .0))
 
--- the list that was chosen is laid
-pub laid-on : (o : Own) (out out′ : List ℕ) (at r : ℕ) (L gs : List Gate) → pieceOwn o .stuck ≡ false → pieceOwn o .laid ≡ L → gs ≡ L → out′ ≡ emit out at gs → r ≡ emitAt out at gs
-    → (out′ ≡ memoryAt (pieceOwn o) (pieceOwn o .laid) out at) × (On r ≡ answerAt (pieceOwn o) (pieceOwn o .laid) out at)
-laid-on o out out′ at r L gs s c b m p = (
-  m ∙ ap (emit out at) (b ∙ sym c) ∙ memory-on (pieceOwn o) (pieceOwn o .laid) out at s,
-  ap On (p ∙ ap (emitAt out at) (b ∙ sym c)) ∙ answer-on (pieceOwn o) (pieceOwn o .laid) out at s,
-)
+    pub first-on : (k : ℕ) → r ≡ On k → heldOwn o .stuck ≡ false
+    first-on k d = held-stuck ∙ was-on (stepsOwn o) first zeros 0 r k e d .0
+
+    pub first-stuck : (k : ℕ) → r ≡ Stuck k → heldOwn o .stuck ≡ true
+    first-stuck k d = held-stuck ∙ was-stuck (stepsOwn o) first zeros 0 r k e d
+
+  -- the list that was chosen is laid
+  pub laid-on : (out out′ : List ℕ) (at r : ℕ) (L gs : List Gate) → heldOwn o .stuck ≡ false → heldOwn o .laid ≡ L → gs ≡ L → out′ ≡ emit out at gs → r ≡ emitAt out at gs
+      → (out′ ≡ memoryAt (heldOwn o) (heldOwn o .laid) out at) × (On r ≡ answerAt (heldOwn o) (heldOwn o .laid) out at)
+  laid-on out out′ at r L gs s c b m p = (
+    m ∙ ap (emit out at) (b ∙ sym c) ∙ memory-on (heldOwn o) (heldOwn o .laid) out at s,
+    ap On (p ∙ ap (emitAt out at) (b ∙ sym c)) ∙ answer-on (heldOwn o) (heldOwn o .laid) out at s,
+  )
+
+  -- ---- fine lists are held as they are: then an island is laid as its definition says
+
+  abbrev pub AllFine : Type 0
+  AllFine = Fine (stepsOwn o .laid) × Fine (nearestOwn o .laid) × Fine (closedBy o (stepsOwn o .laid)) × Fine (closedBy o (nearestOwn o .laid))
+
+  closed-held : (L : List Gate) → Fine L → Fine (closedBy o L) → held (closedBy o (held L)) ≡ closedBy o L
+  closed-held L f g = ap (λ (l : List Gate). held (closedBy o l)) (held-fine L f) ∙ held-fine (closedBy o L) g
+
+  pub held-piece : AllFine → heldOwn o ≡ pieceOwn o
+  unfolding heldOwn pieceOwn islandLaid stepsOwn nearestOwn closedBy withClosing
+  held-piece f =
+      ap₂ (λ (a b : List Gate). piece [] (shorter a b) (stepsOwn o .stuck)) (closed-held (stepsOwn o .laid) (f .0) (f .2)) (closed-held (nearestOwn o .laid) (f .1) (f .3))

@@ -1,19 +1,20 @@
 -- Records written once more, gate by gate, and read back as the gates they hold. Assumes nothing.
 use mathlib.Core.Path.{_≡_, refl, sym, ap, ap₂, _∙_}
 use mathlib.Core.List.{List, [], _∷_, _++_, map}
-use Prim.Native.Nat.{ℕ, _+_, _≤_, _<_}
+use Prim.Native.Nat.{ℕ, suc, _+_, _≤_, _<_}
 use native.Mathlib.Omega.{arith}
 use native.Mathlib.Numerals.{add-one}
-use lib.ListN.{length, getD, take, drop, replicate, length-map, length-replicate}
-use lib.Seq.{take-suc, take-all, take-append-seam}
+use lib.ListN.{length, getD, set, take, drop, replicate, length-map, length-take, length-replicate, take-append-drop}
+use lib.Seq.{sets, sets-eq, take-suc, take-all, take-set-le, take-append-seam}
 use Rattle.gates.specs.declared.gate.Gate.{Gate}
 use Rattle.gates.specs.Layout.{gateOf, gatesOf, recordOf, Good}
 use Rattle.gates.specs.All.{All}
 use Rattle.gates.proofs.Alls.{records-gates}
+use Rattle.tallies.specs.Tally.{largest}
 use Rattle.emitting.specs.Emit.{emit, emitAt}
-use Rattle.emitting.proofs.Emitting.{emit-none, emit-at-none, emit-append, emit-at-append, emit-at-room, emit-room}
-use Rattle.ways.specs.Memory.{Fine}
-use Rattle.sets.proofs.Storing.{map-append}
+use Rattle.emitting.proofs.Emitting.{emit-none, emit-at-none, emit-append, emit-at-append}
+use Rattle.ways.specs.Memory.{held, Fine}
+use Rattle.sets.proofs.Storing.{sets-append, map-append}
 
 -- the first k records are written from `at` on
 pub record Replayed (laid out₀ : List ℕ) (at k : ℕ) (out : List ℕ) (next : ℕ) : Type 0 where
@@ -44,21 +45,47 @@ replayed-all laid out₀ at k out next h r =
     let w : take k laid ≡ laid = take-all k laid h in
     (r .memory ∙ ap (λ (l : List ℕ). emit out₀ at (gatesOf 20 l)) w, r .place ∙ ap (λ (l : List ℕ). emitAt out₀ at (gatesOf 20 l)) w)
 
--- ---- gates that the memory holds are read back from it
+-- ---- a memory of the largest B holds the first of the gates that are written to it
 
-module _ (gs : List Gate) (fine : Fine gs) where
-  fits : 0 + length gs ≤ length (replicate {A = ℕ} 10744 0)
-  fits = omega (arith, fine .few, length-replicate {A = ℕ} 10744 0)
+abbrev pub zeros : List ℕ
+zeros = replicate largest 0
 
-  pub count-back : emitAt (replicate 10744 0) 0 gs ≡ length gs
-  count-back = emit-at-room (replicate 10744 0) 0 gs fits ∙ omega arith
+-- what stands before a store stays
+take-sets : (k : ℕ) (l : List ℕ) (i : ℕ) (vs : List ℕ) → k ≤ i → take k (sets l i vs) ≡ take k l
+take-sets k l i [] h = refl
+take-sets k l i (v ∷ vs) h = take-sets k (set l i v) (suc i) vs (omega arith) ∙ take-set-le k l i v h
 
-  -- by any width in which they are good
-  pub gates-read : (n : ℕ) → n ≤ 256 → All (Good n) gs → gatesOf n (take (emitAt (replicate 10744 0) 0 gs) (emit (replicate 10744 0) 0 gs)) ≡ gs
-  gates-read n w good =
-      ap₂ (λ (k : ℕ) (l : List ℕ). gatesOf n (take k l)) (count-back ∙ sym (length-map gs recordOf)) (emit-room (replicate 10744 0) 0 gs fits)
-      ∙ ap (gatesOf n) (take-append-seam (map recordOf gs) (drop (0 + length gs) (replicate 10744 0)))
-      ∙ records-gates n gs w good
+module _ (gs : List Gate) where
+  abbrev first : List Gate
+  first = take largest gs
 
-  pub gates-back : gatesOf 20 (take (emitAt (replicate 10744 0) 0 gs) (emit (replicate 10744 0) 0 gs)) ≡ gs
-  gates-back = gates-read 20 (omega arith) (fine .good)
+  abbrev records : List ℕ
+  records = map recordOf first
+
+  count-held : emitAt zeros 0 gs ≡ length first
+  unfolding emitAt
+  count-held = omega (arith, length-take largest gs, length-replicate {A = ℕ} largest 0)
+
+  fits : 0 + length first ≤ length zeros
+  fits = omega (arith, length-take largest gs, length-replicate {A = ℕ} largest 0)
+
+  pub records-held : take (emitAt zeros 0 gs) (emit zeros 0 gs) ≡ records
+  unfolding emit
+  records-held =
+      ap₂ (λ (k : ℕ) (vs : List ℕ). take k (sets zeros 0 vs)) (count-held ∙ sym (length-map first recordOf)) (ap (map recordOf) (sym (take-append-drop largest gs)) ∙ map-append recordOf first (drop largest gs))
+      ∙ ap (take (length records)) (sets-append zeros 0 records (map recordOf (drop largest gs)))
+      ∙ take-sets (length records) (sets zeros 0 records) (0 + length records) (map recordOf (drop largest gs)) (omega arith)
+      ∙ ap (take (length records)) (sets-eq records zeros 0 (omega (arith, fits, length-map first recordOf)))
+      ∙ take-append-seam records (drop (0 + length records) zeros)
+
+  -- all of them, where they are fine, by any width in which they are good
+  module _ (fine : Fine gs) where
+    records-read : (n : ℕ) → n ≤ 256 → All (Good n) gs → gatesOf n records ≡ gs
+    records-read n w good = ap (λ (l : List Gate). gatesOf n (map recordOf l)) (take-all largest gs (fine .few)) ∙ records-gates n gs w good
+
+    pub gates-read : (n : ℕ) → n ≤ 256 → All (Good n) gs → gatesOf n (take (emitAt zeros 0 gs) (emit zeros 0 gs)) ≡ gs
+    gates-read n w good = ap (gatesOf n) records-held ∙ records-read n w good
+
+    pub held-fine : held gs ≡ gs
+    unfolding held
+    held-fine = records-read 20 (omega arith) (fine .good)

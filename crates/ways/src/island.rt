@@ -5,13 +5,11 @@ use gates::gate;
 use gates::job::Job;
 use share::own::Own;
 use steps::Laid;
+use tallies::tally;
 ghost use mathlib.Core.Path.{_≡_};
 ghost use Rattle.gates.specs.Layout.{gatesOf};
 ghost use Rattle.emitting.specs.Emit.{emit, emitAt};
-ghost use Rattle.ways.specs.Memory.{Fine, closedBy, stepsOwn, nearestOwn, pieceOwn, answerAt, memoryAt};
-
-// The largest B.
-pub const MOST: usize = 10744;
+ghost use Rattle.ways.specs.Memory.{held, closedBy, stepsOwn, nearestOwn, heldOwn, answerAt, memoryAt};
 
 // The gates of the records once more.
 pub fn replay(laid: &[u32], out: &mut [u32], at: usize) -> usize
@@ -36,14 +34,13 @@ fn closed(own: Own, laid: &[u32], out: &mut [u32]) -> usize
 }
 
 fn by_steps(own: Own, out: &mut [u32]) -> Laid
-    requires { ⌜ Fine (stepsOwn own .laid) ⌝ }
-    ensures { λ r. ⌜ (now (out .exit) ≡ memoryAt (stepsOwn own) (closedBy own (stepsOwn own .laid)) (now (out .entry)) 0) × (r ≡ answerAt (stepsOwn own) (closedBy own (stepsOwn own .laid)) (now (out .entry)) 0) ⌝ }
+    ensures { λ r. ⌜ (now (out .exit) ≡ memoryAt (stepsOwn own) (closedBy own (held (stepsOwn own .laid))) (now (out .entry)) 0) × (r ≡ answerAt (stepsOwn own) (closedBy own (held (stepsOwn own .laid))) (now (out .entry)) 0) ⌝ }
 {
     let near = own.near;
     let terms = own.terms;
     let parity = terms.parity;
     let sum = terms.sum;
-    let mut way = [0u32; MOST];
+    let mut way = [0u32; tally::LARGEST];
     match steps::lay_terms(near, own.set, parity, sum, terms.len, &mut way) {
         Laid::On(k) => Laid::On(closed(own, &way[..k], out)),
         Laid::Stuck(_) => Laid::Stuck(0),
@@ -51,27 +48,25 @@ fn by_steps(own: Own, out: &mut [u32]) -> Laid
 }
 
 fn by_nearest(own: Own, out: &mut [u32]) -> usize
-    requires { ⌜ Fine (nearestOwn own .laid) ⌝ }
-    ensures { λ r. ⌜ (now (out .exit) ≡ emit (now (out .entry)) 0 (closedBy own (nearestOwn own .laid))) × (r ≡ emitAt (now (out .entry)) 0 (closedBy own (nearestOwn own .laid))) ⌝ }
+    ensures { λ r. ⌜ (now (out .exit) ≡ emit (now (out .entry)) 0 (closedBy own (held (nearestOwn own .laid)))) × (r ≡ emitAt (now (out .entry)) 0 (closedBy own (held (nearestOwn own .laid)))) ⌝ }
 {
     let near = own.near;
     let terms = own.terms;
     let parity = terms.parity;
     let sum = terms.sum;
-    let mut way = [0u32; MOST];
+    let mut way = [0u32; tally::LARGEST];
     let k = nearest::lay_terms(near, own.set, parity, sum, terms.len, &mut way);
     closed(own, &way[..k], out)
 }
 
 // The gates of the island behind those that are laid: the shorter way, the steps in a tie.
 pub fn lay_island(own: Own, out: &mut [u32], at: usize) -> Laid
-    requires { ⌜ Fine (stepsOwn own .laid) × Fine (nearestOwn own .laid) × Fine (closedBy own (stepsOwn own .laid)) × Fine (closedBy own (nearestOwn own .laid)) ⌝ }
-    ensures { λ r. ⌜ (now (out .exit) ≡ memoryAt (pieceOwn own) (pieceOwn own .laid) (now (out .entry)) at) × (r ≡ answerAt (pieceOwn own) (pieceOwn own .laid) (now (out .entry)) at) ⌝ }
+    ensures { λ r. ⌜ (now (out .exit) ≡ memoryAt (heldOwn own) (heldOwn own .laid) (now (out .entry)) at) × (r ≡ answerAt (heldOwn own) (heldOwn own .laid) (now (out .entry)) at) ⌝ }
 {
-    let mut first = [0u32; MOST];
+    let mut first = [0u32; tally::LARGEST];
     match by_steps(own, &mut first) {
         Laid::On(a) => {
-            let mut second = [0u32; MOST];
+            let mut second = [0u32; tally::LARGEST];
             let b = by_nearest(own, &mut second);
             if b < a {
                 return Laid::On(replay(&second[..b], out, at));

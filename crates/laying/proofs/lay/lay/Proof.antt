@@ -1,6 +1,7 @@
 -- `laying::lay::lay` meets its contract: tests 1 to 8, then the circuit laid aside is copied. Assumes nothing.
 use mathlib.Core.Path.{sym, ap, _∙_}
 use Rattle.verdicts.specs.Verdicts.{numberOf}
+use Rattle.tallies.specs.Tally.{boundOf}
 use Rattle.laying.proofs.Accepting.{job-layable}
 use Rattle.ways.proofs.Owned.{part-fits, part-long}
 use Rattle.laying.proofs.Answering.{refused, copied, on-same, on-not-stuck}
@@ -27,18 +28,22 @@ enum-known-k : tie.Need-enum-known-k
 enum-known-k c = search needs
 
 array-share-prefix-laid : tie.Need-array-share-prefix-laid
+unfolding boundOf
 array-share-prefix-laid c = part-fits _ _ _ (c .before .before .before .before .lay-islands .ensures .0) (on-same _ _ _ (c .before .k .given .1) (c .before .before .before .before .lay-islands .ensures .1))
 
 slice-aggregate-replay : tie.Need-slice-aggregate-replay
+unfolding boundOf
 slice-aggregate-replay c = part-long _ _ _ (c .before .before .before .before .before .lay-islands .ensures .0) (on-same _ _ _ (c .before .before .k .given .1) (c .before .before .before .before .before .lay-islands .ensures .1))
 
 replay-requires : tie.Need-replay-requires
 replay-requires c κs = search needs
 
 array-share-prefix-laid-2 : tie.Need-array-share-prefix-laid-2
+unfolding boundOf
 array-share-prefix-laid-2 c = part-fits _ _ _ (c .before .before .before .before .before .before .before .before .before .lay-islands .ensures .0) (on-same _ _ _ (c .before .before .before .before .before .before .k .given .1) (c .before .before .before .before .before .before .before .before .before .lay-islands .ensures .1))
 
 slice-aggregate-counted : tie.Need-slice-aggregate-counted
+unfolding boundOf
 slice-aggregate-counted c = part-long _ _ _ (c .before .before .before .before .before .before .before .before .before .before .lay-islands .ensures .0) (on-same _ _ _ (c .before .before .before .before .before .before .before .k .given .1) (c .before .before .before .before .before .before .before .before .before .before .lay-islands .ensures .1))
 
 counted-requires : tie.Need-counted-requires
@@ -51,6 +56,7 @@ same-length : tie.Need-same-length
 same-length c = search needs
 
 returns-2 : tie.Need-returns-2
+unfolding boundOf
 returns-2 c = copied (c .before .before .before .before .before .before .before .before .before .before .before .before .before .before .before .before .before .before .before .args .n) (c .before .before .before .before .before .before .before .before .before .before .before .before .before .before .before .before .before .before .before .args .couplers .now) (c .before .before .before .before .before .before .before .before .before .before .before .before .before .before .before .before .before .before .before .args .gates .now) (c .before .before .before .before .before .before .before .before .before .before .before .before .before .before .before .before .before .before .before .args .out .now) (ap numberOf (sym (c .before .before .before .before .before .before .before .before .before .before .before .before .before .before .before .judge .ensures)) ∙ sym (c .before .before .before .before .before .before .before .before .before .before .before .before .before .before .number .ensures) ∙ c .before .before .before .before .before .before .before .before .before .before .before .before .before .if1 .left) _ _ (c .before .before .before .before .before .before .before .before .before .before .before .lay-islands .ensures .0) (on-same _ _ _ (c .before .before .before .before .before .before .before .before .k .given .1) (c .before .before .before .before .before .before .before .before .before .before .before .lay-islands .ensures .1)) _ _ (c .counted .ensures) (c .before .before .before .before .replay .ensures .0)
 
 returns-3 : tie.Need-returns-3

@@ -2,7 +2,7 @@
 use mathlib.Core.Path.{sym, _∙_}
 use mathlib.Core.Logic.{⊎-elim}
 use Prim.Native.Nat.{_-_}
-use Rattle.laying.proofs.Walking.{Walked, walked-none, walked-moved, walked-all, walked-not, walked-led, walked-stuck, handed-fine}
+use Rattle.laying.proofs.Walking.{Walked, walked-none, walked-moved, walked-all, walked-not, walked-led, walked-stuck}
 use borrow.Author.Needs.{needs}
 use native.Mathlib.Omega.{arith}
 use Rattle.laying.proofs.lay.lay_islands.Statement.{statement}
@@ -42,7 +42,7 @@ handed-requires : tie.Need-handed-requires Inv-loop μ-loop
 handed-requires c κs = search needs
 
 lay-island-requires : tie.Need-lay-island-requires Inv-loop μ-loop
-lay-island-requires c κs = handed-fine (c .before .before .before .before .before .before .before .before .before .before .before .before .before .before .before .before .before .args .n) (c .before .before .before .before .before .before .before .before .before .before .before .before .before .before .before .before .before .args .couplers .now) (c .before .before .before .before .before .before .before .before .before .before .before .before .before .before .before .before .before .args .gates .now) (c .before .before .before .before .before .before .before .before .before .before .before .before .before .before .before .before .before .pre) _ _ (c .before .before .before .before .before .before .before .before .before .before .before .tell .result) _ (c .before .before .before .before .before .before .before .before .before .before .before .before .before .near .ensures) (c .before .before .before .before .before .before .before .before .before .before .before .before .islands .ensures) (c .before .before .before .before .before .before .before .before .before .before .before .tell .ensures) (c .before .before .before .before .before .before .mirrored .ensures) (c .before .before .before .before .before .loop .q) (search needs) _ (c .before .handed .ensures)
+lay-island-requires c κs = search needs
 
 enum-known-next : tie.Need-enum-known-next Inv-loop μ-loop
 enum-known-next c = search needs

@@ -1,21 +1,25 @@
 -- `lines::print::counts` meets its contract: it is the line `s` of its numbers. Assumes nothing.
+use denote.Ref.{now}
 use Rattle.lines.specs.Lines.{countsText}
+use Rattle.lines.proofs.Writes.{lined-front}
 use borrow.Author.Needs.{needs}
 use Rattle.lines.proofs.print.counts.Statement.{statement}
 use Rattle.lines.proofs.print.counts.Tie as tie
 
-slice-aggregate-print : tie.Need-slice-aggregate-print
-slice-aggregate-print c = search needs
+slice-aggregate-put-line : tie.Need-slice-aggregate-put-line
+slice-aggregate-put-line c = search needs
 
-print-requires : tie.Need-print-requires
-print-requires c κs = search needs
+put-line-requires : tie.Need-put-line-requires
+put-line-requires c κs = search needs
 
 same-length : tie.Need-same-length
 same-length c = search needs
 
 returns : tie.Need-returns
 unfolding countsText
-returns c = c .before .before .print .ensures
+returns c =
+    let a = c .before .before .before .before .before .before .args in
+    lined-front (now (a .text)) (countsText (a .cnots) (a .rotations) (a .depth)) (c .before .before .put-line .ensures)
 
 pub counts-spec : {M : Type 1} → statement M
-counts-spec = tie.close (tie.spec slice-aggregate-print print-requires same-length returns)
+counts-spec = tie.close (tie.spec slice-aggregate-put-line put-line-requires same-length returns)

@@ -1,10 +1,8 @@
 -- `text::write::put_record` meets its contract: it is the line of the record's numbers. Assumes nothing.
-use mathlib.Core.Path.{ap, subst}
+use mathlib.Core.Path.{subst}
 use denote.Ref.{now}
-use lib.ListN.{length}
-use Rattle.lines.proofs.Writes.{Wrote, record-line}
+use Rattle.lines.proofs.Writes.{Lined, record-line}
 use borrow.Author.Needs.{needs}
-use native.Mathlib.Omega.{arith}
 use Rattle.text.proofs.write.put_record.Statement.{statement}
 use Rattle.text.proofs.write.put_record.Tie as tie
 
@@ -21,7 +19,7 @@ slice-aggregate-put-line : tie.Need-slice-aggregate-put-line
 slice-aggregate-put-line c = search needs
 
 put-line-requires : tie.Need-put-line-requires
-put-line-requires c κs = omega (arith, ap length (record-line (c .before .before .before .before .args .x) (c .before .before .letter-of .ensures)))
+put-line-requires c κs = search needs
 
 same-length : tie.Need-same-length
 same-length c = search needs
@@ -30,7 +28,7 @@ returns : tie.Need-returns
 returns c =
     let a = c .before .before .before .before .before .before .before .args in
     let p = c .before .before .put-line in
-    subst (λ bs. Wrote (now (a .text)) (a .at) bs (p .last .0) (p .result)) (record-line (a .x) (c .before .before .before .before .before .letter-of .ensures)) (p .ensures)
+    subst (λ bs. Lined (now (a .text)) (a .at) bs (p .last .0) (p .result)) (record-line (a .x) (c .before .before .before .before .before .letter-of .ensures)) (p .ensures)
 
 pub put-record-spec : {M : Type 1} → statement M
 put-record-spec =

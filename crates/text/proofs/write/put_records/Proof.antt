@@ -6,7 +6,7 @@ use denote.Ref.{now}
 use lib.ListN.{length, getD, take, length-append}
 use Rattle.lines.specs.Lines.{recordText, recordsText}
 use borrow.Author.Needs.{needs}
-use Rattle.lines.proofs.Writes.{Wrote, wrote-then, wrote-none, records-next, records-part, records-all}
+use Rattle.lines.proofs.Writes.{Wrote, wrote-then, wrote-none, lined-wrote, records-next, records-part, records-all}
 use Rattle.text.proofs.write.put_records.Statement.{statement}
 use Rattle.text.proofs.write.put_records.Tie as tie
 
@@ -27,19 +27,7 @@ shared-slice-read-put-record : tie.Need-shared-slice-read-put-record Inv-loop μ
 shared-slice-read-put-record c = search needs
 
 put-record-requires : tie.Need-put-record-requires Inv-loop μ-loop
-put-record-requires c κs =
-    let l = c .before .before .before in
-    let a = l .before .before .before .args in
-    let records = now (a .records) in
-    omega (
-      arith,
-      l .loop .inv .1,
-      l .loop .inv .2 .0,
-      l .before .before .before .pre,
-      records-part records (l .loop .i + 1),
-      ap length (records-next records (l .loop .i) (c .before .before .loop-test .taken)),
-      length-append (recordsText (take (l .loop .i) records)) (recordText (getD records (l .loop .i) 0)),
-    )
+put-record-requires c κs = search needs
 
 add-i : tie.Need-add-i Inv-loop μ-loop
 add-i c = search needs
@@ -52,11 +40,22 @@ loop-again c =
     let p = c .before .before in
     let l = p .before .before .before .before in
     let a = l .before .before .before .args in
-    let records = now (a .records) in (
+    let records = now (a .records) in
+    let x = getD records (l .loop .i) 0 in
+    let one = records-next records (l .loop .i) (p .before .before .before .loop-test .taken) in
+    let fits : l .loop .at + length (recordText x) ≤ length (l .loop .text) = omega (
+      arith,
+      l .loop .inv .1,
+      l .loop .inv .2 .0,
+      l .before .before .before .pre,
+      records-part records (l .loop .i + 1),
+      ap length one,
+      length-append (recordsText (take (l .loop .i) records)) (recordText x),
+    ) in (
       omega arith,
       p .put-record .kept .0 ∙ l .loop .inv .1,
-      subst (λ bs. Wrote (now (a .text)) (a .from) bs (p .put-record .last .0) (p .put-record .result)) (sym (records-next records (l .loop .i) (p .before .before .before .loop-test .taken)))
-          (wrote-then (now (a .text)) (a .from) (recordsText (take (l .loop .i) records)) (recordText (getD records (l .loop .i) 0)) (l .loop .inv .2) (p .put-record .ensures)),
+      subst (λ bs. Wrote (now (a .text)) (a .from) bs (p .put-record .last .0) (p .put-record .result)) (sym one)
+          (wrote-then (now (a .text)) (a .from) (recordsText (take (l .loop .i) records)) (recordText x) (l .loop .inv .2) (lined-wrote (l .loop .text) (l .loop .at) (recordText x) fits (p .put-record .ensures))),
     )
 
 same-length : tie.Need-same-length Inv-loop μ-loop

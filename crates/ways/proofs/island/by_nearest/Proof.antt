@@ -2,9 +2,10 @@
 use mathlib.Core.Path.{ap, _∙_}
 use mathlib.Core.List.{List}
 use Rattle.gates.specs.declared.gate.Gate.{Gate}
+use Rattle.tallies.specs.Tally.{boundOf}
 use Rattle.emitting.specs.Emit.{emit, emitAt}
 use Rattle.ways.specs.Memory.{parities, angles, nearestOwn, closedBy}
-use Rattle.ways.proofs.Owned.{part-fits, part-long, part-gates}
+use Rattle.ways.proofs.Owned.{part-fits, part-long, part-held}
 use borrow.Author.Needs.{needs}
 use Rattle.ways.proofs.island.by_nearest.Statement.{statement}
 use Rattle.ways.proofs.island.by_nearest.Tie as tie
@@ -16,11 +17,11 @@ lay-terms-requires : tie.Need-lay-terms-requires
 lay-terms-requires c κs = search needs
 
 array-share-prefix-way : tie.Need-array-share-prefix-way
-unfolding nearestOwn parities angles
+unfolding nearestOwn parities angles boundOf
 array-share-prefix-way c = part-fits (nearestOwn (c .before .before .before .before .before .before .before .before .args .own) .laid) _ _ (c .before .lay-terms .ensures .0) (c .before .lay-terms .ensures .1)
 
 slice-aggregate-closed : tie.Need-slice-aggregate-closed
-unfolding nearestOwn parities angles
+unfolding nearestOwn parities angles boundOf
 slice-aggregate-closed c = part-long (nearestOwn (c .before .before .before .before .before .before .before .before .before .args .own) .laid) _ _ (c .before .before .lay-terms .ensures .0) (c .before .before .lay-terms .ensures .1)
 
 closed-requires : tie.Need-closed-requires
@@ -30,10 +31,10 @@ same-length : tie.Need-same-length
 same-length c = search needs
 
 returns : tie.Need-returns
-unfolding nearestOwn parities angles
+unfolding nearestOwn parities angles boundOf
 returns c =
     let o = c .before .before .before .before .before .before .before .before .before .before .before .before .before .args .own in
-    let back = part-gates (nearestOwn o .laid) _ _ (c .before .before .before .before .before .before .lay-terms .ensures .0) (c .before .before .before .before .before .before .lay-terms .ensures .1) (c .before .before .before .before .before .before .before .before .before .before .before .before .before .pre) in (
+    let back = part-held (nearestOwn o .laid) _ _ (c .before .before .before .before .before .before .lay-terms .ensures .0) (c .before .before .before .before .before .before .lay-terms .ensures .1) in (
       c .before .before .closed .ensures .0 ∙ ap (λ (gs : List Gate). emit (c .before .before .before .before .before .before .before .before .before .before .before .before .before .args .out .now) 0 (closedBy o gs)) back,
       c .before .before .closed .ensures .1 ∙ ap (λ (gs : List Gate). emitAt (c .before .before .before .before .before .before .before .before .before .before .before .before .before .args .out .now) 0 (closedBy o gs)) back,
     )
