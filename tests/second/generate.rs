@@ -2,9 +2,18 @@
 //! each closed by a line `--`, or by a line `-.` where the last LF is not the text's own.
 //!
 //!     generate jobs COUNT SEED                  random, damaged and boundary jobs
-//!     generate vectors                          the fixed list of jobs, closed by `--` only
+//!     generate vectors BUNDLE TEXT              the fixed list of jobs, closed by `--` only
+//!     generate scant BUNDLE                     the same for the program that lends too little;
+//!                                               no other line of these has a `-`
 //!     generate terms COUPLING T COUNT SEED      COUNT jobs of T random terms, identity asked;
 //!                                               COUPLING: singapore, aspen, line:N, grid:N, all:N
+//!
+//! BUNDLE and TEXT are the room that the stored list's program has, in bytes, for the bundle and
+//! for one text with the line that closes it; a list that needs more is not printed. Two texts are
+//! printed as they are:
+//!
+//!     generate longest                          a long job that is accepted
+//!     generate overlong                         a text that is one byte too long
 
 use std::collections::BTreeSet;
 use std::io::Write;
@@ -634,7 +643,7 @@ const RARE: &[&str] = &[
      r 0 65535;",
 ];
 
-fn rare(text: &str) -> Vec<u8> {
+fn spelled_out(text: &str) -> Vec<u8> {
     text.replace(' ', "\t").replace(';', "\n").into_bytes()
 }
 
@@ -659,7 +668,7 @@ fn random_jobs(dice: &mut Dice) -> Vec<Vec<u8>> {
         785..845 => with_faults(dice),
         845..965 => return vec![damaged(dice)],
         965..992 => return vec![noise(dice)],
-        992..996 => return vec![rare(dice.pick(RARE))],
+        992..996 => return vec![spelled_out(dice.pick(RARE))],
         _ => return vec![long(dice)],
     };
     vec![draft.text()]
@@ -733,6 +742,59 @@ fn refusals_at_their_boundaries() -> Vec<Vec<u8>> {
         drafts.push(Draft::new(5, &[(0, 1), (2, 3)], &[Cnot(next, wire), Cnot(wire, next)]));
     }
     drafts.iter().map(Draft::text).collect()
+}
+
+// Each of these fails two neighbouring tests, and the first of them has to win. Where a test names
+// a place, it is one that the other does not name.
+
+/// The couplers are good ones for 21 qubits.
+fn fails_1_and_2() -> Draft {
+    Draft::new(21, &with_couplers(191).couplers, &[])
+}
+
+fn fails_2_and_3() -> Draft {
+    let mut draft = Draft::new(20, &with_couplers(191).couplers, &[]);
+    draft.couplers[5] = (4, 4);
+    draft
+}
+
+fn fails_3_and_4() -> Draft {
+    Draft::new(3, &[(0, 1), (1, 2), (2, 3)], &[Rot(0, 0); 4_097])
+}
+
+fn fails_4_and_5() -> Draft {
+    let mut draft = Draft::new(3, &line(3), &[Rot(0, 0); 4_097]);
+    draft.gates[7] = Rot(3, 0);
+    draft
+}
+
+/// The bad gate stands behind the one that brings the 257th parity.
+fn fails_5_and_6() -> Draft {
+    let mut draft = with_parities(10, 257, 1);
+    draft.gates.push(Cnot(9, 9));
+    draft
+}
+
+/// Without couplers the final parity of wire 0 leaves its island.
+fn fails_6_and_7() -> Draft {
+    Draft { couplers: vec![], ..with_parities(10, 257, 1) }
+}
+
+/// The second line does not fit.
+fn fails_11_and_10() -> Vec<u8> {
+    repeated("q\t2\nx\n", "r\t0\t0\n", 65_537, b'\n')
+}
+
+/// Reading comes before laying, whose first test this is.
+fn fails_10_and_1() -> Vec<u8> {
+    b"q\t21\nx\n".to_vec()
+}
+
+/// Those with test 8 are for the program that lends too little.
+fn two_tests_at_once() -> Vec<Vec<u8>> {
+    let drafts =
+        [fails_1_and_2(), fails_2_and_3(), fails_3_and_4(), fails_4_and_5(), fails_5_and_6(), fails_6_and_7()];
+    drafts.iter().map(Draft::text).chain([fails_11_and_10(), fails_10_and_1()]).collect()
 }
 
 fn texts_at_their_boundaries() -> Vec<Vec<u8>> {
@@ -824,9 +886,10 @@ fn ends_with_lf(text: &[u8]) -> bool {
 fn vectors() -> Vec<Vec<u8>> {
     let mut dice = Dice(7);
     let mut texts = examples();
-    texts.extend(RARE.iter().map(|text| rare(text)));
+    texts.extend(RARE.iter().map(|text| spelled_out(text)));
     texts.extend((0..20).map(|_| crooked(&mut dice).text()));
     texts.extend(refusals_at_their_boundaries());
+    texts.extend(two_tests_at_once());
     texts.extend(texts_at_their_boundaries());
     texts.extend(couplings_of_all_kinds());
     texts.extend(drawn_thrice());
@@ -836,6 +899,88 @@ fn vectors() -> Vec<Vec<u8>> {
     texts.extend((0..30).map(|_| noise(&mut dice)));
     texts.retain(|text| ends_with_lf(text));
     texts
+}
+
+// ------------------------------------------------------------ too little lent
+
+/// For the program `scant`: reading is lent 3 couplers and 4 gates, laying 12 records, writing 29
+/// bytes. Spelled as the rare jobs are.
+const SCANT: &[&str] = &[
+    // Reading: enough, exactly enough, a coupler too many, a gate too many, one of each.
+    "q 3;e 0 1;e 1 2;r 0 1;r 1 1;r 2 1;",
+    "q 3;e 0 1;e 1 2;e 2 0;c 0 1;c 1 2;c 1 2;c 0 1;",
+    "q 3;e 0 1;e 1 2;e 2 0;e 1 0;c 0 1;c 1 2;c 1 2;c 0 1;",
+    "q 3;e 0 1;e 1 2;e 2 0;c 0 1;c 1 2;c 1 2;c 0 1;r 0 1;",
+    "q 3;e 0 1;e 1 2;e 2 0;e 1 0;c 0 1;c 1 2;c 1 2;c 0 1;r 0 1;",
+    // Reading, 10 and 8: a coupler or a gate too many, then a line that does not fit.
+    "q 3;e 0 1;e 1 2;e 2 0;e 1 0;x;",
+    "q 3;r 0 1;r 0 2;r 0 3;r 0 4;r 0 5;e 0 1;",
+    // Reading, 10 alone.
+    "",
+    // Laying: B is 12 for n = 3, t = 0, exactly enough; 13 for n = 2, t = 3, one too few.
+    "q 3;e 0 1;e 1 2;c 0 2;c 2 1;",
+    "q 2;e 0 1;r 0 1;r 1 2;c 0 1;r 1 3;",
+    // Terms count, not parities: here the third sum is 0, and B is 10.
+    "q 2;e 0 1;r 0 1;r 1 2;c 0 1;r 1 0;",
+    // Document 01's example 9; B is 7.
+    "q 2;e 0 1;r 0 1;",
+    // B counts, not the gates laid: here one is laid, and B is 17. For 20 qubits it is 760.
+    "q 3;r 0 1;",
+    "q 20;",
+    // Laying, 7 and 8: a wire leaves its island, and a term does; B is 17.
+    "q 3;e 0 1;r 0 1;c 0 2;",
+    "q 3;e 0 1;c 0 2;r 2 40;c 0 2;",
+    // Writing: 28 bytes; 29, exactly enough; 30, one too many.
+    "q 2;e 0 1;r 0 1;r 1 2;r 0 7;",
+    "q 2;e 0 1;r 0 1;r 1 2;r 0 70;",
+    "q 2;e 0 1;r 0 1;r 1 2;r 0 700;",
+    // The same where the other numbers are long.
+    "q 20;e 19 9;e 10 11;r 19 50;",
+    "q 20;e 19 9;e 10 11;r 19 500;",
+    "q 20;e 19 9;e 10 11;r 19 5000;",
+    // Writing, 3 and 5; the text would go into the room.
+    "q 2;e 0 1;e 1 1;r 2 0;",
+    // Writing, 5 and 8.
+    "q 2;e 0 1;r 0 65535;c 1 1;r 1 65535;",
+    // A list that is bad at once, in a text that goes into the room.
+    "q 0;",
+    "q 21;",
+    "q 2;e 2 0;",
+    "q 2;r 2 0;",
+    // Writing does not test 7.
+    "q 3;e 0 1;c 0 2;",
+];
+
+/// Writing, 1 and 2, 2 and 3. Writing tests neither 4 nor 6: it says 5 where laying says 4, and 8
+/// where laying says 6.
+fn scant() -> Vec<Vec<u8>> {
+    let long = [fails_1_and_2(), fails_2_and_3(), fails_4_and_5(), fails_6_and_7()];
+    SCANT.iter().map(|text| spelled_out(text)).chain(long.iter().map(Draft::text)).collect()
+}
+
+// ------------------------------------------------------------ two long texts
+
+/// As long as an accepted job gets, but for some CNOTs: all couplers, 4,096 gates, long lines.
+/// Every angle goes into a sum, and the last gate brings its parity's sum to 0.
+fn longest() -> Vec<u8> {
+    let mut dice = Dice(11);
+    let mut couplers = all_to_all(20);
+    rewrite_couplers(&mut dice, &mut couplers);
+    let mut gates = vec![];
+    while gates.len() < 4_093 {
+        if gates.len() % 64 == 63 {
+            gates.extend(cnots_anywhere(&mut dice, 20, 1));
+        } else {
+            gates.push(Rot(dice.between(10, 19), dice.between(10_000, 65_535)));
+        }
+    }
+    gates.extend([Cnot(18, 19), Rot(19, 20_000), Rot(19, 45_536)]);
+    Draft::new(20, &couplers, &gates).text()
+}
+
+/// Without its last byte it is a text that can be read, of too many gates.
+fn overlong() -> Vec<u8> {
+    repeated("q\t1\n", "r\t0\t0\n", 65_537, b'\n')
 }
 
 // ------------------------------------------------------------ jobs for measuring
@@ -879,23 +1024,50 @@ fn bundle(texts: Vec<Vec<u8>>) -> Vec<u8> {
     all
 }
 
+/// The bundle, if it and each of its texts go into the room that the program has for them.
+fn stored(texts: Vec<Vec<u8>>, room: u64, text_room: u64) -> Vec<u8> {
+    let longest = texts.iter().map(|text| text.len() + b"--\n".len()).max().unwrap_or(0);
+    let bundle = bundle(texts);
+    let bytes = bundle.len();
+    if bytes as u64 > room || longest as u64 > text_room {
+        eprintln!("too long: {bytes} bytes in a room of {room}, one text {longest} in {text_room}");
+        std::process::exit(1)
+    }
+    bundle
+}
+
+/// The program `scant` takes the first `-` for the beginning of the closing line.
+fn without_hyphen(texts: Vec<Vec<u8>>) -> Vec<Vec<u8>> {
+    assert!(texts.iter().all(|text| ends_with_lf(text) && !text.contains(&b'-')));
+    texts
+}
+
+fn printed(words: &[&str]) -> Option<Vec<u8>> {
+    let number = |word: &str| word.parse::<u64>().ok();
+    match *words {
+        ["jobs", count, seed] => Some(bundle(jobs(number(count)? as usize, number(seed)?))),
+        ["vectors", room, text_room] => Some(stored(vectors(), number(room)?, number(text_room)?)),
+        ["scant", room] => Some(stored(without_hyphen(scant()), number(room)?, number(room)?)),
+        ["terms", coupling, t, count, seed] => {
+            let (t, count) = (number(t)? as usize, number(count)? as usize);
+            terms(coupling, t, count, number(seed)?).map(bundle)
+        }
+        ["longest"] => Some(longest()),
+        ["overlong"] => Some(overlong()),
+        _ => None,
+    }
+}
+
 fn main() {
     let words: Vec<String> = std::env::args().skip(1).collect();
     let words: Vec<&str> = words.iter().map(String::as_str).collect();
-    let number = |word: &str| word.parse::<u64>().ok();
-    let texts = match words[..] {
-        ["jobs", count, seed] => number(count).zip(number(seed)).map(|(n, s)| jobs(n as usize, s)),
-        ["vectors"] => Some(vectors()),
-        ["terms", coupling, t, count, seed] => match (number(t), number(count), number(seed)) {
-            (Some(t), Some(count), Some(seed)) => terms(coupling, t as usize, count as usize, seed),
-            _ => None,
-        },
-        _ => None,
-    };
-    let Some(texts) = texts else {
-        eprintln!("generate jobs COUNT SEED | vectors | terms COUPLING T COUNT SEED");
+    let Some(text) = printed(&words) else {
+        eprintln!(
+            "generate jobs COUNT SEED | vectors BUNDLE TEXT | scant BUNDLE | \
+             terms COUPLING T COUNT SEED | longest | overlong"
+        );
         std::process::exit(2)
     };
-    let written = std::io::stdout().write_all(&bundle(texts));
+    let written = std::io::stdout().write_all(&text);
     std::process::exit(if written.is_ok() { 0 } else { 1 });
 }

@@ -5,6 +5,8 @@
 //!     second count   one job in, what the counting program prints out
 //!     second many    a bundle of jobs in; for each job what `lay` and then what `count` print
 //!     second bundle  the same, but each of these texts is closed by a line `--`
+//!     second scant   a bundle of jobs in; for each job what reading, laying and writing answer
+//!                    where too little is lent, as the program `scant` prints it
 //!
 //! Without an argument its own name decides, so links called `lay` and `count` stand in for the
 //! two programs.
@@ -16,12 +18,26 @@ use std::collections::BTreeMap;
 use std::io::{self, BufWriter, Read, Write};
 
 const LONGEST_TEXT: usize = 65_536;
-const READER_ROOM: usize = 10_922;
 const MOST_QUBITS: usize = 20;
 const MOST_COUPLERS: usize = 190;
 const MOST_GATES: usize = 4_096;
 const MOST_PARITIES: usize = 256;
 const FULL_TURN: u32 = 65_536;
+
+/// What is lent: records for the two lists of reading and for the output of laying, bytes for
+/// writing.
+struct Lent {
+    couplers: usize,
+    gates: usize,
+    laid: usize,
+    text: usize,
+}
+
+/// By the laying and the counting program.
+const ENOUGH: Lent = Lent { couplers: 10_922, gates: 10_922, laid: 10_744, text: usize::MAX };
+
+/// By the program `scant`.
+const SCANT: Lent = Lent { couplers: 3, gates: 4, laid: 12, text: 29 };
 
 // ---------------------------------------------------------------- gates and refusals
 
@@ -93,7 +109,7 @@ fn add_line(job: &mut Option<Job>, line: &[u8]) -> Option<()> {
     Some(())
 }
 
-fn read_job(text: &[u8]) -> Result<Job, Refusal> {
+fn read_job(text: &[u8], lent: &Lent) -> Result<Job, Refusal> {
     if text.len() > LONGEST_TEXT {
         return refuse(11, 0);
     }
@@ -105,7 +121,7 @@ fn read_job(text: &[u8]) -> Result<Job, Refusal> {
         }
     }
     let Some(job) = job else { return refuse(10, 1) };
-    if job.couplers.len() > READER_ROOM || job.gates.len() > READER_ROOM {
+    if job.couplers.len() > lent.couplers || job.gates.len() > lent.gates {
         return refuse(8, 0);
     }
     Ok(job)
@@ -284,7 +300,7 @@ impl Meaning {
     }
 }
 
-// ---------------------------------------------------------------- tests 1 to 7
+// ---------------------------------------------------------------- tests 1 to 8
 
 fn gate_fits(gate: Gate, n: usize) -> bool {
     match gate {
@@ -293,7 +309,8 @@ fn gate_fits(gate: Gate, n: usize) -> bool {
     }
 }
 
-fn test_lists(job: &Job) -> Result<(), Refusal> {
+/// Tests 1, 2 and 3.
+fn test_chip(job: &Job) -> Result<(), Refusal> {
     if job.n < 1 || job.n > MOST_QUBITS {
         return refuse(1, 0);
     }
@@ -303,15 +320,23 @@ fn test_lists(job: &Job) -> Result<(), Refusal> {
     if let Some(bad) = job.couplers.iter().position(|&(a, b)| a >= job.n || b >= job.n || a == b) {
         return refuse(3, bad);
     }
-    if job.gates.len() > MOST_GATES {
-        return refuse(4, 0);
-    }
+    Ok(())
+}
+
+/// Test 4, which is laying's alone.
+fn test_length(job: &Job) -> Result<(), Refusal> {
+    if job.gates.len() > MOST_GATES { refuse(4, 0) } else { Ok(()) }
+}
+
+/// Test 5.
+fn test_gates(job: &Job) -> Result<(), Refusal> {
     if let Some(bad) = job.gates.iter().position(|&gate| !gate_fits(gate, job.n)) {
         return refuse(5, bad);
     }
     Ok(())
 }
 
+/// Test 7.
 fn test_reachable(n: usize, meaning: &Meaning, islands: &[u32]) -> Result<(), Refusal> {
     let inside = |set: u32, island: u32| set & !island == 0;
     for wire in 0..n {
@@ -326,6 +351,16 @@ fn test_reachable(n: usize, meaning: &Meaning, islands: &[u32]) -> Result<(), Re
         }
     }
     Ok(())
+}
+
+/// B, the output records that laying needs for t terms.
+fn bound(n: usize, t: usize) -> usize {
+    2 * (n - 1) * t + t + 2 * n * (n - 1)
+}
+
+/// Test 8 of laying.
+fn test_output(n: usize, meaning: &Meaning, lent: &Lent) -> Result<(), Refusal> {
+    if lent.laid < bound(n, meaning.terms().count()) { refuse(8, 0) } else { Ok(()) }
 }
 
 // ---------------------------------------------------------------- sets of places
@@ -656,12 +691,15 @@ fn lay_island(island: &Island) -> Vec<Gate> {
     if by_nearness.len() < by_steps.len() { by_nearness } else { by_steps }
 }
 
-fn lay(job: &Job) -> Result<Vec<Gate>, Refusal> {
-    test_lists(job)?;
+fn lay(job: &Job, lent: &Lent) -> Result<Vec<Gate>, Refusal> {
+    test_chip(job)?;
+    test_length(job)?;
+    test_gates(job)?;
     let meaning = Meaning::of(&job.gates)?;
     let coupling = Coupling::of(&job.couplers);
     let islands = coupling.islands(job.n);
     test_reachable(job.n, &meaning, &islands)?;
+    test_output(job.n, &meaning, lent)?;
     let lists = islands.iter().map(|&qubits| lay_island(&island_of(qubits, &coupling, &meaning)));
     Ok(lists.flatten().collect())
 }
@@ -680,18 +718,12 @@ fn depth(gates: &[Gate]) -> usize {
     busy_to.into_iter().max().unwrap_or(0)
 }
 
-// ---------------------------------------------------------------- printing
+// ---------------------------------------------------------------- writing
 
-fn refusal_line(refusal: Refusal) -> String {
-    format!("x\t{}\t{}\n", refusal.number, refusal.place)
-}
-
-fn lay_text(job: &Job, gates: &[Gate]) -> String {
-    let mut ends: Vec<_> = job.couplers.iter().map(|&(a, b)| (a.min(b), a.max(b))).collect();
-    ends.sort();
-    ends.dedup();
-    let mut text = format!("q\t{}\n", job.n);
-    for (a, b) in ends {
+/// The text of these lists, as they are.
+fn job_text(n: usize, couplers: &[(usize, usize)], gates: &[Gate]) -> String {
+    let mut text = format!("q\t{n}\n");
+    for (a, b) in couplers {
         text += &format!("e\t{a}\t{b}\n");
     }
     for gate in gates {
@@ -703,6 +735,26 @@ fn lay_text(job: &Job, gates: &[Gate]) -> String {
     text
 }
 
+fn write_job(job: &Job, lent: &Lent) -> Result<String, Refusal> {
+    test_chip(job)?;
+    test_gates(job)?;
+    let text = job_text(job.n, &job.couplers, &job.gates);
+    if text.len() > lent.text { refuse(8, 0) } else { Ok(text) }
+}
+
+// ---------------------------------------------------------------- printing
+
+fn refusal_line(refusal: Refusal) -> String {
+    format!("x\t{}\t{}\n", refusal.number, refusal.place)
+}
+
+fn lay_text(job: &Job, gates: &[Gate]) -> String {
+    let mut ends: Vec<_> = job.couplers.iter().map(|&(a, b)| (a.min(b), a.max(b))).collect();
+    ends.sort();
+    ends.dedup();
+    job_text(job.n, &ends, gates)
+}
+
 fn count_text(gates: &[Gate]) -> String {
     let cnots = cnots_of(gates).len();
     format!("s\t{}\t{}\t{}\n", cnots, gates.len() - cnots, depth(gates))
@@ -710,11 +762,26 @@ fn count_text(gates: &[Gate]) -> String {
 
 /// What the two programs print.
 fn both_texts(text: &[u8]) -> [String; 2] {
-    let answer = read_job(text).and_then(|job| lay(&job).map(|gates| (job, gates)));
+    let answer = read_job(text, &ENOUGH).and_then(|job| lay(&job, &ENOUGH).map(|gates| (job, gates)));
     match answer {
         Err(refusal) => [refusal_line(refusal), refusal_line(refusal)],
         Ok((job, gates)) => [lay_text(&job, &gates), count_text(&gates)],
     }
+}
+
+/// An `x` line for every answer: number and place are 0 where it is an acceptance.
+fn answer_line<T>(answer: Result<T, Refusal>) -> String {
+    refusal_line(answer.err().unwrap_or(Refusal { number: 0, place: 0 }))
+}
+
+/// What `scant` prints. Reading judges form only, so bad lists come to laying and to writing too.
+fn scant_text(text: &[u8]) -> String {
+    let mut lines = answer_line(read_job(text, &SCANT));
+    if let Ok(job) = read_job(text, &ENOUGH) {
+        lines += &answer_line(lay(&job, &SCANT));
+        lines += &answer_line(write_job(&job, &SCANT));
+    }
+    lines
 }
 
 // ---------------------------------------------------------------- programs
@@ -744,12 +811,13 @@ fn read_one() -> Vec<u8> {
     text
 }
 
-fn print_many(close: &str) -> io::Result<()> {
+/// For each text of the bundle what `texts` makes of it, every text followed by `close`.
+fn print_many<const N: usize>(texts: impl Fn(&[u8]) -> [String; N], close: &str) -> io::Result<()> {
     let mut bundle = vec![];
     io::stdin().read_to_end(&mut bundle)?;
     let mut out = BufWriter::new(io::stdout().lock());
     for text in unbundle(&bundle) {
-        for printed in both_texts(text) {
+        for printed in texts(text) {
             out.write_all(printed.as_bytes())?;
             out.write_all(close.as_bytes())?;
         }
@@ -768,10 +836,11 @@ fn main() {
     let _ = match mode().as_str() {
         "lay" => io::stdout().write_all(both_texts(&read_one())[0].as_bytes()),
         "count" => io::stdout().write_all(both_texts(&read_one())[1].as_bytes()),
-        "many" => print_many(""),
-        "bundle" => print_many("--\n"),
+        "many" => print_many(both_texts, ""),
+        "bundle" => print_many(both_texts, "--\n"),
+        "scant" => print_many(|text| [scant_text(text)], ""),
         _ => {
-            eprintln!("second lay | count | many | bundle");
+            eprintln!("second lay | count | many | bundle | scant");
             std::process::exit(2)
         }
     };
@@ -785,7 +854,7 @@ mod worked_example {
         c\t1\t3\nc\t1\t0\nr\t0\t200\nr\t1\t300\nr\t3\t100\nc\t1\t3\n";
 
     fn island() -> Island {
-        let job = read_job(JOB).unwrap();
+        let job = read_job(JOB, &ENOUGH).unwrap();
         island_of(15, &Coupling::of(&job.couplers), &Meaning::of(&job.gates).unwrap())
     }
 
@@ -810,5 +879,22 @@ mod worked_example {
     #[test]
     fn nearest_first_is_taken() {
         assert_eq!(both_texts(JOB)[1], "s\t7\t3\t7\n");
+    }
+}
+
+#[cfg(test)]
+mod too_little_lent {
+    use super::*;
+
+    #[test]
+    fn the_bound() {
+        assert_eq!([bound(2, 1), bound(3, 0), bound(2, 3), bound(20, 256)], [7, 12, 13, ENOUGH.laid]);
+    }
+
+    #[test]
+    fn example_9() {
+        let job = read_job(b"q\t2\ne\t0\t1\nr\t0\t5\n", &ENOUGH).unwrap();
+        assert!(lay(&job, &Lent { laid: 7, ..ENOUGH }).is_ok());
+        assert_eq!(lay(&job, &Lent { laid: 6, ..ENOUGH }), refuse(8, 0));
     }
 }
