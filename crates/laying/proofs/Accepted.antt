@@ -20,6 +20,7 @@ use Rattle.verdicts.specs.Verdicts.{numberOf}
 use Rattle.verdicts.proofs.Judged.{then-on}
 use Rattle.gates.proofs.Alls.{all-map}
 use Rattle.meaning.proofs.Bearing.{terms-few}
+use Rattle.tallies.proofs.Tallies.{bound-most}
 use Rattle.circuit.proofs.Wiring.{good-up}
 use Rattle.chip.specs.Couplers.{nearOf}
 use Rattle.isles.specs.Islands.{islandOf}
@@ -30,7 +31,7 @@ use Rattle.ways.specs.Memory.{Fine}
 use Rattle.judging.specs.Tests.{judgedJob}
 use Rattle.laying.specs.Verdict.{judgedStuck, verdictOf, circuitOf}
 use Rattle.laying.proofs.Job.{laid-same, laid-good, laid-coupled, laid-rotations, laid-cnots}
-use Rattle.laying.proofs.Both.{bound-most, island-lays, island-placed, never-stuck}
+use Rattle.laying.proofs.Both.{island-lays, island-placed, never-stuck}
 use Rattle.laying.proofs.Accepting.{job-layable}
 use Rattle.sets.proofs.Deciding.{both-no}
 

@@ -10,14 +10,13 @@ use lib.ListN.{length, getD}
 use lib.Count.{ones, ones-le}
 use Rattle.sets.specs.Pick.{pick}
 use Rattle.sets.specs.Bit.{Sub}
-use Rattle.gates.specs.Limits.{mostQubits, mostParities}
 use Rattle.gates.specs.declared.gate.Gate.{Gate}
 use Rattle.gates.specs.Layout.{gatesOf}
 use Rattle.circuit.specs.Circuit.{run, start, finalOf}
 use Rattle.meaning.specs.Borne.{Among, terms, sumsOf}
-use Rattle.tallies.specs.Tally.{cnotsOf, rotationsOf, boundOf, largest}
+use Rattle.tallies.specs.Tally.{cnotsOf, rotationsOf, boundOf}
 use Rattle.meaning.proofs.Lists.{among-at}
-use Rattle.tallies.proofs.Tallies.{product-le}
+use Rattle.tallies.proofs.Tallies.{bound-most}
 use Rattle.meaning.proofs.Bearing.{terms-few}
 use Rattle.chip.specs.Couplers.{nearOf}
 use Rattle.isles.specs.Islands.{islandOf}
@@ -72,16 +71,6 @@ of-shorter P a b x y = go (ltb (length b) (length a))
     go false = x
 
 -- ---- room
-
--- B grows with n and t
-pub bound-most : (n t : ℕ) → n ≤ mostQubits → t ≤ mostParities → boundOf n t ≤ largest
-unfolding boundOf
-bound-most n t a b =
-    omega (
-      arith,
-      product-le (2 * (n - 1)) t (2 * (mostQubits - 1)) mostParities (omega arith) b,
-      product-le (2 * n) (n - 1) (2 * mostQubits) (mostQubits - 1) (omega arith) (omega arith),
-    )
 
 -- an island of m qubits with t terms
 within-bound : (m t c r : ℕ) → c ≤ 2 * (m - 1) * t + 2 * (m * (m - 1)) → r ≡ t → c + r ≤ boundOf m t

@@ -1,16 +1,17 @@
 -- Counts and depth of lists of gates. Assumes nothing.
 use mathlib.Core.Path.{_≡_, refl}
 use mathlib.Core.List.{List, [], _∷_, _++_}
-use Prim.Native.Nat.{ℕ, _+_, _*_, _≤_, _<_}
+use Prim.Native.Nat.{ℕ, _+_, _-_, _*_, _≤_, _<_}
 use native.Mathlib.Nat.{mul-le-mul-left, mul-le-mul-right}
 use native.Mathlib.Omega.{arith}
 use native.Mathlib.Numerals.{add-one}
 use lib.ListN.{length, getD, drop, length-map, drop-of-length-le}
 use lib.Seq.{drop-cons}
+use Rattle.gates.specs.Limits.{mostQubits, mostParities}
 use Rattle.gates.specs.declared.gate.Gate.{Gate}
 use Rattle.gates.specs.declared.gate.Gate.the-variants.{Cnot, Rotation, Bad}
 use Rattle.gates.specs.Layout.{gateOf, gatesOf}
-use Rattle.tallies.specs.Tally.{tally, oneCnot, oneRotation, cnotsOf, rotationsOf, boundOf}
+use Rattle.tallies.specs.Tally.{tally, oneCnot, oneRotation, cnotsOf, rotationsOf, boundOf, largest}
 
 -- ---- sums of weights
 
@@ -90,6 +91,16 @@ bound-none n t e = rw e (omega arith)
 
 pub product-le : (a b c d : ℕ) → a ≤ c → b ≤ d → a * b ≤ c * d
 product-le a b c d h g = omega (arith, mul-le-mul-right b h, mul-le-mul-left c g)
+
+-- B grows with n and t, so that no job's is larger than the largest
+pub bound-most : (n t : ℕ) → n ≤ mostQubits → t ≤ mostParities → boundOf n t ≤ largest
+unfolding boundOf
+bound-most n t a b =
+    omega (
+      arith,
+      product-le (2 * (n - 1)) t (2 * (mostQubits - 1)) mostParities (omega arith) b,
+      product-le (2 * n) (n - 1) (2 * mostQubits) (mostQubits - 1) (omega arith) (omega arith),
+    )
 
 pub tally-none : (f : Gate → ℕ) → tally f [] ≡ 0
 unfolding tally
