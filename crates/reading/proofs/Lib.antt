@@ -6,3 +6,5 @@ pub mod Loops
 pub mod Answers
 pub mod Fronts
 pub mod Misfits
+pub mod Sizes
+pub mod Enough
