@@ -13,6 +13,7 @@ pub mod Tabled
 pub mod Walking
 pub mod Accepting
 pub mod Accepted
+pub mod Enough
 pub mod Answering
 pub mod Linking
 pub mod Each
