@@ -15,6 +15,7 @@ pub mod Accepting
 pub mod Accepted
 pub mod Enough
 pub mod Answering
+pub mod Said
 pub mod Linking
 pub mod Each
 pub mod Twice

@@ -1,6 +1,6 @@
 -- The reader never answers 8 where the lent lists hold as many records as a text within its limit can have. Assumes nothing.
 use mathlib.Core.Path.{_≡_, refl, ap}
-use mathlib.Core.Logic.{_≢_}
+use mathlib.Core.Logic.{_≢_, _⊎_, inl, inr, ⊎-elim}
 use mathlib.Core.Bool.{Bool, true, false}
 use mathlib.Core.List.{List}
 use Prim.Native.Nat.{ℕ, _+_, _*_, _≤_, _<_}
@@ -9,6 +9,7 @@ use lib.Dec.{leb}
 use lib.ListN.{length}
 use borrow.Author.Tests.{leb-true, le-leb}
 use Rattle.sets.specs.Pick.{pick}
+use Rattle.verdicts.specs.declared.verdict.Verdict.{Verdict}
 use Rattle.verdicts.specs.declared.verdict.Verdict.the-variants.{Accepted, LongText}
 use Rattle.verdicts.specs.Verdicts.{numberOf}
 use Rattle.verdicts.specs.InOrder.{andThen}
@@ -25,18 +26,26 @@ module _ (s : List ℕ) (a b : ℕ) (ha : mostBytes < 4 + 6 * (a + 1)) (hb : mos
       let l = ap length (job-found s n es gs e .same) in
       (omega (arith, text-least n es gs), omega (arith, text-least n es gs))
 
-  within : length s ≤ mostBytes → (p : Parsed) → parsed s ≡ p → numberOf (andThen (judgedLines p) (judgedLists p a b)) ≢ 8
-  within h (misfit k) e z = let y : _≡_ {A = ℕ} 10 8 = z in omega arith
-  within h (job n es gs) e z =
+  -- the table's numbers that are left
+  abbrev Left : Verdict → Type 0
+  Left v = (numberOf v ≡ 0) ⊎ ((numberOf v ≡ 10) ⊎ (numberOf v ≡ 11))
+
+  within : length s ≤ mostBytes → (p : Parsed) → parsed s ≡ p → Left (andThen (judgedLines p) (judgedLists p a b))
+  within h (misfit k) e = inr (inl refl)
+  within h (job n es gs) e =
       let f = lists-fit n es gs h e in
-      let q : leb (length es) a ≡ true = le-leb (length es) a (f .0) in
-      let r : leb (length gs) b ≡ true = le-leb (length gs) b (f .1) in
-      let y : _≡_ {A = ℕ} 0 8 = rw (q, r) at z in omega arith
+      inl (rw (le-leb (length es) a (f .0), le-leb (length gs) b (f .1)))
+
+  left : Left (judgedReading s a b)
+  unfolding judgedReading
+  left = go (leb (length s) mostBytes) refl
+    where
+      go : (t : Bool) → leb (length s) mostBytes ≡ t → Left (andThen (pick t Accepted LongText) (andThen (judgedLines (parsed s)) (judgedLists (parsed s) a b)))
+      go true e = within (leb-true (length s) mostBytes e) (parsed s) refl
+      go false e = inr (inr refl)
 
   pub reads-never-8 : numberOf (judgedReading s a b) ≢ 8
-  unfolding judgedReading
-  reads-never-8 = go (leb (length s) mostBytes) refl
-    where
-      go : (t : Bool) → leb (length s) mostBytes ≡ t → numberOf (andThen (pick t Accepted LongText) (andThen (judgedLines (parsed s)) (judgedLists (parsed s) a b))) ≢ 8
-      go true e z = within (leb-true (length s) mostBytes e) (parsed s) refl z
-      go false e z = let y : _≡_ {A = ℕ} 11 8 = z in omega arith
+  reads-never-8 z = ⊎-elim (λ e. omega arith) (⊎-elim (λ e. omega arith) (λ e. omega arith)) left
+
+  pub reads-never-9 : numberOf (judgedReading s a b) ≢ 9
+  reads-never-9 z = ⊎-elim (λ e. omega arith) (⊎-elim (λ e. omega arith) (λ e. omega arith)) left
