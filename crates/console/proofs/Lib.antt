@@ -1,5 +1,7 @@
+pub mod Fronts
 pub mod Choosing
+pub mod Whole
 pub mod Reading
 pub mod Laying
 pub mod Writing
-pub mod Whole
+pub mod Enough

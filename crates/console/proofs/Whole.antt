@@ -1,86 +1,87 @@
--- In the room that the programs lend the writer accepts every laid job, so that its text is printed whole. Assumes nothing.
-use mathlib.Core.Path.{_≡_, refl, sym, ap, ap₂, _∙_}
+-- What is printed goes into the memory that is lent, whole: every line, and the text of every laid job, which the writer accepts. Assumes nothing.
+use mathlib.Core.Path.{_≡_, refl, sym, ap, ap₂, subst, _∙_}
 use mathlib.Core.Bool.{Bool, true, false}
-use mathlib.Core.List.{List, [], _∷_, _++_, map}
-use Prim.Native.Nat.{ℕ, zero, suc, _+_, _*_, _/_, _%_, _≤_, _<_}
+use mathlib.Core.List.{List, [], _∷_, map}
+use Prim.Native.Nat.{ℕ, zero, suc, _+_, _^_, _≤_, _<_}
 use native.Mathlib.Omega.{arith}
-use lib.Dec.{ltb, eqb}
-use lib.ListN.{length, getD, length-append, length-map}
-use borrow.Author.Tests.{ltb-true, ltb-false, le-ltb, le-leb, eqb-true, eqb-false}
+use lib.Dec.{leb}
+use lib.ListN.{length, getD, replicate, length-map}
+use borrow.Author.Tests.{le-ltb, le-leb}
 use Rattle.sets.specs.Pick.{pick}
 use Rattle.sets.proofs.Finding.{first-is}
 use Rattle.gates.specs.declared.gate.Gate.{Gate}
 use Rattle.gates.specs.declared.gate.Gate.the-variants.{Cnot, Rotation, Bad}
-use Rattle.verdicts.specs.declared.verdict.Verdict.{Verdict}
-use Rattle.verdicts.specs.declared.verdict.Verdict.the-variants.{Accepted, ManyCouplers, WrongCoupler, BadGate, Room}
+use Rattle.gates.specs.Limits.{mostQubits, mostCouplers}
 use Rattle.gates.specs.Layout.{packed, gateOf, isBad, recordOf, Good, couplerOf, isWrong}
 use Rattle.gates.specs.All.{All}
-use Rattle.verdicts.specs.Verdicts.{numberOf, firstFailing, judgedQubits, wrongAt, judgedCouplers, badAt, judgedGates}
 use Rattle.gates.proofs.Records.{gate-record}
+use Rattle.verdicts.specs.declared.verdict.Verdict.{Verdict}
+use Rattle.verdicts.specs.declared.verdict.Verdict.the-variants.{Accepted, Qubits, ManyCouplers, WrongCoupler, ManyGates, BadGate, ManyParities, Unreachable, Room, Stuck, Line, LongText}
+use Rattle.verdicts.specs.Verdicts.{numberOf, placeOf, firstFailing, judgedQubits, wrongAt, judgedCouplers, badAt, judgedGates}
 use Rattle.verdicts.proofs.Judged.{then-zero}
+use Rattle.tallies.specs.Tally.{oneCnot, oneRotation, cnotsOf, rotationsOf, layered, layersFrom, highest, depthOf, boundOf, largest}
+use Rattle.tallies.proofs.Tallies.{tally-bounded, one-cnot, one-rotation}
+use Rattle.tallies.proofs.Layers.{highest-layered, highest-none}
 use Rattle.chip.specs.Graph.{Near}
 use Rattle.chip.specs.Couplers.{nearOf}
 use Rattle.chip.specs.Ordered.{orderedList}
 use Rattle.chip.proofs.Order.{ordered-sound, ordered-few}
 use Rattle.chip.proofs.Neighbours.{coupler-packed, near-below}
-use Rattle.laying.specs.Layable.{Layable}
 use Rattle.judging.specs.Tests.{judgedJob}
+use Rattle.laying.specs.Layable.{Layable}
 use Rattle.laying.specs.Verdict.{verdictOf, circuitOf}
 use Rattle.laying.proofs.Accepting.{job-layable}
-use Rattle.laying.proofs.Accepted.{circuit-good, circuit-fine}
-use Rattle.lines.specs.Lines.{digits, fieldsText, recordText, recordsText, textOf}
-use Rattle.reading.specs.Parsing.{parsed}
-use Rattle.reading.specs.Readings.{couplersIn, gatesIn, jobIn, judgedReading}
+use Rattle.laying.proofs.Accepted.{circuit-good}
+use Rattle.laying.proofs.Demands.{demand-2-fits}
+use Rattle.lines.specs.Lines.{textOf, refusalText, countsText}
+use Rattle.lines.specs.Lent.{onto, lineLength, lineAfter}
+use Rattle.reading.proofs.Sizes.{width-most, line-two, line-three, text-most}
 use Rattle.text.specs.Writings.{judgedText}
 use Rattle.text.proofs.Judging.{judged-room}
-use Rattle.lines.proofs.Writes.{width-small, width-big, line-length, record-length, text-length}
-use Rattle.console.specs.Printed.{mostLines, largest, mostPrinted, unless, jobText, laidJob, laidText, wholeJob, wholeText}
-use Rattle.console.proofs.Choosing.{unless-passed, unless-refused}
+use Rattle.console.specs.Printed.{mostPrinted, Prints, refusalOf}
 
--- ---- a line of two numbers has at most 12 bytes
+-- ---- lines of numbers that fit a word, which have at most 20 digits each
 
-width-next : (m k : ℕ) → 1 ≤ k → ((v : ℕ) → v < m → length (digits v) ≤ k) → (v : ℕ) → v < m * 10 → length (digits v) ≤ k + 1
-width-next m k h f v l = go (ltb v 10) refl
-  where
-    go : (t : Bool) → ltb v 10 ≡ t → length (digits v) ≤ k + 1
-    go true e = omega (arith, width-small v (ltb-true v 10 e))
-    go false e =
-        let g : 10 ≤ v = ltb-false v 10 e in
-        let q : v / 10 < m = omega arith in
-        omega (arith, width-big v g, f (v / 10) q)
+word : (v : ℕ) → v < 2 ^ 64 → v < 10 ^ 20
+word v h = omega arith
 
-width-1 : (v : ℕ) → v < 10 → length (digits v) ≤ 1
-width-1 v l = omega (arith, width-small v l)
+pub number-few : (v : Verdict) → numberOf v < 12
+number-few Accepted = omega arith
+number-few Qubits = omega arith
+number-few ManyCouplers = omega arith
+number-few (WrongCoupler k) = omega arith
+number-few ManyGates = omega arith
+number-few (BadGate k) = omega arith
+number-few (ManyParities k) = omega arith
+number-few (Unreachable k) = omega arith
+number-few Room = omega arith
+number-few Stuck = omega arith
+number-few (Line k) = omega arith
+number-few LongText = omega arith
 
-width-3 : (v : ℕ) → v < 1000 → length (digits v) ≤ 3
-width-3 v l = width-next 100 2 (omega arith) (width-next 10 1 (omega arith) width-1) v l
+pub refusal-fits : (v : Verdict) → placeOf v < 2 ^ 64 → length (refusalOf v) ≤ mostPrinted
+unfolding refusalOf refusalText
+refusal-fits v h =
+    omega (arith, line-two 120 (numberOf v) (placeOf v), width-most 19 (numberOf v) (omega (arith, number-few v)), width-most 19 (placeOf v) (word (placeOf v) h))
 
-width-5 : (v : ℕ) → v < 100000 → length (digits v) ≤ 5
-width-5 v l = width-next 10000 4 (omega arith) (width-next 1000 3 (omega arith) width-3) v l
+counts-fit : (c r d : ℕ) → c < 2 ^ 64 → r < 2 ^ 64 → d < 2 ^ 64 → length (countsText c r d) ≤ mostPrinted
+unfolding countsText
+counts-fit c r d hc hr hd =
+    omega (arith, line-three 115 c r d, width-most 19 c (word c hc), width-most 19 r (word r hr), width-most 19 d (word d hd))
 
-fields-one : (a : ℕ) → length (fieldsText (a ∷ [])) ≡ 1 + length (digits a)
-unfolding fieldsText
-fields-one a = omega (arith, length-append (9 ∷ digits a) [])
+-- a line for which there is room is printed whole
+module _ (out out′ : List ℕ) (n : ℕ) (lent : length out ≡ mostPrinted) where
+  pub line-whole : (s : List ℕ) → length s ≤ mostPrinted → (n ≡ lineLength s (length out)) × (out′ ≡ lineAfter s out) → Prints s out n out′
+  line-whole s h p =
+      let b : leb (length s) (length out) ≡ true = le-leb (length s) (length out) (omega arith) in
+      record { lent = lent; bytes = p .0 ∙ ap (λ (t : Bool). pick t (length s) 0) b; memory = p .1 ∙ ap (λ (t : Bool). pick t (onto s out) out) b }
 
-fields-two : (a b : ℕ) → length (fieldsText (a ∷ b ∷ [])) ≡ 2 + length (digits a) + length (digits b)
-unfolding fieldsText
-fields-two a b = omega (arith, length-append (9 ∷ digits a) ((9 ∷ digits b) ++ []), length-append (9 ∷ digits b) [])
-
-record-most : (x : ℕ) → length (recordText x) ≤ 12
-record-most x =
-    let a : x / 65536 % 256 < 1000 = omega arith in
-    let b : x % 65536 < 100000 = omega arith in
-    omega (arith, record-length x, fields-two (x / 65536 % 256) (x % 65536), width-3 (x / 65536 % 256) a, width-5 (x % 65536) b)
-
-records-most : (xs : List ℕ) → length (recordsText xs) ≤ 12 * length xs
-unfolding recordsText
-records-most [] = omega arith
-records-most (x ∷ xs) = omega (arith, length-append (recordText x) (recordsText xs), record-most x, records-most xs)
-
-text-most : (n : ℕ) (es gs : List ℕ) → n ≤ 20 → length es ≤ 190 → length gs ≤ 10744 → length (textOf n es gs) ≤ mostPrinted
-text-most n es gs few e g =
-    let l : n < 1000 = omega arith in
-    omega (arith, text-length n es gs, line-length 113 (n ∷ []), fields-one n, width-3 n l, records-most es, records-most gs)
+  pub refusal-whole : (v : Verdict) (k p : ℕ) → k ≡ numberOf v → p ≡ placeOf v → p < 2 ^ 64
+      → (n ≡ lineLength (refusalText k p) (length out)) × (out′ ≡ lineAfter (refusalText k p) out) → Prints (refusalOf v) out n out′
+  unfolding refusalOf
+  refusal-whole v k p e d h q =
+      line-whole (refusalOf v) (refusal-fits v (omega arith))
+      (subst (λ (s : List ℕ). (n ≡ lineLength s (length out)) × (out′ ≡ lineAfter s out)) (ap₂ refusalText e d) q)
 
 -- ---- the couplers in order pass tests 2 and 3
 
@@ -98,7 +99,7 @@ order-accepted n xs few =
     let L = orderedList (nearOf n xs) in
     let f : ℕ → Bool = λ k. isWrong (couplerOf n (getD L k 0)) in
     let w : wrongAt n L ≡ length L = first-is f (length L) (length L) (omega arith) (λ (z : length L < length L). absurd (omega arith)) (order-right n xs few) in
-    ap₂ (λ (s t : Bool). pick s ManyCouplers (pick t (WrongCoupler (wrongAt n L)) Accepted)) (le-ltb 190 (length L) (ordered-few (nearOf n xs))) (le-ltb (wrongAt n L) (length L) (omega (arith, w)))
+    ap₂ (λ (s t : Bool). pick s ManyCouplers (pick t (WrongCoupler (wrongAt n L)) Accepted)) (le-ltb mostCouplers (length L) (ordered-few (nearOf n xs))) (le-ltb (wrongAt n L) (length L) (omega (arith, w)))
 
 -- ---- the records of good gates pass test 5
 
@@ -122,6 +123,25 @@ records-accepted n gs few a =
     let w : badAt n G ≡ length G = first-is f (length G) (length G) (omega arith) (λ (z : length G < length G). absurd (omega arith)) (records-right n gs few a) in
     ap (λ (t : Bool). pick t (BadGate (badAt n G)) Accepted) (le-ltb (badAt n G) (length G) (omega (arith, w)))
 
+-- ---- no count of a list of gates is larger than the list
+
+layers-most : (gs : List Gate) (L : List ℕ) → highest (layersFrom gs L) ≤ length gs + highest L
+unfolding layersFrom
+layers-most [] L = omega arith
+layers-most (g ∷ gs) L = omega (arith, layers-most gs (layered g L), highest-layered g L)
+
+depth-most : (gs : List Gate) → depthOf gs ≤ length gs
+unfolding depthOf
+depth-most gs = omega (arith, layers-most gs (replicate mostQubits 0), highest-none mostQubits)
+
+cnots-most : (gs : List Gate) → cnotsOf gs ≤ length gs
+unfolding cnotsOf
+cnots-most gs = tally-bounded oneCnot one-cnot gs
+
+rotations-most : (gs : List Gate) → rotationsOf gs ≤ length gs
+unfolding rotationsOf
+rotations-most gs = tally-bounded oneRotation one-rotation gs
+
 -- ---- a laid job is written
 
 module _ (n : ℕ) (xs ys : List ℕ) (e : numberOf (verdictOf n xs ys largest) ≡ 0) where
@@ -142,39 +162,23 @@ module _ (n : ℕ) (xs ys : List ℕ) (e : numberOf (verdictOf n xs ys largest) 
   layable : Layable n xs ys
   layable = job-layable n xs ys largest passed
 
-  pub job-most : length (textOf n es gs) ≤ mostPrinted
-  job-most = text-most n es gs (layable .few) (ordered-few (nearOf n xs)) (omega (arith, circuit-fine n xs ys layable .few, length-map (circuitOf n xs ys) recordOf))
+  pub job-fits : length (textOf n es gs) ≤ mostPrinted
+  job-fits =
+      let few : n ≤ mostQubits = layable .few in
+      omega (arith, text-most n es gs (omega arith), ordered-few (nearOf n xs), demand-2-fits n xs ys largest e, length-map (circuitOf n xs ys) recordOf)
 
-  writer-accepts : (room : ℕ) → mostPrinted ≤ room → numberOf (judgedText n es gs room) ≡ 0
-  writer-accepts room h =
-      let few : n ≤ 20 = layable .few in
-      sym (ap numberOf (judged-room n es gs room qubits (ap numberOf (order-accepted n xs few))
+  pub writer-accepts : numberOf (judgedText n es gs mostPrinted) ≡ 0
+  writer-accepts =
+      let few : n ≤ mostQubits = layable .few in
+      sym (ap numberOf (judged-room n es gs mostPrinted qubits (ap numberOf (order-accepted n xs few))
       (ap numberOf (records-accepted n (circuitOf n xs ys) (omega arith) (circuit-good n xs ys layable)))))
-      ∙ ap (λ (t : Bool). numberOf (pick t Accepted Room)) (le-leb (length (textOf n es gs)) room (omega (arith, job-most)))
+      ∙ ap (λ (t : Bool). numberOf (pick t Accepted Room)) (le-leb (length (textOf n es gs)) mostPrinted job-fits)
 
-  written : (room : ℕ) → mostPrinted ≤ room → jobText n xs gs room ≡ textOf n es gs
-  unfolding jobText
-  written room h = sym (unless-passed (judgedText n es gs room) (textOf n es gs) (writer-accepts room h))
+  abbrev circuit : List Gate
+  circuit = circuitOf n xs ys
 
--- ---- "A text above 65,536 bytes is printed whole too"
-
-job-whole : (n : ℕ) (xs ys : List ℕ) (room : ℕ) → mostPrinted ≤ room → laidJob n xs ys room ≡ wholeJob n xs ys
-unfolding laidJob wholeJob
-job-whole n xs ys room h = go (eqb (numberOf v) 0) refl
-  where
-    v : Verdict
-    v = verdictOf n xs ys largest
-
-    s : List ℕ
-    s = jobText n xs (map recordOf (circuitOf n xs ys)) room
-
-    t : List ℕ
-    t = textOf n (orderedList (nearOf n xs)) (map recordOf (circuitOf n xs ys))
-
-    go : (b : Bool) → eqb (numberOf v) 0 ≡ b → unless v s ≡ unless v t
-    go true q = ap (unless v) (written n xs ys (eqb-true (numberOf v) 0 q) room h)
-    go false q = sym (unless-refused v s (eqb-false (numberOf v) 0 q)) ∙ unless-refused v t (eqb-false (numberOf v) 0 q)
-
-pub printed-whole : (s : List ℕ) (room : ℕ) → mostPrinted ≤ room → laidText s room ≡ wholeText s
-unfolding laidText wholeText
-printed-whole s room h = ap (unless (judgedReading s mostLines mostLines)) (job-whole (jobIn (parsed s) .qubits) (couplersIn (parsed s)) (gatesIn (parsed s)) room h)
+  pub counts-fits : length (countsText (cnotsOf circuit) (rotationsOf circuit) (depthOf circuit)) ≤ mostPrinted
+  unfolding boundOf
+  counts-fits =
+      let few : length circuit ≤ largest = demand-2-fits n xs ys largest e in
+      counts-fit (cnotsOf circuit) (rotationsOf circuit) (depthOf circuit) (omega (arith, cnots-most circuit)) (omega (arith, rotations-most circuit)) (omega (arith, depth-most circuit))

@@ -1,55 +1,61 @@
 // What the two programs print for a text: it is read, laid and written, and the first refusal decides.
 // Each function gives the number of bytes printed; what lies behind them in the lent memory stays.
 use chip::couplers;
+use gates::job::Job;
 use laying::lay;
 use laying::lay::Answer;
 use lines::print;
 use reading::read;
 use reading::read::Reading;
+use tallies::tally;
 use text::write;
 use text::write::Writing;
 use verdicts::verdict;
 use verdicts::verdict::Verdict;
 ghost use mathlib.Core.Path.{_≡_};
-ghost use lib.ListN.{length};
-ghost use Rattle.lines.specs.Lent.{lineLength, lineAfter};
-ghost use Rattle.console.specs.Printed.{refusalOf, jobText, laidJob, countedJob, laidText, countedText};
+ghost use Prim.Native.Nat.{_+_};
+ghost use lib.ListN.{length, take};
+ghost use Rattle.verdicts.specs.Verdicts.{numberOf};
+ghost use Rattle.chip.specs.Couplers.{nearOf};
+ghost use Rattle.chip.specs.Ordered.{orderedList};
+ghost use Rattle.lines.specs.Lines.{textOf};
+ghost use Rattle.reading.specs.Limits.{mostBytes};
+ghost use Rattle.text.specs.Writings.{judgedText};
+ghost use Rattle.console.specs.Printed.{mostPrinted, Prints, refusalOf, laidJob, countedJob, laidText, countedText};
 
-// Read of standard input: one byte more than a job's text may have, so that the reader sees a longer one.
-pub const INPUT: usize = 65537;
+// Lent for what is read: one byte more than a job's text may have, so that the reader sees a longer one.
+pub const INPUT: usize = read::MOST_BYTES + 1;
 
-// Lent for what is printed: no laid job's text is longer.
-pub const OUTPUT: usize = 131214;
+// Lent for what is printed: 6 bytes for the `q` line, 12 for each coupler and for each gate.
+pub const OUTPUT: usize = 6 + 12 * Job::COUPLERS + 12 * tally::LARGEST;
 
 // Lent to the reader for each list: no text within its limit has more lines, so that 8 cannot hide 2 or 4.
-pub const LINES: usize = 10922;
+const LINES: usize = 10922;
 
-// Lent to the laying: the largest B.
-pub const LARGEST: usize = 10744;
-
-fn print_refusal(v: Verdict, out: &mut [u8]) -> usize
-    ensures { λ r. ⌜ (r ≡ lineLength (refusalOf v) (length (now (out .entry)))) × (now (out .exit) ≡ lineAfter (refusalOf v) (now (out .entry))) ⌝ }
+fn print_refusal(v: Verdict, out: &mut [u8; OUTPUT]) -> usize
+    ensures { λ r. ⌜ Prints (refusalOf v) (now (out .entry)) r (now (out .exit)) ⌝ }
 {
     print::refusal(verdict::number(v), verdict::place(v), out)
 }
 
-// The couplers in order, and the gates as they are.
-fn print_job(n: usize, couplers: &[u32], gates: &[u32], out: &mut [u8]) -> usize
-    ensures { λ r. ⌜ (r ≡ lineLength (jobText n (now (couplers .entry)) (now (gates .entry)) (length (now (out .entry)))) (length (now (out .entry)))) × (now (out .exit) ≡ lineAfter (jobText n (now (couplers .entry)) (now (gates .entry)) (length (now (out .entry)))) (now (out .entry))) ⌝ }
+// The couplers in order, and the gates as they are, of which the writer accepts all.
+fn print_job(n: usize, couplers: &[u32], gates: &[u32], out: &mut [u8; OUTPUT]) -> usize
+    requires { ⌜ numberOf (judgedText n (orderedList (nearOf n (now couplers))) (now gates) mostPrinted) ≡ 0 ⌝ }
+    ensures { λ r. ⌜ Prints (textOf n (orderedList (nearOf n (now (couplers .entry)))) (now (gates .entry))) (now (out .entry)) r (now (out .exit)) ⌝ }
 {
     let ordered = couplers::in_order(couplers::near(couplers, n));
     let records = ordered.records;
     let len = ordered.len;
-    match write::write(n, &records[..len], gates, &mut *out) {
+    match write::write(n, &records[..len], gates, out) {
         Writing::Written { bytes } => bytes,
         Writing::Refused { verdict } => print_refusal(verdict, out),
     }
 }
 
-fn lay_job(n: usize, couplers: &[u32], gates: &[u32], out: &mut [u8]) -> usize
-    ensures { λ r. ⌜ (r ≡ lineLength (laidJob n (now (couplers .entry)) (now (gates .entry)) (length (now (out .entry)))) (length (now (out .entry)))) × (now (out .exit) ≡ lineAfter (laidJob n (now (couplers .entry)) (now (gates .entry)) (length (now (out .entry)))) (now (out .entry))) ⌝ }
+fn lay_job(n: usize, couplers: &[u32], gates: &[u32], out: &mut [u8; OUTPUT]) -> usize
+    ensures { λ r. ⌜ Prints (laidJob n (now (couplers .entry)) (now (gates .entry))) (now (out .entry)) r (now (out .exit)) ⌝ }
 {
-    let mut laid = [0u32; LARGEST];
+    let mut laid = [0u32; tally::LARGEST];
     match lay::lay(n, couplers, gates, &mut laid) {
         Answer::Laid {
             records,
@@ -61,11 +67,11 @@ fn lay_job(n: usize, couplers: &[u32], gates: &[u32], out: &mut [u8]) -> usize
     }
 }
 
-fn count_job(n: usize, couplers: &[u32], gates: &[u32], out: &mut [u8]) -> usize
-    ensures { λ r. ⌜ (r ≡ lineLength (countedJob n (now (couplers .entry)) (now (gates .entry))) (length (now (out .entry)))) × (now (out .exit) ≡ lineAfter (countedJob n (now (couplers .entry)) (now (gates .entry))) (now (out .entry))) ⌝ }
+fn count_job(n: usize, couplers: &[u32], gates: &[u32], out: &mut [u8; OUTPUT]) -> usize
+    ensures { λ r. ⌜ Prints (countedJob n (now (couplers .entry)) (now (gates .entry))) (now (out .entry)) r (now (out .exit)) ⌝ }
 {
-    let mut laid = [0u32; LARGEST];
-    match lay::lay(n, couplers, gates, &mut laid) {
+    let mut counted = [0u32; tally::LARGEST];
+    match lay::lay(n, couplers, gates, &mut counted) {
         Answer::Laid {
             records: _,
             cnots,
@@ -76,13 +82,24 @@ fn count_job(n: usize, couplers: &[u32], gates: &[u32], out: &mut [u8]) -> usize
     }
 }
 
-// The laying program.
-pub fn lay_text(text: &[u8], out: &mut [u8]) -> usize
-    ensures { λ r. ⌜ (r ≡ lineLength (laidText (now (text .entry)) (length (now (out .entry)))) (length (now (out .entry)))) × (now (out .exit) ≡ lineAfter (laidText (now (text .entry)) (length (now (out .entry)))) (now (out .entry))) ⌝ }
+// The first n bytes, or all where there are fewer.
+fn front(bytes: &[u8], n: usize) -> &[u8]
+    ensures { λ r. ⌜ now r ≡ take n (now (bytes .entry)) ⌝ }
+{
+    if bytes.len() <= n {
+        return bytes;
+    }
+    &bytes[..n]
+}
+
+// The laying program: `len` bytes of `input` were read.
+pub fn lay_text(input: &[u8; INPUT], len: usize, out: &mut [u8; OUTPUT]) -> usize
+    ensures { λ r. ⌜ length (now (input .entry)) ≡ mostBytes + 1 ⌝ }
+    ensures { λ r. ⌜ Prints (laidText (take len (now (input .entry)))) (now (out .entry)) r (now (out .exit)) ⌝ }
 {
     let mut couplers = [0u32; LINES];
     let mut gates = [0u32; LINES];
-    match read::read(text, &mut couplers, &mut gates) {
+    match read::read(front(input, len), &mut couplers, &mut gates) {
         Reading::Read { job } => {
             let c = job.couplers;
             let g = job.gates;
@@ -93,12 +110,13 @@ pub fn lay_text(text: &[u8], out: &mut [u8]) -> usize
 }
 
 // The counting program.
-pub fn count_text(text: &[u8], out: &mut [u8]) -> usize
-    ensures { λ r. ⌜ (r ≡ lineLength (countedText (now (text .entry))) (length (now (out .entry)))) × (now (out .exit) ≡ lineAfter (countedText (now (text .entry))) (now (out .entry))) ⌝ }
+pub fn count_text(input: &[u8; INPUT], len: usize, out: &mut [u8; OUTPUT]) -> usize
+    ensures { λ r. ⌜ length (now (input .entry)) ≡ mostBytes + 1 ⌝ }
+    ensures { λ r. ⌜ Prints (countedText (take len (now (input .entry)))) (now (out .entry)) r (now (out .exit)) ⌝ }
 {
     let mut couplers = [0u32; LINES];
     let mut gates = [0u32; LINES];
-    match read::read(text, &mut couplers, &mut gates) {
+    match read::read(front(input, len), &mut couplers, &mut gates) {
         Reading::Read { job } => {
             let c = job.couplers;
             let g = job.gates;

@@ -3,9 +3,9 @@ use libc::STDIN_FILENO;
 use libc::STDOUT_FILENO;
 
 fn main() {
-    let mut text = [0u8; console::INPUT];
-    let n = io::read_full(STDIN_FILENO, &mut text);
+    let mut input = [0u8; console::INPUT];
+    let n = io::read_full(STDIN_FILENO, &mut input);
     let mut out = [0u8; console::OUTPUT];
-    let k = console::lay_text(&text[..n], &mut out);
+    let k = console::lay_text(&input, n, &mut out);
     io::write_all(STDOUT_FILENO, &out[..k]);
 }

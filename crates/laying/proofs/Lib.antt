@@ -13,7 +13,9 @@ pub mod Tabled
 pub mod Walking
 pub mod Accepting
 pub mod Accepted
+pub mod Enough
 pub mod Answering
+pub mod Said
 pub mod Linking
 pub mod Each
 pub mod Twice

@@ -4,5 +4,8 @@ pub mod Lines
 pub mod Runs
 pub mod Loops
 pub mod Answers
+pub mod Said
 pub mod Fronts
 pub mod Misfits
+pub mod Sizes
+pub mod Enough

@@ -31,15 +31,28 @@ fn closes(text: &[u8]) -> bool {
     text[n - 4] == 10
 }
 
+// What the programs read of a text: as many bytes as go into their memory.
+fn read(text: &[u8], input: &mut [u8]) {
+    for i in 0..text.len() {
+        if i < input.len() {
+            input[i] = text[i];
+        }
+    }
+}
+
 fn lay(text: &[u8]) {
+    let mut input = [0u8; console::INPUT];
+    read(text, &mut input);
     let mut out = [0u8; console::OUTPUT];
-    let k = console::lay_text(text, &mut out);
+    let k = console::lay_text(&input, text.len(), &mut out);
     io::write_all(STDOUT_FILENO, &out[..k]);
 }
 
 fn count(text: &[u8]) {
+    let mut input = [0u8; console::INPUT];
+    read(text, &mut input);
     let mut out = [0u8; console::OUTPUT];
-    let k = console::count_text(text, &mut out);
+    let k = console::count_text(&input, text.len(), &mut out);
     io::write_all(STDOUT_FILENO, &out[..k]);
 }
 

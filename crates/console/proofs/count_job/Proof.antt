@@ -1,9 +1,10 @@
 -- `console::count_job` meets its contract. Assumes nothing.
 use Prim.Native.Nat.{ℕ}
 use lib.ListN.{length-replicate}
-use Rattle.console.specs.Printed.{largest}
+use Rattle.tallies.specs.Tally.{boundOf, largest}
 use Rattle.console.proofs.Choosing.{prints-same}
-use Rattle.console.proofs.Laying.{counted-job, counted-refused}
+use Rattle.console.proofs.Whole.{line-whole}
+use Rattle.console.proofs.Laying.{counted-fits, counted-job, counted-refused}
 use borrow.Author.Needs.{needs}
 use Rattle.console.proofs.count_job.Statement.{statement}
 use Rattle.console.proofs.count_job.Tie as tie
@@ -26,17 +27,13 @@ enum-known-verdict c = search needs
 print-refusal-requires : tie.Need-print-refusal-requires
 print-refusal-requires c κs = search needs
 
-same-length : tie.Need-same-length
-same-length c = search needs
-
 returns : tie.Need-returns
-returns c = prints-same _ _ (c .before .before .before .before .before .before .before .before .before .before .before .before .before .args .out .now) _ _ (counted-job _ _ _ _ _ (length-replicate {A = ℕ} largest 0) (c .before .before .before .before .before .before .before .before .lay .ensures .0) _ _ _ _ (c .before .before .before .before .before .cnots .given .1)) (c .before .before .counts .ensures)
-
-same-length-2 : tie.Need-same-length-2
-same-length-2 c = search needs
+unfolding boundOf
+returns c = prints-same (counted-job _ _ _ _ _ (length-replicate {A = ℕ} largest 0) (c .before .before .before .before .before .before .lay .ensures .0) _ _ _ _ (c .before .before .before .cnots .given .1)) (line-whole (c .before .before .before .before .before .before .before .before .before .before .args .out .now) _ _ (c .before .counts-arg .given .0 .1) _ (counted-fits _ _ _ _ _ (length-replicate {A = ℕ} largest 0) (c .before .before .before .before .before .before .lay .ensures .0) _ _ _ _ (c .before .before .before .cnots .given .1)) (c .counts .ensures))
 
 returns-2 : tie.Need-returns-2
-returns-2 c = prints-same _ _ (c .before .before .before .before .before .before .before .before .before .before .before .before .before .args .out .now) _ _ (counted-refused _ _ _ _ _ (length-replicate {A = ℕ} largest 0) (c .before .before .before .before .before .before .before .before .lay .ensures .0) _ (c .before .before .before .before .before .verdict .given .1)) (c .before .before .print-refusal .ensures)
+unfolding boundOf
+returns-2 c = prints-same (counted-refused _ _ _ _ _ (length-replicate {A = ℕ} largest 0) (c .before .before .before .before .before .before .lay .ensures .0) _ (c .before .before .before .verdict .given .1)) (c .print-refusal .ensures)
 
 pub count-job-spec : {M : Type 1} → statement M
 count-job-spec =
@@ -48,7 +45,5 @@ count-job-spec =
     counts-requires
     enum-known-verdict
     print-refusal-requires
-    same-length
     returns
-    same-length-2
     returns-2)

@@ -1,9 +1,9 @@
 -- `console::lay_job` meets its contract. Assumes nothing.
 use Prim.Native.Nat.{ℕ}
 use lib.ListN.{length-replicate}
-use Rattle.console.specs.Printed.{largest}
+use Rattle.tallies.specs.Tally.{boundOf, largest}
 use Rattle.console.proofs.Choosing.{prints-same}
-use Rattle.console.proofs.Laying.{laid-fits, laid-long, laid-job, laid-refused}
+use Rattle.console.proofs.Laying.{laid-fits, laid-long, laid-accepted, laid-job, laid-refused}
 use borrow.Author.Needs.{needs}
 use Rattle.console.proofs.lay_job.Statement.{statement}
 use Rattle.console.proofs.lay_job.Tie as tie
@@ -18,13 +18,16 @@ enum-known-records : tie.Need-enum-known-records
 enum-known-records c = search needs
 
 array-share-prefix-laid : tie.Need-array-share-prefix-laid
+unfolding boundOf
 array-share-prefix-laid c = laid-fits _ _ _ _ _ _ _ _ _ _ (length-replicate {A = ℕ} largest 0) (c .before .before .before .before .lay .ensures .0) (c .before .records .given .1) (c .before .before .before .before .lay .ensures .1)
 
 slice-aggregate-print-job : tie.Need-slice-aggregate-print-job
+unfolding boundOf
 slice-aggregate-print-job c = laid-long _ _ _ _ _ _ _ _ _ _ (length-replicate {A = ℕ} largest 0) (c .before .before .before .before .before .lay .ensures .0) (c .before .before .records .given .1) (c .before .before .before .before .before .lay .ensures .1)
 
 print-job-requires : tie.Need-print-job-requires
-print-job-requires c κs = search needs
+unfolding boundOf
+print-job-requires c κs = laid-accepted _ _ _ _ _ _ _ _ _ _ (length-replicate {A = ℕ} largest 0) (c .before .before .before .before .before .before .lay .ensures .0) (c .before .before .before .records .given .1) (c .before .before .before .before .before .before .lay .ensures .1)
 
 enum-known-verdict : tie.Need-enum-known-verdict
 enum-known-verdict c = search needs
@@ -32,17 +35,13 @@ enum-known-verdict c = search needs
 print-refusal-requires : tie.Need-print-refusal-requires
 print-refusal-requires c κs = search needs
 
-same-length : tie.Need-same-length
-same-length c = search needs
-
 returns : tie.Need-returns
-returns c = prints-same _ _ (c .before .before .before .before .before .before .before .before .before .before .before .before .before .before .args .out .now) _ _ (laid-job _ _ _ _ _ _ _ _ _ _ (length-replicate {A = ℕ} largest 0) (c .before .before .before .before .before .before .before .before .before .lay .ensures .0) (c .before .before .before .before .before .before .records .given .1) (c .before .before .before .before .before .before .before .before .before .lay .ensures .1) _) (c .before .before .print-job .ensures)
-
-same-length-2 : tie.Need-same-length-2
-same-length-2 c = search needs
+unfolding boundOf
+returns c = prints-same (laid-job _ _ _ _ _ _ _ _ _ _ (length-replicate {A = ℕ} largest 0) (c .before .before .before .before .before .before .before .lay .ensures .0) (c .before .before .before .before .records .given .1) (c .before .before .before .before .before .before .before .lay .ensures .1)) (c .print-job .ensures)
 
 returns-2 : tie.Need-returns-2
-returns-2 c = prints-same _ _ (c .before .before .before .before .before .before .before .before .before .before .before .before .before .args .out .now) _ _ (laid-refused _ _ _ _ _ (length-replicate {A = ℕ} largest 0) (c .before .before .before .before .before .before .before .before .lay .ensures .0) _ (c .before .before .before .before .before .verdict .given .1) _) (c .before .before .print-refusal .ensures)
+unfolding boundOf
+returns-2 c = prints-same (laid-refused _ _ _ _ _ (length-replicate {A = ℕ} largest 0) (c .before .before .before .before .before .before .lay .ensures .0) _ (c .before .before .before .verdict .given .1)) (c .print-refusal .ensures)
 
 pub lay-job-spec : {M : Type 1} → statement M
 lay-job-spec =
@@ -56,7 +55,5 @@ lay-job-spec =
     print-job-requires
     enum-known-verdict
     print-refusal-requires
-    same-length
     returns
-    same-length-2
     returns-2)

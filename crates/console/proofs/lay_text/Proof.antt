@@ -1,12 +1,16 @@
 -- `console::lay_text` meets its contract. Assumes nothing.
+use mathlib.Core.Path.{ap, _∙_}
 use Prim.Native.Nat.{ℕ}
 use lib.ListN.{length-replicate}
-use Rattle.console.specs.Printed.{mostLines}
+use Rattle.console.specs.Printed.{mostLines, laidText}
 use Rattle.console.proofs.Choosing.{prints-same}
 use Rattle.console.proofs.Reading.{couplers-fit, couplers-long, gates-fit, gates-long, laid-read, laid-unread}
 use borrow.Author.Needs.{needs}
 use Rattle.console.proofs.lay_text.Statement.{statement}
 use Rattle.console.proofs.lay_text.Tie as tie
+
+front-requires : tie.Need-front-requires
+front-requires c κs = search needs
 
 slice-aggregate-read : tie.Need-slice-aggregate-read
 slice-aggregate-read c = search needs
@@ -41,22 +45,17 @@ enum-known-verdict c = search needs
 print-refusal-requires : tie.Need-print-refusal-requires
 print-refusal-requires c κs = search needs
 
-same-length : tie.Need-same-length
-same-length c = search needs
-
 returns : tie.Need-returns
-returns c = prints-same _ _ (c .before .before .before .before .before .before .before .before .before .before .before .before .before .before .before .before .args .out .now) _ _ (laid-read _ _ _ _ _ (length-replicate {A = ℕ} mostLines 0) (length-replicate {A = ℕ} mostLines 0) _ _ (c .before .before .before .before .before .before .before .before .before .before .before .read .ensures .0) (c .before .before .before .before .before .before .before .job .given .1) (c .before .before .before .before .before .before .before .before .before .before .before .read .ensures .1) (c .before .before .before .before .before .before .before .before .before .before .before .read .ensures .2) _) (c .before .before .lay-job .ensures)
-
-same-length-2 : tie.Need-same-length-2
-same-length-2 c = search needs
+returns c = (c .before .before .before .before .before .before .before .before .before .before .before .before .before .front-arg .given .0, prints-same (laid-read _ _ _ _ _ (length-replicate {A = ℕ} mostLines 0) (length-replicate {A = ℕ} mostLines 0) _ _ (c .before .before .before .before .before .before .before .before .before .read .ensures .0) (c .before .before .before .before .before .job .given .1) (c .before .before .before .before .before .before .before .before .before .read .ensures .1) (c .before .before .before .before .before .before .before .before .before .read .ensures .2) ∙ ap laidText (c .before .before .before .before .before .before .before .before .before .before .before .before .front .ensures)) (c .lay-job .ensures))
 
 returns-2 : tie.Need-returns-2
-returns-2 c = prints-same _ _ (c .before .before .before .before .before .before .before .before .before .before .before .before .before .before .args .out .now) _ _ (laid-unread _ _ _ (length-replicate {A = ℕ} mostLines 0) (length-replicate {A = ℕ} mostLines 0) _ _ (c .before .before .before .before .before .before .before .before .before .read .ensures .0) (c .before .before .before .before .before .verdict .given .1) _) (c .before .before .print-refusal .ensures)
+returns-2 c = (c .before .before .before .before .before .before .before .before .before .before .before .front-arg .given .0, prints-same (laid-unread _ _ _ (length-replicate {A = ℕ} mostLines 0) (length-replicate {A = ℕ} mostLines 0) _ _ (c .before .before .before .before .before .before .before .read .ensures .0) (c .before .before .before .verdict .given .1) ∙ ap laidText (c .before .before .before .before .before .before .before .before .before .before .front .ensures)) (c .print-refusal .ensures))
 
 pub lay-text-spec : {M : Type 1} → statement M
 lay-text-spec =
     tie.close
     (tie.spec
+    front-requires
     slice-aggregate-read
     slice-aggregate-read-2
     read-requires
@@ -68,7 +67,5 @@ lay-text-spec =
     lay-job-requires
     enum-known-verdict
     print-refusal-requires
-    same-length
     returns
-    same-length-2
     returns-2)

@@ -1,7 +1,8 @@
--- `console::print_job` meets its contract: the couplers are those in order, and a refusal wrote nothing. Assumes nothing.
+-- `console::print_job` meets its contract: the couplers are those in order, and the writer accepts. Assumes nothing.
 use mathlib.Core.Path.{ap, _∙_}
+use Rattle.tallies.specs.Tally.{boundOf}
 use Rattle.chip.specs.Ordered.{orderedOf}
-use Rattle.console.proofs.Writing.{order-is, order-long, order-fits, job-written, job-unwritten}
+use Rattle.console.proofs.Writing.{order-is, order-long, order-fits, job-written, never-refused}
 use borrow.Author.Needs.{needs}
 use Rattle.console.proofs.print_job.Statement.{statement}
 use Rattle.console.proofs.print_job.Tie as tie
@@ -30,17 +31,13 @@ enum-known-verdict c = search needs
 print-refusal-requires : tie.Need-print-refusal-requires
 print-refusal-requires c κs = search needs
 
-same-length : tie.Need-same-length
-same-length c = search needs
-
 returns : tie.Need-returns
-returns c = job-written _ _ _ _ _ _ _ (order-is _ _ (c .before .before .before .before .before .before .before .before .before .in-order .ensures ∙ ap orderedOf (c .before .before .before .before .before .before .before .before .before .before .near .ensures))) (c .before .before .before .before .before .write .ensures .0) (c .before .before .before .before .before .write .ensures .1) _ (c .before .bytes .given .1)
-
-same-length-2 : tie.Need-same-length-2
-same-length-2 c = search needs
+unfolding boundOf
+returns c = job-written _ _ _ _ _ _ _ (order-is _ _ (c .before .before .before .before .before .before .before .in-order .ensures ∙ ap orderedOf (c .before .before .before .before .before .before .before .before .near .ensures))) (c .before .before .before .before .write-arg .given .0 .1) (c .before .before .before .before .before .before .before .before .before .before .before .pre) (c .before .before .before .write .ensures .0) (c .before .before .before .write .ensures .1) _ (c .before .bytes .given .1)
 
 returns-2 : tie.Need-returns-2
-returns-2 c = job-unwritten _ _ _ _ _ _ _ (order-is _ _ (c .before .before .before .before .before .before .before .before .before .before .before .before .before .in-order .ensures ∙ ap orderedOf (c .before .before .before .before .before .before .before .before .before .before .before .before .before .before .near .ensures))) (c .before .before .before .before .before .before .before .before .before .write .ensures .0) (c .before .before .before .before .before .before .before .before .before .write .ensures .1) _ (c .before .before .before .before .before .verdict .given .1) _ _ (c .before .before .print-refusal .ensures)
+unfolding boundOf
+returns-2 c = absurd (never-refused _ _ _ _ _ _ _ (order-is _ _ (c .before .before .before .before .before .before .before .before .before .in-order .ensures ∙ ap orderedOf (c .before .before .before .before .before .before .before .before .before .before .near .ensures))) (c .before .before .before .before .before .before .write-arg .given .0 .1) (c .before .before .before .before .before .before .before .before .before .before .before .before .before .pre) (c .before .before .before .before .before .write .ensures .0) (c .before .before .before .before .before .write .ensures .1) _ (c .before .before .before .verdict .given .1))
 
 pub print-job-spec : {M : Type 1} → statement M
 print-job-spec =
@@ -54,7 +51,5 @@ print-job-spec =
     enum-known-bytes
     enum-known-verdict
     print-refusal-requires
-    same-length
     returns
-    same-length-2
     returns-2)

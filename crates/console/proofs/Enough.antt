@@ -1,0 +1,169 @@
+-- The programs lend enough, and read enough. Assumes nothing.
+use mathlib.Core.Path.{_≡_, refl, sym, ap, _∙_}
+use mathlib.Core.Logic.{_≢_}
+use mathlib.Core.Bool.{Bool, true, false}
+use mathlib.Core.List.{List, _∷_}
+use Prim.Native.Nat.{ℕ, _+_, _^_, _/_, _≤_, _<_}
+use native.Mathlib.Omega.{arith}
+use lib.Dec.{eqb, leb, ltb}
+use lib.ListN.{length, getD, take}
+use lib.Seq.{take-all, length-take-le}
+use borrow.Author.Tests.{eqb-true, leb-true, leb-false, ltb-true, ltb-false}
+use Rattle.sets.specs.Pick.{pick}
+use Rattle.verdicts.specs.declared.verdict.Verdict.{Verdict}
+use Rattle.verdicts.specs.declared.verdict.Verdict.the-variants.{LongText}
+use Rattle.verdicts.specs.Verdicts.{numberOf, placeOf}
+use Rattle.tallies.specs.Tally.{largest}
+use Rattle.laying.specs.Verdict.{verdictOf}
+use Rattle.laying.proofs.Demands.{demand-2-never-9}
+use Rattle.laying.proofs.Enough as lays
+use Rattle.lines.specs.Lines.{fieldsText, lineText, textOf, refusalText, countsText}
+use Rattle.lines.proofs.Digits.{digits-small, digits-big}
+use Rattle.reading.specs.Limits.{mostBytes}
+use Rattle.reading.specs.Parsing.{parsed}
+use Rattle.reading.specs.Readings.{couplersIn, gatesIn, jobIn, judgedReading, readVerdict}
+use Rattle.reading.proofs.Answers.{answer-long}
+use Rattle.reading.proofs.Sizes.{place-most}
+use Rattle.reading.proofs.Enough as reads
+use Rattle.text.proofs.Values.{reading-verdict}
+use Rattle.console.specs.Printed.{mostLines, mostPrinted, refusalOf, unless, laidJob, countedJob, laidText, countedText}
+use Rattle.console.proofs.Choosing.{unless-refused}
+use Rattle.console.proofs.Whole.{number-few, refusal-fits, job-fits, counts-fits}
+
+-- ---- the records that are lent to the reader and to the laying
+
+-- a longer text is refused with 11
+pub reading-never-8 : (s : List ℕ) → numberOf (judgedReading s mostLines mostLines) ≢ 8
+reading-never-8 s = reads.reads-never-8 s mostLines mostLines (omega arith) (omega arith)
+
+reading-never-9 : (s : List ℕ) → numberOf (judgedReading s mostLines mostLines) ≢ 9
+reading-never-9 s = reads.reads-never-9 s mostLines mostLines (omega arith) (omega arith)
+
+pub laying-never-8 : (n : ℕ) (couplers gates : List ℕ) → numberOf (verdictOf n couplers gates largest) ≢ 8
+laying-never-8 n couplers gates = lays.lays-never-8 n couplers gates largest (omega arith)
+
+-- ---- what is printed
+
+-- it goes into the memory that is lent, there is something of it, and it is no `x` line with number 8 or 9
+pub record Printable (text : List ℕ) : Type 0 where
+  pub fits : length text ≤ mostPrinted
+  pub some : 0 < length text
+  pub never-8 : (place : ℕ) → text ≢ refusalText 8 place
+  pub never-9 : (place : ℕ) → text ≢ refusalText 9 place
+
+-- behind the tab of an `x` line stands the first digit of its number
+digit : (k place : ℕ) → k < 10 → getD (refusalText k place) 2 0 ≡ 48 + k
+unfolding refusalText lineText fieldsText
+digit k place h = rw (digits-small k h)
+
+digit-ten : (k place : ℕ) → 10 ≤ k → k < 20 → getD (refusalText k place) 2 0 ≡ 49
+unfolding refusalText lineText fieldsText
+digit-ten k place a b = let q : k / 10 ≡ 1 = omega arith in rw (digits-big k a, q, digits-small 1 (omega arith))
+
+other-number : (v : Verdict) (k place : ℕ) → 2 ≤ k → k < 10 → numberOf v ≢ k → refusalOf v ≢ refusalText k place
+unfolding refusalOf
+other-number v k place a b ne e = go (ltb (numberOf v) 10) refl
+  where
+    same : getD (refusalText (numberOf v) (placeOf v)) 2 0 ≡ 48 + k
+    same = ap (λ (l : List ℕ). getD l 2 0) e ∙ digit k place b
+
+    go : (t : Bool) → ltb (numberOf v) 10 ≡ t → ⊥
+    go true q = ne (omega (arith, same, digit (numberOf v) (placeOf v) (ltb-true (numberOf v) 10 q)))
+    go false q = omega (arith, same, digit-ten (numberOf v) (placeOf v) (ltb-false (numberOf v) 10 q) (omega (arith, number-few v)))
+
+refusal-printable : (v : Verdict) → placeOf v < 2 ^ 64 → numberOf v ≢ 8 → numberOf v ≢ 9 → Printable (refusalOf v)
+unfolding refusalOf refusalText lineText
+refusal-printable v h a b = record {
+  fits = refusal-fits v h;
+  some = omega arith;
+  never-8 = λ place. other-number v 8 place (omega arith) (omega arith) a;
+  never-9 = λ place. other-number v 9 place (omega arith) (omega arith) b;
+}
+
+-- a text that begins with another letter
+letter-printable : (letter : ℕ) (text : List ℕ) → letter ≢ 120 → length (letter ∷ text) ≤ mostPrinted → Printable (letter ∷ text)
+unfolding refusalText lineText
+letter-printable letter text ne h = record {
+  fits = h;
+  some = omega arith;
+  never-8 = λ place e. ne (ap (λ (l : List ℕ). getD l 0 0) e);
+  never-9 = λ place e. ne (ap (λ (l : List ℕ). getD l 0 0) e);
+}
+
+either-printable : (v : Verdict) (text : List ℕ) → (numberOf v ≡ 0 → Printable text) → Printable (refusalOf v) → Printable (unless v text)
+unfolding unless
+either-printable v text p q = go (eqb (numberOf v) 0) refl
+  where
+    go : (b : Bool) → eqb (numberOf v) 0 ≡ b → Printable (pick b text (refusalOf v))
+    go true e = p (eqb-true (numberOf v) 0 e)
+    go false e = q
+
+module _ (n : ℕ) (couplers gates : List ℕ) where
+  refused-printable : Printable (refusalOf (verdictOf n couplers gates largest))
+  refused-printable =
+      refusal-printable (verdictOf n couplers gates largest) (omega (arith, lays.place-most n couplers gates largest (omega arith))) (laying-never-8 n couplers gates)
+      (demand-2-never-9 n couplers gates largest)
+
+  job-printable : Printable (laidJob n couplers gates)
+  unfolding laidJob textOf lineText
+  job-printable = either-printable (verdictOf n couplers gates largest) _ (λ z. letter-printable 113 _ (λ e. omega arith) (job-fits n couplers gates z)) refused-printable
+
+  counts-printable : Printable (countedJob n couplers gates)
+  unfolding countedJob countsText lineText
+  counts-printable = either-printable (verdictOf n couplers gates largest) _ (λ z. letter-printable 115 _ (λ e. omega arith) (counts-fits n couplers gates z)) refused-printable
+
+module _ (s : List ℕ) where
+  unread-printable : Printable (refusalOf (judgedReading s mostLines mostLines))
+  unread-printable =
+      refusal-printable (judgedReading s mostLines mostLines) (omega (arith, place-most s mostLines mostLines)) (reading-never-8 s)
+      (reading-never-9 s)
+
+  pub laid-printable : Printable (laidText s)
+  unfolding laidText
+  laid-printable =
+      either-printable (judgedReading s mostLines mostLines) _ (λ z. job-printable (jobIn (parsed s) .qubits) (couplersIn (parsed s)) (gatesIn (parsed s))) unread-printable
+
+  pub counted-printable : Printable (countedText s)
+  unfolding countedText
+  counted-printable =
+      either-printable (judgedReading s mostLines mostLines) _ (λ z. counts-printable (jobIn (parsed s) .qubits) (couplersIn (parsed s)) (gatesIn (parsed s))) unread-printable
+
+-- ---- the bytes that are read
+
+-- a text above its limit is refused with 11, whatever it holds
+module _ (s : List ℕ) (long : mostBytes < length s) where
+  judged-long : judgedReading s mostLines mostLines ≡ LongText
+  judged-long = sym (reading-verdict s mostLines mostLines) ∙ sym (ap readVerdict (answer-long s mostLines mostLines long))
+
+  refused-long : (text : List ℕ) → unless (judgedReading s mostLines mostLines) text ≡ refusalOf LongText
+  refused-long text =
+      sym (unless-refused (judgedReading s mostLines mostLines) text (λ z. let y : _≡_ {A = ℕ} 11 0 = sym (ap numberOf judged-long) ∙ z in omega arith))
+      ∙ ap refusalOf judged-long
+
+  laid-long : laidText s ≡ refusalOf LongText
+  unfolding laidText
+  laid-long = refused-long _
+
+  counted-long : countedText s ≡ refusalOf LongText
+  unfolding countedText
+  counted-long = refused-long _
+
+-- one byte more than a text may have is enough: what lies behind it changes nothing
+module _ (s : List ℕ) where
+  abbrev seen : List ℕ
+  seen = take (mostBytes + 1) s
+
+  either-length : (f : List ℕ → List ℕ) → ((t : List ℕ) → mostBytes < length t → f t ≡ refusalOf LongText) → f seen ≡ f s
+  either-length f long = go (leb (length s) (mostBytes + 1)) refl
+    where
+      go : (b : Bool) → leb (length s) (mostBytes + 1) ≡ b → f seen ≡ f s
+      go true e = ap f (take-all (mostBytes + 1) s (leb-true (length s) (mostBytes + 1) e))
+      go false e =
+          let h : mostBytes + 1 < length s = leb-false (length s) (mostBytes + 1) e in
+          long seen (omega (arith, length-take-le (mostBytes + 1) s (omega arith))) ∙ sym (long s (omega arith))
+
+  pub laid-enough : laidText (take (mostBytes + 1) s) ≡ laidText s
+  laid-enough = either-length laidText laid-long
+
+  pub counted-enough : countedText (take (mostBytes + 1) s) ≡ countedText s
+  counted-enough = either-length countedText counted-long

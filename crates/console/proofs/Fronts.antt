@@ -1,0 +1,27 @@
+-- What stands at the front of lent memory. Assumes nothing.
+use mathlib.Core.Path.{_≡_, sym, ap, ap₂, _∙_}
+use mathlib.Core.List.{List}
+use Prim.Native.Nat.{ℕ, _≤_}
+use native.Mathlib.Omega.{arith}
+use lib.ListN.{length, take, drop, length-append}
+use lib.Seq.{take-append-seam, length-take-le}
+use Rattle.lines.specs.Lent.{onto}
+use Rattle.console.specs.Printed.{Prints}
+
+module _ (new old now′ : List ℕ) (k : ℕ) (e : k ≡ length new) (h : now′ ≡ onto new old) where
+  pub front-fits : k ≤ length now′
+  front-fits = omega (arith, e, ap length h, length-append new (drop (length new) old))
+
+  pub front-long : k ≡ length (take k now′)
+  front-long = sym (length-take-le k now′ front-fits)
+
+  pub front-is : take k now′ ≡ new
+  front-is = ap₂ (λ (i : ℕ) (l : List ℕ). take i l) e h ∙ take-append-seam new (drop (length new) old)
+
+-- what was printed can be taken out again
+module _ {s out out′ : List ℕ} {r : ℕ} (p : Prints s out r out′) where
+  pub printed-fits : r ≤ length out′
+  printed-fits = front-fits s out out′ r (p .bytes) (p .memory)
+
+  pub printed-long : r ≡ length (take r out′)
+  printed-long = front-long s out out′ r (p .bytes) (p .memory)
