@@ -101,7 +101,7 @@ either-printable v text p q = go (eqb (numberOf v) 0) refl
 module _ (n : ℕ) (couplers gates : List ℕ) where
   refused-printable : Printable (refusalOf (verdictOf n couplers gates largest))
   refused-printable =
-      refusal-printable (verdictOf n couplers gates largest) (omega (arith, lays.place-most n couplers gates largest (omega arith))) (laying-never-8 n couplers gates)
+      refusal-printable (verdictOf n couplers gates largest) (omega (arith, lays.place-most n couplers gates largest)) (laying-never-8 n couplers gates)
       (demand-2-never-9 n couplers gates largest)
 
   job-printable : Printable (laidJob n couplers gates)

@@ -30,7 +30,7 @@ pub const INPUT: usize = read::MOST_BYTES + 1;
 pub const OUTPUT: usize = 6 + 12 * Job::COUPLERS + 12 * tally::LARGEST;
 
 // Lent to the reader for each list: no text within its limit has more lines, so that 8 cannot hide 2 or 4.
-const LINES: usize = 10922;
+pub const LINES: usize = 10922;
 
 fn print_refusal(v: Verdict, out: &mut [u8; OUTPUT]) -> usize
     ensures { λ r. ⌜ Prints (refusalOf v) (now (out .entry)) r (now (out .exit)) ⌝ }

@@ -13,7 +13,6 @@ pub mod Tabled
 pub mod Walking
 pub mod Accepting
 pub mod Accepted
-pub mod Enough
 pub mod Answering
 pub mod Said
 pub mod Linking
@@ -22,4 +21,5 @@ pub mod Twice
 pub mod Demands
 pub mod Rows
 pub mod Archive
+pub mod Enough
 pub mod Examples

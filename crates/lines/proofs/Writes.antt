@@ -6,7 +6,7 @@ use Prim.Native.Nat.{ℕ, zero, suc, _+_, _/_, _%_, _≤_, _<_}
 use native.Mathlib.Numerals.{add-one}
 use native.Mathlib.Omega.{arith}
 use lib.ListN.{length, getD, take, drop, length-append, take-append-drop}
-use lib.Seq.{sets, sets-eq, take-suc, take-all}
+use lib.Seq.{sets, sets-eq, take-suc, take-all, length-take-le}
 use lib.Dec.{leb, ltb}
 use borrow.Author.Tests.{ltb-true, ltb-false, leb-true, le-leb, lt-leb}
 use Rattle.sets.specs.Pick.{pick}
@@ -62,6 +62,18 @@ lined-front l line p =
     go : (t : Bool) → leb (length line) (length l) ≡ t → pick t (sets l 0 line) l ≡ pick t (onto line l) l
     go true e = sets-onto line l (leb-true (length line) (length l) e)
     go false e = refl
+
+-- the bytes of a line that was printed are there
+module _ (line l m : List ℕ) (r : ℕ) (p : (r ≡ lineLength line (length l)) × (m ≡ lineAfter line l)) where
+  pub line-within : r ≤ length m
+  line-within = go (leb (length line) (length l)) (p .0) (p .1)
+    where
+      go : (t : Bool) → r ≡ pick t (length line) 0 → m ≡ pick t (onto line l) l → r ≤ length m
+      go true e d = omega (arith, e, ap length d, length-append line (drop (length line) l))
+      go false e d = omega (arith, e)
+
+  pub line-whole : r ≡ length (take r m)
+  line-whole = sym (length-take-le r m line-within)
 
 -- ---- numbers
 
