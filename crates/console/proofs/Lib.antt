@@ -1,5 +1,6 @@
 pub mod Fronts
 pub mod Choosing
+pub mod Passing
 pub mod Whole
 pub mod Reading
 pub mod Laying

@@ -1,44 +1,36 @@
 -- What is printed goes into the memory that is lent, whole: every line, and the text of every laid job, which the writer accepts. Assumes nothing.
-use mathlib.Core.Path.{_≡_, refl, sym, ap, ap₂, subst, _∙_}
-use mathlib.Core.Bool.{Bool, true, false}
+use mathlib.Core.Path.{_≡_, sym, ap, ap₂, subst, _∙_}
+use mathlib.Core.Bool.{Bool, true}
 use mathlib.Core.List.{List, [], _∷_, map}
-use Prim.Native.Nat.{ℕ, zero, suc, _+_, _^_, _≤_, _<_}
+use Prim.Native.Nat.{ℕ, _+_, _^_, _≤_, _<_}
 use native.Mathlib.Omega.{arith}
 use lib.Dec.{leb}
-use lib.ListN.{length, getD, replicate, length-map}
-use borrow.Author.Tests.{le-ltb, le-leb}
+use lib.ListN.{length, replicate, length-map}
+use borrow.Author.Tests.{le-leb}
 use Rattle.sets.specs.Pick.{pick}
-use Rattle.sets.proofs.Finding.{first-is}
 use Rattle.gates.specs.declared.gate.Gate.{Gate}
-use Rattle.gates.specs.declared.gate.Gate.the-variants.{Cnot, Rotation, Bad}
-use Rattle.gates.specs.Limits.{mostQubits, mostCouplers}
-use Rattle.gates.specs.Layout.{packed, gateOf, isBad, recordOf, Good, couplerOf, isWrong}
-use Rattle.gates.specs.All.{All}
-use Rattle.gates.proofs.Records.{gate-record}
+use Rattle.gates.specs.Limits.{mostQubits}
+use Rattle.gates.specs.Layout.{recordOf}
 use Rattle.verdicts.specs.declared.verdict.Verdict.{Verdict}
 use Rattle.verdicts.specs.declared.verdict.Verdict.the-variants.{Accepted, Qubits, ManyCouplers, WrongCoupler, ManyGates, BadGate, ManyParities, Unreachable, Room, Stuck, Line, LongText}
-use Rattle.verdicts.specs.Verdicts.{numberOf, placeOf, firstFailing, judgedQubits, wrongAt, judgedCouplers, badAt, judgedGates}
-use Rattle.verdicts.proofs.Judged.{then-zero}
+use Rattle.verdicts.specs.Verdicts.{numberOf, placeOf}
 use Rattle.tallies.specs.Tally.{oneCnot, oneRotation, cnotsOf, rotationsOf, layered, layersFrom, highest, depthOf, boundOf, largest}
 use Rattle.tallies.proofs.Tallies.{tally-bounded, one-cnot, one-rotation}
 use Rattle.tallies.proofs.Layers.{highest-layered, highest-none}
-use Rattle.chip.specs.Graph.{Near}
 use Rattle.chip.specs.Couplers.{nearOf}
 use Rattle.chip.specs.Ordered.{orderedList}
-use Rattle.chip.proofs.Order.{ordered-sound, ordered-few}
-use Rattle.chip.proofs.Neighbours.{coupler-packed, near-below}
-use Rattle.judging.specs.Tests.{judgedJob}
-use Rattle.laying.specs.Layable.{Layable}
+use Rattle.chip.proofs.Order.{ordered-few}
+use Rattle.judging.proofs.Judging.{qubits-few}
 use Rattle.laying.specs.Verdict.{verdictOf, circuitOf}
-use Rattle.laying.proofs.Accepting.{job-layable}
-use Rattle.laying.proofs.Accepted.{circuit-good}
-use Rattle.laying.proofs.Demands.{demand-2-fits}
+use Rattle.laying.proofs.Said.{qubits-passed}
+use Rattle.laying.proofs.Demands.{demand-2, demand-2-fits}
 use Rattle.lines.specs.Lines.{textOf, refusalText, countsText}
 use Rattle.lines.specs.Lent.{onto, lineLength, lineAfter}
 use Rattle.reading.proofs.Sizes.{width-most, line-two, line-three, text-most}
 use Rattle.text.specs.Writings.{judgedText}
 use Rattle.text.proofs.Judging.{judged-room}
 use Rattle.console.specs.Printed.{mostPrinted, Prints, refusalOf}
+use Rattle.console.proofs.Passing.{order-accepted, records-accepted}
 
 -- ---- lines of numbers that fit a word, which have at most 20 digits each
 
@@ -83,46 +75,6 @@ module _ (out out′ : List ℕ) (n : ℕ) (lent : length out ≡ mostPrinted) w
       line-whole (refusalOf v) (refusal-fits v (omega arith))
       (subst (λ (s : List ℕ). (n ≡ lineLength s (length out)) × (out′ ≡ lineAfter s out)) (ap₂ refusalText e d) q)
 
--- ---- the couplers in order pass tests 2 and 3
-
-order-right : (n : ℕ) (xs : List ℕ) → n ≤ 20 → (k : ℕ) → k < length (orderedList (nearOf n xs)) → isWrong (couplerOf n (getD (orderedList (nearOf n xs)) k 0)) ≡ false
-order-right n xs few k h = go (ordered-sound (nearOf n xs) k h)
-  where
-    go : (a b : ℕ) × (a < b) × (b < 20) × Near (nearOf n xs) a b × (getD (orderedList (nearOf n xs)) k 0 ≡ packed 0 a b) → isWrong (couplerOf n (getD (orderedList (nearOf n xs)) k 0)) ≡ false
-    go (a, b, l, m, r, q) =
-        let u = near-below n xs a b r in
-        ap (λ (x : ℕ). isWrong (couplerOf n x)) q ∙ ap isWrong (coupler-packed n a b (omega arith) (u .0) (u .1) (λ (z : a ≡ b). omega arith))
-
-order-accepted : (n : ℕ) (xs : List ℕ) → n ≤ 20 → judgedCouplers n (orderedList (nearOf n xs)) ≡ Accepted
-unfolding judgedCouplers wrongAt firstFailing
-order-accepted n xs few =
-    let L = orderedList (nearOf n xs) in
-    let f : ℕ → Bool = λ k. isWrong (couplerOf n (getD L k 0)) in
-    let w : wrongAt n L ≡ length L = first-is f (length L) (length L) (omega arith) (λ (z : length L < length L). absurd (omega arith)) (order-right n xs few) in
-    ap₂ (λ (s t : Bool). pick s ManyCouplers (pick t (WrongCoupler (wrongAt n L)) Accepted)) (le-ltb mostCouplers (length L) (ordered-few (nearOf n xs))) (le-ltb (wrongAt n L) (length L) (omega (arith, w)))
-
--- ---- the records of good gates pass test 5
-
-good-right : (n : ℕ) (g : Gate) → Good n g → isBad g ≡ false
-unfolding Good
-good-right n (Cnot c t) h = refl
-good-right n (Rotation q a) h = refl
-good-right n Bad h = absurd h
-
-records-right : (n : ℕ) (gs : List Gate) → n ≤ 256 → All (Good n) gs → (k : ℕ) → k < length (map recordOf gs) → isBad (gateOf n (getD (map recordOf gs) k 0)) ≡ false
-unfolding All
-records-right n [] few a k h = absurd (omega arith)
-records-right n (g ∷ gs) few a zero h = ap isBad (gate-record n g few (a .0)) ∙ good-right n g (a .0)
-records-right n (g ∷ gs) few a (suc k) h = records-right n gs few (a .1) k (omega arith)
-
-records-accepted : (n : ℕ) (gs : List Gate) → n ≤ 256 → All (Good n) gs → judgedGates n (map recordOf gs) ≡ Accepted
-unfolding judgedGates badAt firstFailing
-records-accepted n gs few a =
-    let G = map recordOf gs in
-    let f : ℕ → Bool = λ k. isBad (gateOf n (getD G k 0)) in
-    let w : badAt n G ≡ length G = first-is f (length G) (length G) (omega arith) (λ (z : length G < length G). absurd (omega arith)) (records-right n gs few a) in
-    ap (λ (t : Bool). pick t (BadGate (badAt n G)) Accepted) (le-ltb (badAt n G) (length G) (omega (arith, w)))
-
 -- ---- no count of a list of gates is larger than the list
 
 layers-most : (gs : List Gate) (L : List ℕ) → highest (layersFrom gs L) ≤ length gs + highest L
@@ -142,43 +94,35 @@ rotations-most : (gs : List Gate) → rotationsOf gs ≤ length gs
 unfolding rotationsOf
 rotations-most gs = tally-bounded oneRotation one-rotation gs
 
--- ---- a laid job is written
+-- ---- an accepted job
 
 module _ (n : ℕ) (xs ys : List ℕ) (e : numberOf (verdictOf n xs ys largest) ≡ 0) where
+  abbrev circuit : List Gate
+  circuit = circuitOf n xs ys
+
   abbrev es : List ℕ
   es = orderedList (nearOf n xs)
 
   abbrev gs : List ℕ
-  gs = map recordOf (circuitOf n xs ys)
+  gs = map recordOf circuit
 
-  passed : numberOf (judgedJob n xs ys largest) ≡ 0
-  unfolding verdictOf
-  passed = then-zero (judgedJob n xs ys largest) _ e .0
+  few : n ≤ mostQubits
+  few = qubits-few n (qubits-passed n xs ys largest e) .1
 
-  qubits : numberOf (judgedQubits n) ≡ 0
-  unfolding judgedJob
-  qubits = then-zero (judgedQubits n) _ passed .0
-
-  layable : Layable n xs ys
-  layable = job-layable n xs ys largest passed
+  short : length circuit ≤ largest
+  short = demand-2-fits n xs ys largest e
 
   pub job-fits : length (textOf n es gs) ≤ mostPrinted
-  job-fits =
-      let few : n ≤ mostQubits = layable .few in
-      omega (arith, text-most n es gs (omega arith), ordered-few (nearOf n xs), demand-2-fits n xs ys largest e, length-map (circuitOf n xs ys) recordOf)
-
-  pub writer-accepts : numberOf (judgedText n es gs mostPrinted) ≡ 0
-  writer-accepts =
-      let few : n ≤ mostQubits = layable .few in
-      sym (ap numberOf (judged-room n es gs mostPrinted qubits (ap numberOf (order-accepted n xs few))
-      (ap numberOf (records-accepted n (circuitOf n xs ys) (omega arith) (circuit-good n xs ys layable)))))
-      ∙ ap (λ (t : Bool). numberOf (pick t Accepted Room)) (le-leb (length (textOf n es gs)) mostPrinted job-fits)
-
-  abbrev circuit : List Gate
-  circuit = circuitOf n xs ys
+  job-fits = omega (arith, text-most n es gs (omega (arith, few)), ordered-few (nearOf n xs), short, length-map circuit recordOf)
 
   pub counts-fits : length (countsText (cnotsOf circuit) (rotationsOf circuit) (depthOf circuit)) ≤ mostPrinted
   unfolding boundOf
   counts-fits =
-      let few : length circuit ≤ largest = demand-2-fits n xs ys largest e in
-      counts-fit (cnotsOf circuit) (rotationsOf circuit) (depthOf circuit) (omega (arith, cnots-most circuit)) (omega (arith, rotations-most circuit)) (omega (arith, depth-most circuit))
+      counts-fit (cnotsOf circuit) (rotationsOf circuit) (depthOf circuit) (omega (arith, short, cnots-most circuit)) (omega (arith, short, rotations-most circuit))
+      (omega (arith, short, depth-most circuit))
+
+  pub writer-accepts : numberOf (judgedText n es gs mostPrinted) ≡ 0
+  writer-accepts =
+      sym (ap numberOf (judged-room n es gs mostPrinted (qubits-passed n xs ys largest e) (ap numberOf (order-accepted n xs few))
+      (ap numberOf (records-accepted n circuit (omega (arith, few)) (demand-2 n xs ys largest e .good)))))
+      ∙ ap (λ (t : Bool). numberOf (pick t Accepted Room)) (le-leb (length (textOf n es gs)) mostPrinted job-fits)

@@ -38,7 +38,7 @@ fn print_refusal(v: Verdict, out: &mut [u8; OUTPUT]) -> usize
     print::refusal(verdict::number(v), verdict::place(v), out)
 }
 
-// The couplers in order, and the gates as they are, of which the writer accepts all.
+// The couplers in order, and the gates as they are. It asks that the writer accepts them, as it does those of every laid job.
 fn print_job(n: usize, couplers: &[u32], gates: &[u32], out: &mut [u8; OUTPUT]) -> usize
     requires { ⌜ numberOf (judgedText n (orderedList (nearOf n (now couplers))) (now gates) mostPrinted) ≡ 0 ⌝ }
     ensures { λ r. ⌜ Prints (textOf n (orderedList (nearOf n (now (couplers .entry)))) (now (gates .entry))) (now (out .entry)) r (now (out .exit)) ⌝ }
