@@ -14,16 +14,17 @@ use Rattle.gates.specs.Layout.{recordOf}
 use Rattle.verdicts.specs.declared.verdict.Verdict.{Verdict}
 use Rattle.verdicts.specs.declared.verdict.Verdict.the-variants.{Accepted, Qubits, ManyCouplers, WrongCoupler, ManyGates, BadGate, ManyParities, Unreachable, Room, Stuck, Line, LongText}
 use Rattle.verdicts.specs.Verdicts.{numberOf, placeOf}
+use Rattle.verdicts.specs.Rows.{Passes1}
+use Rattle.verdicts.proofs.Rows.{test-passed, tests-1}
 use Rattle.tallies.specs.Tally.{oneCnot, oneRotation, cnotsOf, rotationsOf, layered, layersFrom, highest, depthOf, boundOf, largest}
 use Rattle.tallies.proofs.Tallies.{tally-bounded, one-cnot, one-rotation}
 use Rattle.tallies.proofs.Layers.{highest-layered, highest-none}
 use Rattle.chip.specs.Couplers.{nearOf}
 use Rattle.chip.specs.Ordered.{orderedList}
 use Rattle.chip.proofs.Order.{ordered-few}
-use Rattle.judging.proofs.Judging.{qubits-few}
 use Rattle.laying.specs.Verdict.{verdictOf, circuitOf}
-use Rattle.laying.proofs.Said.{qubits-passed}
 use Rattle.laying.proofs.Demands.{demand-2, demand-2-fits}
+use Rattle.laying.proofs.Rows.{rows}
 use Rattle.lines.specs.Lines.{textOf, refusalText, countsText}
 use Rattle.lines.specs.Lent.{onto, lineLength, lineAfter}
 use Rattle.reading.proofs.Sizes.{width-most, line-two, line-three, text-most}
@@ -106,8 +107,11 @@ module _ (n : ℕ) (xs ys : List ℕ) (e : numberOf (verdictOf n xs ys largest) 
   abbrev gs : List ℕ
   gs = map recordOf circuit
 
+  passed : Passes1 n
+  passed = rows n xs ys largest .row-0 .exactly .0 e .0
+
   few : n ≤ mostQubits
-  few = qubits-few n (qubits-passed n xs ys largest e) .1
+  few = passed .1
 
   short : length circuit ≤ largest
   short = demand-2-fits n xs ys largest e
@@ -123,6 +127,6 @@ module _ (n : ℕ) (xs ys : List ℕ) (e : numberOf (verdictOf n xs ys largest) 
 
   pub writer-accepts : numberOf (judgedText n es gs mostPrinted) ≡ 0
   writer-accepts =
-      sym (ap numberOf (judged-room n es gs mostPrinted (qubits-passed n xs ys largest e) (ap numberOf (order-accepted n xs few))
+      sym (ap numberOf (judged-room n es gs mostPrinted (test-passed (tests-1 n) passed) (ap numberOf (order-accepted n xs few))
       (ap numberOf (records-accepted n circuit (omega (arith, few)) (demand-2 n xs ys largest e .good)))))
       ∙ ap (λ (t : Bool). numberOf (pick t Accepted Room)) (le-leb (length (textOf n es gs)) mostPrinted job-fits)

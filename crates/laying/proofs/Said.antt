@@ -1,4 +1,4 @@
--- What an answer of `lay` says of the job and of the lent output, and what an accepted job has passed. Assumes nothing.
+-- What an answer of `lay` says of the job, and of the lent output. Assumes nothing.
 use mathlib.Core.Path.{_≡_, refl, sym, ap, _∙_}
 use mathlib.Core.Bool.{Bool, true, false}
 use mathlib.Core.List.{List, _++_, map}
@@ -11,10 +11,8 @@ use Rattle.sets.specs.Pick.{pick}
 use Rattle.gates.specs.declared.gate.Gate.{Gate}
 use Rattle.gates.specs.Layout.{recordOf}
 use Rattle.verdicts.specs.declared.verdict.Verdict.{Verdict}
-use Rattle.verdicts.specs.Verdicts.{numberOf, judgedQubits}
-use Rattle.verdicts.proofs.Judged.{then-zero}
+use Rattle.verdicts.specs.Verdicts.{numberOf}
 use Rattle.tallies.specs.Tally.{cnotsOf, rotationsOf, depthOf}
-use Rattle.judging.specs.Tests.{judgedJob}
 use Rattle.laying.specs.declared.lay.Answer.the-variants.{Laid, Refused}
 use Rattle.laying.specs.Verdict.{verdictOf, circuitOf, countsOf, answered, outputOf}
 
@@ -60,12 +58,3 @@ output-front n xs ys out z =
     let C = circuitOf n xs ys in
     ap (λ (b : Bool). pick b (map recordOf C ++ drop (length C) out) out) (eq-eqb (numberOf (verdictOf n xs ys (length out))) 0 z)
     ∙ ap (λ (k : ℕ). map recordOf C ++ drop k out) (sym (length-map C recordOf))
-
-module _ (n : ℕ) (xs ys : List ℕ) (room : ℕ) (z : numberOf (verdictOf n xs ys room) ≡ 0) where
-  tests-passed : numberOf (judgedJob n xs ys room) ≡ 0
-  unfolding verdictOf
-  tests-passed = then-zero (judgedJob n xs ys room) _ z .0
-
-  pub qubits-passed : numberOf (judgedQubits n) ≡ 0
-  unfolding judgedJob
-  qubits-passed = then-zero (judgedQubits n) _ tests-passed .0
