@@ -2,6 +2,10 @@
 //! each closed by a line `--`, or by a line `-.` where the last LF is not the text's own.
 //!
 //!     generate jobs COUNT SEED                  random, damaged and boundary jobs
+//!     generate parts COUNT SEED BUNDLE TEXT FOLDER
+//!                                               the same jobs, in bundles for the program `vectors`:
+//!                                               the files 0000, 0001 and so on in FOLDER; a text that
+//!                                               such a bundle cannot hold is left out
 //!     generate vectors BUNDLE TEXT              the fixed list of jobs, closed by `--` only
 //!     generate scant BUNDLE                     the same for the program that lends too little;
 //!                                               no other line of these has a `-`
@@ -61,8 +65,9 @@ impl Dice {
 enum Gate {
     Cnot(usize, usize),
     Rot(usize, usize),
+    X(usize),
 }
-use Gate::{Cnot, Rot};
+use Gate::{Cnot, Rot, X};
 
 #[derive(Clone)]
 struct Draft {
@@ -85,6 +90,7 @@ impl Draft {
             text += &match gate {
                 Cnot(c, t) => format!("c\t{c}\t{t}\n"),
                 Rot(q, angle) => format!("r\t{q}\t{angle}\n"),
+                X(q) => format!("n\t{q}\n"),
             };
         }
         text.into_bytes()
@@ -349,12 +355,52 @@ fn crooked(dice: &mut Dice) -> Draft {
     Draft::new(n, &couplers, &draw_terms(&terms))
 }
 
+// ------------------------------------------------------------ flips
+
+/// X gates among the gates: few or many, some of them twice in a row. Rotations behind one are on a
+/// flipped wire, and CNOTs behind one carry its flip.
+fn with_flips(dice: &mut Dice, mut draft: Draft) -> Draft {
+    let many = 1 + draft.gates.len() / 2;
+    for _ in 0..dice.pick(&[1, 2, 3, 5, 8, many]) {
+        let (place, q) = (dice.between(0, draft.gates.len()), dice.below(draft.n.max(1)));
+        let times = if dice.percent(10) { 2 } else { 1 };
+        draft.gates.splice(place..place, vec![X(q); times]);
+    }
+    draft
+}
+
+fn perhaps_with_flips(dice: &mut Dice, draft: Draft) -> Draft {
+    if dice.percent(60) { with_flips(dice, draft) } else { draft }
+}
+
+/// The second rotation takes from the sum what the first has added; a common phase is left.
+fn cancelling_by_flips(dice: &mut Dice, n: usize) -> Vec<Gate> {
+    let (q, angle) = (dice.below(n), any_angle(dice));
+    vec![Rot(q, angle), X(q), Rot(q, angle), X(q)]
+}
+
+/// As `conjugated`, but it is a flip that lets the angles cancel, and the ways there and back carry
+/// flips out of the islands.
+fn conjugated_with_flips(dice: &mut Dice) -> Draft {
+    let n = dice.between(1, 12);
+    let mut draft = draft_of(dice, n);
+    for _ in 0..dice.between(1, 3) {
+        let (inside, away) = (dice.below(12), dice.between(1, 8));
+        let mut between = cancelling_by_flips(dice, n);
+        between.push(X(dice.below(n)));
+        draft.gates.extend(gates_inside(dice, &draft, inside));
+        draft.gates.push(X(dice.below(n)));
+        draft.gates.extend(there_and_back(&between, cnots_anywhere(dice, n, away)));
+    }
+    draft
+}
+
 // ------------------------------------------------------------ a second drawing
 
 fn qubits_of(gate: Gate) -> [usize; 2] {
     match gate {
         Cnot(c, t) => [c, t],
-        Rot(q, _) => [q, q],
+        Rot(q, _) | X(q) => [q, q],
     }
 }
 
@@ -394,6 +440,45 @@ fn redraw_once(dice: &mut Dice, n: usize, gates: &mut Vec<Gate>) {
     }
 }
 
+/// What an X and the gate behind it are when the X is brought behind that gate. Sums, parities and
+/// flips stay; the common phase may change.
+fn pushed(q: usize, behind: Gate) -> Vec<Gate> {
+    match behind {
+        Cnot(c, t) if c == q => vec![behind, X(c), X(t)],
+        Rot(p, angle) if p == q => vec![Rot(p, (65_536 - angle) % 65_536), X(q)],
+        _ => vec![behind, X(q)],
+    }
+}
+
+/// One change of X gates that leaves parities, flips and sums as they are.
+fn push_flip_once(dice: &mut Dice, n: usize, gates: &mut Vec<Gate>) {
+    let flips: Vec<usize> = (0..gates.len()).filter(|&i| matches!(gates[i], X(_))).collect();
+    let place = dice.between(0, gates.len());
+    match dice.below(6) {
+        0 => drop(gates.splice(place..place, [X(dice.below(n)); 2])),
+        1 => drop(gates.splice(place..place, cancelling_by_flips(dice, n))),
+        _ if flips.is_empty() => {}
+        _ => {
+            let place = dice.pick(&flips);
+            if let (X(q), Some(&behind)) = (gates[place], gates.get(place + 1)) {
+                gates.splice(place..=place + 1, pushed(q, behind));
+            }
+        }
+    }
+}
+
+fn redrawn_with_flips(dice: &mut Dice, draft: &Draft) -> Draft {
+    let mut other = draft.clone();
+    for _ in 0..dice.between(1, 40) {
+        push_flip_once(dice, other.n, &mut other.gates);
+        if dice.percent(30) {
+            redraw_once(dice, other.n, &mut other.gates);
+        }
+    }
+    rewrite_couplers(dice, &mut other.couplers);
+    other
+}
+
 fn redrawn(dice: &mut Dice, draft: &Draft) -> Draft {
     let mut other = draft.clone();
     for _ in 0..dice.between(1, 30) {
@@ -408,6 +493,11 @@ fn redrawn(dice: &mut Dice, draft: &Draft) -> Draft {
 fn with_gates(n: usize, count: usize) -> Draft {
     let gates: Vec<Gate> = (0..count).map(|i| Rot(i % n, 1 + i % 7)).collect();
     Draft::new(n, &line(n), &gates)
+}
+
+/// An even number of X on a wire is none.
+fn with_x(n: usize, count: usize) -> Draft {
+    Draft::new(n, &line(n), &(0..count).map(|i| X(i % n)).collect::<Vec<_>>())
 }
 
 fn with_couplers(count: usize) -> Draft {
@@ -427,13 +517,29 @@ fn with_parities(n: usize, count: usize, angle: usize) -> Draft {
     Draft::new(n, &line(n), &gates)
 }
 
+/// Each parity bears a rotation on a wire that is not flipped and one on a flipped wire.
+fn with_parities_met_twice(n: usize, count: usize) -> Draft {
+    let walk = with_parities(n, count, 1);
+    let twice = |&gate: &Gate| match gate {
+        Rot(q, angle) => vec![gate, X(q), Rot(q, angle + 1)],
+        _ => vec![gate],
+    };
+    Draft { gates: walk.gates.iter().flat_map(twice).collect(), ..walk }
+}
+
 fn at_a_limit(dice: &mut Dice) -> Draft {
     let n = dice.between(10, 20);
     let angle = dice.pick(&[0, 1, 65_535]);
-    match dice.below(8) {
+    match dice.below(12) {
         0 | 1 => with_gates(dice.between(1, 20), dice.pick(&[4_095, 4_096, 4_097])),
         2 | 3 => with_couplers(dice.pick(&[189, 190, 191])),
         4 | 5 => with_parities(n, dice.pick(&[255, 256, 257, 300]), angle),
+        8 => with_x(dice.between(1, 20), dice.pick(&[4_095, 4_096, 4_097])),
+        9 => with_parities_met_twice(n, dice.pick(&[128, 129, 255, 256, 257])),
+        10 | 11 => {
+            let walk = with_parities(n, dice.pick(&[255, 256, 257, 300]), angle);
+            with_flips(dice, walk)
+        }
         6 => Draft::new(dice.pick(&[0, 1, 20, 21, 22, 127, 128, 255]), &[], &[]),
         _ => with_gates(dice.pick(&[1, 20, 21]), 1),
     }
@@ -460,7 +566,8 @@ fn with_faults(dice: &mut Dice) -> Draft {
     if dice.percent(40) {
         let place = dice.between(0, draft.gates.len());
         let good = dice.below(n);
-        let bad = [Cnot(good, good), Cnot(bad_qubit, good), Cnot(good, bad_second), Rot(bad_qubit, 5)];
+        let bad =
+            [Cnot(good, good), Cnot(bad_qubit, good), Cnot(good, bad_second), Rot(bad_qubit, 5), X(bad_qubit), X(n)];
         draft.gates.insert(place, dice.pick(&bad));
     }
     if n > 9 && dice.percent(15) {
@@ -488,6 +595,13 @@ const ODD_LINES: &[&str] = &[
     "c\t0\t1", "c\t\t1", "r\t0", "r\t0\t65535", "r\t0\t65536", "r\t255\t1", "r\t256\t1", "x\t1\t0",
     "s\t0\t0\t0", "# remark", "\t", " ", "Q\t1", "E\t0\t1", "ee\t0\t1", "e 0 1", "e\t0 1", "\u{feff}q\t1",
     "h\t0", "r\t0\t-1", "c\t0\t1\r",
+];
+
+/// Beside the others and not among them: the fixed list picks from those by their number.
+const ODD_FLIPS: &[&str] = &[
+    "n", "n\t", "n\t\t", "n\t0", "n\t1", "n\t0\t", "n\t0\t0", "n\t0\t1", "n\t0\t0\t0", "n\t00", "n\t01", "n\t+1",
+    "n\t-1", "n\t2", "n\t20", "n\t255", "n\t256", "n\t0255", "n\t65535", "n\t65536", "n\t4294967296", "n 0", "n0",
+    "nn\t0", "N\t0", "n\t0\r", "n\t 0", "n\ta", "x\t0", "r\t0", "c\t0", "e\t0", "p\t5", "h\t0",
 ];
 
 fn lines_of(text: &[u8]) -> Vec<Vec<u8>> {
@@ -557,9 +671,31 @@ fn damage_whole(dice: &mut Dice, text: &mut Vec<u8>) {
     };
 }
 
+fn insert_odd_flip(dice: &mut Dice, text: &mut Vec<u8>) {
+    let mut lines = lines_of(text);
+    let place = dice.between(0, lines.len());
+    lines.insert(place, [dice.pick(ODD_FLIPS).as_bytes(), b"\n"].concat());
+    *text = lines.concat();
+}
+
+fn damaged_with_flips(dice: &mut Dice) -> Vec<u8> {
+    let n = dice.between(1, 8);
+    let draft = reachable(dice, n, 15);
+    let mut text = with_flips(dice, draft).text();
+    if dice.percent(40) {
+        insert_odd_flip(dice, &mut text);
+        return text;
+    }
+    damage(dice, text)
+}
+
 fn damaged(dice: &mut Dice) -> Vec<u8> {
     let n = dice.between(1, 8);
-    let mut text = reachable(dice, n, 15).text();
+    let text = reachable(dice, n, 15).text();
+    damage(dice, text)
+}
+
+fn damage(dice: &mut Dice, mut text: Vec<u8>) -> Vec<u8> {
     for _ in 0..dice.pick(&[1, 1, 1, 2, 3]) {
         match dice.below(8) {
             0 | 1 => damage_bytes(dice, &mut text),
@@ -574,13 +710,21 @@ fn damaged(dice: &mut Dice) -> Vec<u8> {
 
 /// Bytes, letters of the job text, or whole lines, thrown together.
 fn noise(dice: &mut Dice) -> Vec<u8> {
+    noise_of(dice, b"qecr\t\t\t\n\n0123456789", ODD_LINES)
+}
+
+fn noise_with_flips(dice: &mut Dice) -> Vec<u8> {
+    noise_of(dice, b"qecrnn\t\t\t\n\n012", ODD_FLIPS)
+}
+
+fn noise_of(dice: &mut Dice, letters: &[u8], lines: &[&str]) -> Vec<u8> {
     let length = dice.below(60);
     match dice.below(3) {
         0 => (0..length).map(|_| dice.below(256) as u8).collect(),
-        1 => (0..length).map(|_| dice.pick(b"qecr\t\t\t\n\n0123456789")).collect(),
+        1 => (0..length).map(|_| dice.pick(letters)).collect(),
         _ => {
             let text = format!("q\t{}\n", dice.pick(ODD_NUMBERS));
-            let lines = (0..length / 4).map(|_| dice.pick(ODD_LINES).to_string() + "\n");
+            let lines = (0..length / 4).map(|_| dice.pick(lines).to_string() + "\n");
             (text + &lines.collect::<String>()).into_bytes()
         }
     }
@@ -601,7 +745,9 @@ fn repeated(head: &str, line: &str, size: usize, fill: u8) -> Vec<u8> {
 fn long(dice: &mut Dice) -> Vec<u8> {
     let size = dice.pick(&[65_535, 65_536, 65_536, 65_537, 65_538, 70_000, 200_000]);
     let head = dice.pick(&["q\t1\n", "q\t2\n", "q\t20\n", "q\t21\n", ""]);
-    let line = dice.pick(&["r\t0\t0\n", "r\t19\t65535\n", "e\t0\t1\n", "c\t0\t1\n", "e\t1\t1\n", "\n", "7"]);
+    let line = dice.pick(&[
+        "r\t0\t0\n", "r\t19\t65535\n", "e\t0\t1\n", "c\t0\t1\n", "e\t1\t1\n", "\n", "7", "n\t0\n", "n\t0\n", "n\t19\n",
+    ]);
     let fill = dice.pick(b"\n1\t");
     repeated(head, line, size, fill)
 }
@@ -649,7 +795,22 @@ fn spelled_out(text: &str) -> Vec<u8> {
 
 // ------------------------------------------------------------ random jobs
 
-/// One job, or two drawings of one.
+/// Some drawings of one meaning.
+fn random_drawings(dice: &mut Dice, any: usize) -> Vec<Vec<u8>> {
+    let first = match dice.below(10) {
+        0..2 => conjugated(dice),
+        2..4 => conjugated_with_flips(dice),
+        _ => reachable(dice, any, 60),
+    };
+    if dice.percent(30) {
+        return vec![first.text(), redrawn(dice, &first).text()];
+    }
+    let first = perhaps_with_flips(dice, first);
+    let others = [redrawn_with_flips(dice, &first), redrawn_with_flips(dice, &first)];
+    [&first].into_iter().chain(&others).map(Draft::text).collect()
+}
+
+/// One job, or some drawings of one.
 fn random_jobs(dice: &mut Dice) -> Vec<Vec<u8>> {
     let (small, any) = (dice.between(1, 6), dice.between(1, 20));
     let draft = match dice.below(1_000) {
@@ -658,20 +819,20 @@ fn random_jobs(dice: &mut Dice) -> Vec<Vec<u8>> {
         400..500 => crooked(dice),
         500..512 => reachable(dice, any, 1_500),
         512..525 => many_terms(dice),
-        525..605 => conjugated(dice),
+        525..565 => conjugated(dice),
+        565..605 => conjugated_with_flips(dice),
         605..685 => leaving(dice),
-        685..765 => {
-            let first = if dice.percent(30) { conjugated(dice) } else { reachable(dice, any, 60) };
-            return vec![first.text(), redrawn(dice, &first).text()];
-        }
-        765..785 => at_a_limit(dice),
+        685..765 => return random_drawings(dice, any),
+        765..785 => return vec![at_a_limit(dice).text()],
         785..845 => with_faults(dice),
-        845..965 => return vec![damaged(dice)],
-        965..992 => return vec![noise(dice)],
+        845..905 => return vec![damaged(dice)],
+        905..965 => return vec![damaged_with_flips(dice)],
+        965..980 => return vec![noise(dice)],
+        980..992 => return vec![noise_with_flips(dice)],
         992..996 => return vec![spelled_out(dice.pick(RARE))],
         _ => return vec![long(dice)],
     };
-    vec![draft.text()]
+    vec![perhaps_with_flips(dice, draft).text()]
 }
 
 fn jobs(count: usize, seed: u64) -> Vec<Vec<u8>> {
@@ -878,6 +1039,115 @@ fn one_qubit_and_cancelled() -> Vec<Vec<u8>> {
     drafts.iter().map(Draft::text).collect()
 }
 
+/// Jobs with X gates, spelled as the rare jobs are.
+const FLIPPED: &[&str] = &[
+    // On a flipped wire the sum loses the angle, 65,531 is left, and the common phase gains it, 5.
+    "q 1;n 0;r 0 5;n 0;",
+    "q 1;n 0;r 0 5;",
+    "q 1;r 0 5;n 0;",
+    // One X is laid, two are none, three are one.
+    "q 1;n 0;",
+    "q 1;n 0;n 0;",
+    "q 1;n 0;n 0;n 0;",
+    // A CNOT adds its control's flip to its target's, and not the other way round.
+    "q 2;e 0 1;n 0;c 0 1;",
+    "q 2;e 0 1;n 1;c 0 1;",
+    "q 2;e 0 1;n 0;n 1;c 0 1;",
+    "q 2;e 0 1;n 0;c 0 1;c 0 1;",
+    "q 2;e 0 1;n 0;c 0 1;r 1 9;c 0 1;n 0;",
+    // A CNOT, an X, and the CNOT back: no CNOT is laid, but one X or two.
+    "q 2;e 0 1;c 0 1;n 0;c 0 1;",
+    "q 2;e 0 1;c 0 1;n 1;c 0 1;",
+    // Three CNOTs change the two wires about, and the flip goes with its wire's parity.
+    "q 2;e 0 1;n 0;c 0 1;c 1 0;c 0 1;",
+    // Modulo one turn: sum 65,535 and phase 1; sum 1 and phase 65,535; a phase of one turn is none.
+    "q 1;n 0;r 0 65535;r 0 2;",
+    "q 1;n 0;r 0 65535;",
+    "q 1;n 0;r 0 32768;r 0 32768;n 0;",
+    "q 2;n 0;n 1;r 0 40000;r 1 40000;",
+    // Angles that cancel by a flip leave a phase alone; angle 0 leaves none.
+    "q 1;r 0 5;n 0;r 0 5;n 0;",
+    "q 1;n 0;r 0 0;n 0;",
+    // Island by island, ascending in each, and not behind the last island.
+    "q 4;e 0 2;e 3 1;c 0 2;n 3;n 2;n 1;n 0;r 1 7;",
+    "q 5;e 4 0;e 1 3;n 4;n 3;n 2;n 0;c 4 0;c 0 4;r 2 8;r 3 9;",
+    // Islands without terms, without CNOTs, without couplers.
+    "q 3;e 0 1;r 0 4;n 2;",
+    "q 4;e 0 1;e 2 3;c 0 1;r 1 3;c 0 1;n 3;",
+    "q 3;n 2;n 0;",
+    // The X gates stand behind the ending.
+    "q 3;e 0 1;e 1 2;n 0;c 0 2;r 2 9;c 2 1;n 1;",
+    "q 4;e 0 1;e 1 2;e 2 3;c 1 3;n 1;c 1 0;r 0 200;r 1 300;n 3;r 3 100;c 1 3;",
+    // The depth passes X over: it is 1 and 2 here.
+    "q 2;e 0 1;n 0;r 0 1;r 1 2;n 1;",
+    "q 2;e 0 1;c 0 1;r 0 1;n 0;n 1;",
+    // Drawn three times, the X further back each time; the common phase is 0, 0 and 9.
+    "q 2;e 0 1;c 0 1;r 1 65527;n 1;n 0;",
+    "q 2;e 0 1;c 0 1;r 1 65527;c 0 1;n 0;c 0 1;",
+    "q 2;e 0 1;n 0;c 0 1;r 1 9;",
+    // Refusal 7: angles out of the islands that cancel by a flip, and that would without it.
+    "q 3;e 0 1;c 0 2;r 2 40;n 2;r 2 40;n 2;c 0 2;",
+    "q 3;e 0 1;c 0 2;r 2 40;n 2;r 2 65496;n 2;c 0 2;",
+    // A flip may come from another island; a parity may not.
+    "q 3;e 0 1;c 0 2;n 0;c 0 2;",
+    "q 3;e 0 1;n 0;c 0 2;",
+    "q 3;e 0 1;n 0;c 0 2;r 2 40;c 0 2;",
+    // Refusal 5, alone, with places that count X gates, and before 7.
+    "q 2;n 2;",
+    "q 2;n 1;n 2;",
+    "q 2;n 255;n 1;",
+    "q 1;n 0;n 0;c 0 0;",
+    "q 3;c 0 1;n 3;",
+    "q 20;n 19;n 20;",
+    // Refusals 1 and 3 before it.
+    "q 0;n 0;",
+    "q 21;n 20;",
+    "q 2;e 1 1;n 2;",
+    // Refusal 10: out of order.
+    "n 0;",
+    "n 0;q 1;",
+    "q 2;n 0;e 0 1;",
+    "q 2;e 0 1;n 0;e 0 1;n 1;",
+];
+
+/// An X on every wire, the last wire's first.
+fn flipped_everywhere(couplers: &[(usize, usize)]) -> Draft {
+    let gates: Vec<Gate> = (0..20).rev().map(X).collect();
+    Draft::new(20, couplers, &gates)
+}
+
+/// Three drawings of each meaning, with X gates pushed about.
+fn flipped_thrice() -> Vec<Vec<u8>> {
+    let mut dice = Dice(33);
+    let mut texts = vec![];
+    for n in [1, 2, 3, 5] {
+        let draft = reachable(&mut dice, n, 8);
+        let draft = with_flips(&mut dice, draft);
+        let mut others = [draft.clone(), draft.clone()];
+        for other in &mut others {
+            (0..6).for_each(|_| push_flip_once(&mut dice, n, &mut other.gates));
+        }
+        texts.push(draft.text());
+        texts.extend(others.iter().map(Draft::text));
+    }
+    texts
+}
+
+/// The text of the most gate lines: 65,536 bytes, 16,383 lines. Reading has room for them, so laying
+/// answers, with 4.
+fn most_lines() -> Vec<u8> {
+    repeated("q\t1\n", "n\t0\n", 65_536, b'\n')
+}
+
+fn flipped() -> Vec<Vec<u8>> {
+    let mut texts: Vec<Vec<u8>> = FLIPPED.iter().map(|text| spelled_out(text)).collect();
+    texts.extend([&line(20)[..], &[]].map(|couplers| flipped_everywhere(couplers).text()));
+    texts.extend(flipped_thrice());
+    texts.extend(ODD_FLIPS.iter().map(|line| format!("q\t2\n{line}\n").into_bytes()));
+    texts.push(most_lines());
+    texts
+}
+
 /// The fixed list can only hold texts that are empty or end with LF.
 fn ends_with_lf(text: &[u8]) -> bool {
     text.is_empty() || text.ends_with(b"\n")
@@ -897,13 +1167,14 @@ fn vectors() -> Vec<Vec<u8>> {
     texts.extend(one_qubit_and_cancelled());
     texts.extend((0..60).map(|_| damaged(&mut dice)));
     texts.extend((0..30).map(|_| noise(&mut dice)));
+    texts.extend(flipped());
     texts.retain(|text| ends_with_lf(text));
     texts
 }
 
 // ------------------------------------------------------------ too little lent
 
-/// For the program `scant`: reading is lent 3 couplers and 4 gates, laying 12 records, writing 29
+/// For the program `scant`: reading is lent 3 couplers and 4 gates, laying 49 records, writing 29
 /// bytes. Spelled as the rare jobs are.
 const SCANT: &[&str] = &[
     // Reading: enough, exactly enough, a coupler too many, a gate too many, one of each.
@@ -912,24 +1183,43 @@ const SCANT: &[&str] = &[
     "q 3;e 0 1;e 1 2;e 2 0;e 1 0;c 0 1;c 1 2;c 1 2;c 0 1;",
     "q 3;e 0 1;e 1 2;e 2 0;c 0 1;c 1 2;c 1 2;c 0 1;r 0 1;",
     "q 3;e 0 1;e 1 2;e 2 0;e 1 0;c 0 1;c 1 2;c 1 2;c 0 1;r 0 1;",
+    // The same with X gates: exactly enough, a gate too many.
+    "q 3;e 0 1;n 0;c 0 1;n 1;r 1 5;",
+    "q 3;e 0 1;n 0;c 0 1;n 1;r 1 5;n 2;",
+    "q 1;n 0;n 0;n 0;n 0;",
+    "q 1;n 0;n 0;n 0;n 0;n 0;",
     // Reading, 10 and 8: a coupler or a gate too many, then a line that does not fit.
     "q 3;e 0 1;e 1 2;e 2 0;e 1 0;x;",
     "q 3;r 0 1;r 0 2;r 0 3;r 0 4;r 0 5;e 0 1;",
+    "q 3;n 0;n 1;n 2;n 0;n 1;n 2 0;",
     // Reading, 10 alone.
     "",
-    // Laying: B is 12 for n = 3, t = 0, exactly enough; 13 for n = 2, t = 3, one too few.
-    "q 3;e 0 1;e 1 2;c 0 2;c 2 1;",
-    "q 2;e 0 1;r 0 1;r 1 2;c 0 1;r 1 3;",
-    // Terms count, not parities: here the third sum is 0, and B is 10.
-    "q 2;e 0 1;r 0 1;r 1 2;c 0 1;r 1 0;",
-    // Document 01's example 9; B is 7.
+    "q 3;n;",
+    // Laying: B is 49 for n = 4, t = 3, exactly enough. It is the same with X gates.
+    "q 4;e 0 1;e 1 2;e 2 3;r 0 1;r 1 2;r 2 3;",
+    "q 4;e 0 1;e 1 2;e 2 3;r 0 1;r 1 2;n 2;r 2 3;",
+    "q 4;e 0 1;e 1 2;e 2 3;r 0 1;r 1 2;n 2;r 2 3;n 0;n 1;n 3;c 0 3;",
+    // B is 50 for n = 3, t = 7, one too few.
+    "q 3;e 0 1;e 1 2;r 0 1;r 1 2;r 2 3;c 0 1;r 1 4;c 1 2;r 2 5;c 0 1;c 1 2;r 2 6;c 0 2;c 1 2;r 2 7;",
+    "q 3;e 0 1;e 1 2;n 0;r 0 1;r 1 2;r 2 3;c 0 1;r 1 4;c 1 2;r 2 5;c 0 1;c 1 2;r 2 6;c 0 2;c 1 2;r 2 7;",
+    // Terms count, not parities: here the seventh sum is 0, by its angle and by a flip, and B is 45.
+    "q 3;e 0 1;e 1 2;r 0 1;r 1 2;r 2 3;c 0 1;r 1 4;c 1 2;r 2 5;c 0 1;c 1 2;r 2 6;c 0 2;c 1 2;r 2 0;",
+    "q 3;e 0 1;e 1 2;r 0 1;r 1 2;r 2 3;c 0 1;r 1 4;c 1 2;r 2 5;c 0 1;c 1 2;r 2 6;c 0 2;c 1 2;r 2 7;n 2;r 2 7;",
+    // For n = 4, t = 4 it is 56; a flip takes the fourth sum away, or leaves it.
+    "q 4;e 0 1;r 0 1;r 1 2;r 2 3;r 3 4;n 3;r 3 4;",
+    "q 4;e 0 1;r 0 1;r 1 2;r 2 3;r 3 4;n 3;r 3 65532;",
+    // Document 01's example 9; B is 9.
     "q 2;e 0 1;r 0 1;",
-    // B counts, not the gates laid: here one is laid, and B is 17. For 20 qubits it is 760.
-    "q 3;r 0 1;",
+    // B counts, not the gates laid: here one is laid, and B is 54; then none or one, and B is 45.
+    "q 5;r 0 1;",
+    "q 5;",
+    "q 5;n 4;",
+    // For 20 qubits it is 780.
     "q 20;",
-    // Laying, 7 and 8: a wire leaves its island, and a term does; B is 17.
-    "q 3;e 0 1;r 0 1;c 0 2;",
-    "q 3;e 0 1;c 0 2;r 2 40;c 0 2;",
+    // Laying, 7 and 8: a wire leaves its island, and a term does; B is 54.
+    "q 5;e 0 1;r 0 1;c 0 2;",
+    "q 5;e 0 1;c 0 2;r 2 40;c 0 2;",
+    "q 5;e 0 1;c 0 2;n 2;r 2 40;n 2;c 0 2;",
     // Writing: 28 bytes; 29, exactly enough; 30, one too many.
     "q 2;e 0 1;r 0 1;r 1 2;r 0 7;",
     "q 2;e 0 1;r 0 1;r 1 2;r 0 70;",
@@ -938,29 +1228,61 @@ const SCANT: &[&str] = &[
     "q 20;e 19 9;e 10 11;r 19 50;",
     "q 20;e 19 9;e 10 11;r 19 500;",
     "q 20;e 19 9;e 10 11;r 19 5000;",
+    // The same with X gates.
+    "q 2;n 0;n 1;n 0;n 1;n 0;n 1;",
+    "q 20;n 0;n 1;n 2;n 3;n 4;n 5;",
+    "q 20;n 0;n 1;n 2;n 3;n 4;n 15;",
     // Writing, 3 and 5; the text would go into the room.
     "q 2;e 0 1;e 1 1;r 2 0;",
+    "q 2;e 0 1;e 1 1;n 2;",
     // Writing, 5 and 8.
     "q 2;e 0 1;r 0 65535;c 1 1;r 1 65535;",
+    "q 2;n 0;n 1;n 0;n 1;n 0;n 2;n 1;",
     // A list that is bad at once, in a text that goes into the room.
     "q 0;",
     "q 21;",
     "q 2;e 2 0;",
     "q 2;r 2 0;",
+    "q 2;n 2;",
     // Writing does not test 7.
     "q 3;e 0 1;c 0 2;",
 ];
 
+/// As `fails_4_and_5`, of X gates.
+fn flips_that_fail_4_and_5() -> Draft {
+    let mut draft = Draft::new(3, &line(3), &[X(0); 4_097]);
+    draft.gates[7] = X(3);
+    draft
+}
+
+/// As `with_parities`, on a wire that is flipped at the start: an X brings no parity, but it has a
+/// place.
+fn flip_before_parities(count: usize) -> Draft {
+    let mut draft = with_parities(10, count, 1);
+    draft.gates.insert(0, X(0));
+    draft
+}
+
 /// Writing, 1 and 2, 2 and 3. Writing tests neither 4 nor 6: it says 5 where laying says 4, and 8
-/// where laying says 6.
+/// where laying says 6. The last four are the limits of 4 and 6 with X gates; a parity that is met
+/// twice, flipped and not, counts once.
 fn scant() -> Vec<Vec<u8>> {
-    let long = [fails_1_and_2(), fails_2_and_3(), fails_4_and_5(), fails_6_and_7()];
+    let long = [
+        fails_1_and_2(),
+        fails_2_and_3(),
+        flips_that_fail_4_and_5(),
+        fails_6_and_7(),
+        with_x(1, 4_096),
+        with_x(1, 4_097),
+        with_parities_met_twice(10, 129),
+        flip_before_parities(257),
+    ];
     SCANT.iter().map(|text| spelled_out(text)).chain(long.iter().map(Draft::text)).collect()
 }
 
 // ------------------------------------------------------------ two long texts
 
-/// As long as an accepted job gets, but for some CNOTs: all couplers, 4,096 gates, long lines.
+/// As long as an accepted job gets, but for some CNOTs and X: all couplers, 4,096 gates, long lines.
 /// Every angle goes into a sum, and the last gate brings its parity's sum to 0.
 fn longest() -> Vec<u8> {
     let mut dice = Dice(11);
@@ -968,10 +1290,10 @@ fn longest() -> Vec<u8> {
     rewrite_couplers(&mut dice, &mut couplers);
     let mut gates = vec![];
     while gates.len() < 4_093 {
-        if gates.len() % 64 == 63 {
-            gates.extend(cnots_anywhere(&mut dice, 20, 1));
-        } else {
-            gates.push(Rot(dice.between(10, 19), dice.between(10_000, 65_535)));
+        match gates.len() % 64 {
+            31 => gates.push(X(dice.below(20))),
+            63 => gates.extend(cnots_anywhere(&mut dice, 20, 1)),
+            _ => gates.push(Rot(dice.between(10, 19), dice.between(10_000, 65_535))),
         }
     }
     gates.extend([Cnot(18, 19), Rot(19, 20_000), Rot(19, 45_536)]);
@@ -1024,6 +1346,31 @@ fn bundle(texts: Vec<Vec<u8>>) -> Vec<u8> {
     all
 }
 
+/// As many bundles as are needed to go into the room, with the texts that can be in one.
+fn parts(texts: Vec<Vec<u8>>, room: u64, text_room: u64) -> Vec<Vec<u8>> {
+    let mut parts = vec![vec![]];
+    for text in texts.into_iter().filter(|text| ends_with_lf(text)) {
+        let closed = bundle(vec![text]);
+        if closed.len() as u64 > text_room.min(room) {
+            continue;
+        }
+        if (parts.last().map_or(0, Vec::len) + closed.len()) as u64 > room {
+            parts.push(vec![]);
+        }
+        parts.last_mut().expect("there is a first part").extend(closed);
+    }
+    parts
+}
+
+fn write_parts(parts: &[Vec<u8>], folder: &str) {
+    for (i, part) in parts.iter().enumerate() {
+        if let Err(fault) = std::fs::write(format!("{folder}/{i:04}"), part) {
+            eprintln!("{folder}: {fault}");
+            std::process::exit(1)
+        }
+    }
+}
+
 /// The bundle, if it and each of its texts go into the room that the program has for them.
 fn stored(texts: Vec<Vec<u8>>, room: u64, text_room: u64) -> Vec<u8> {
     let longest = texts.iter().map(|text| text.len() + b"--\n".len()).max().unwrap_or(0);
@@ -1046,6 +1393,11 @@ fn printed(words: &[&str]) -> Option<Vec<u8>> {
     let number = |word: &str| word.parse::<u64>().ok();
     match *words {
         ["jobs", count, seed] => Some(bundle(jobs(number(count)? as usize, number(seed)?))),
+        ["parts", count, seed, room, text_room, folder] => {
+            let texts = jobs(number(count)? as usize, number(seed)?);
+            write_parts(&parts(texts, number(room)?, number(text_room)?), folder);
+            Some(vec![])
+        }
         ["vectors", room, text_room] => Some(stored(vectors(), number(room)?, number(text_room)?)),
         ["scant", room] => Some(stored(without_hyphen(scant()), number(room)?, number(room)?)),
         ["terms", coupling, t, count, seed] => {
@@ -1063,7 +1415,7 @@ fn main() {
     let words: Vec<&str> = words.iter().map(String::as_str).collect();
     let Some(text) = printed(&words) else {
         eprintln!(
-            "generate jobs COUNT SEED | vectors BUNDLE TEXT | scant BUNDLE | \
+            "generate jobs COUNT SEED | parts COUNT SEED BUNDLE TEXT FOLDER | vectors BUNDLE TEXT | scant BUNDLE | \
              terms COUPLING T COUNT SEED | longest | overlong"
         );
         std::process::exit(2)

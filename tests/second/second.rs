@@ -3,13 +3,14 @@
 //!
 //!     second lay     one job in, what the laying program prints out
 //!     second count   one job in, what the counting program prints out
-//!     second many    a bundle of jobs in; for each job what `lay` and then what `count` print
-//!     second bundle  the same, but each of these texts is closed by a line `--`
+//!     second many    a bundle of jobs in; for each job what `lay` and then what `count` print, and
+//!                    behind them the common phase where it is not 0, as the program `vectors` does
+//!     second bundle  the first two of these texts, each closed by a line `--`
 //!     second scant   a bundle of jobs in; for each job what reading, laying and writing answer
 //!                    where too little is lent, as the program `scant` prints it
 //!
-//! Without an argument its own name decides, so links called `lay` and `count` stand in for the
-//! two programs.
+//! Without an argument its own name decides, so links called `lay`, `count` and `vectors` stand in
+//! for these programs.
 //!
 //! A bundle is a row of texts, each closed by a line `--`. A line `-.` closes a text too, whose
 //! last LF is then not its own; so texts without a last LF can be bundled as well.
@@ -34,10 +35,10 @@ struct Lent {
 }
 
 /// By the laying and the counting program.
-const ENOUGH: Lent = Lent { couplers: 10_922, gates: 10_922, laid: 10_744, text: usize::MAX };
+const ENOUGH: Lent = Lent { couplers: 10_922, gates: 16_383, laid: 10_764, text: usize::MAX };
 
 /// By the program `scant`.
-const SCANT: Lent = Lent { couplers: 3, gates: 4, laid: 12, text: 29 };
+const SCANT: Lent = Lent { couplers: 3, gates: 4, laid: 49, text: 29 };
 
 // ---------------------------------------------------------------- gates and refusals
 
@@ -45,6 +46,7 @@ const SCANT: Lent = Lent { couplers: 3, gates: 4, laid: 12, text: 29 };
 enum Gate {
     Cnot(usize, usize),
     Rot(usize, u32),
+    X(usize),
 }
 
 #[derive(Clone, Copy, PartialEq, Debug)]
@@ -81,9 +83,25 @@ fn number(field: &[u8], most: usize) -> Option<usize> {
     if value <= most { Some(value) } else { None }
 }
 
+fn single(fields: &[&[u8]]) -> Option<usize> {
+    match fields {
+        [only] => number(only, 255),
+        _ => None,
+    }
+}
+
 fn pair(fields: &[&[u8]]) -> Option<(usize, usize)> {
     match fields {
         [first, second] => Some((number(first, 255)?, number(second, 65_535)?)),
+        _ => None,
+    }
+}
+
+fn gate(letter: &[u8], fields: &[&[u8]]) -> Option<Gate> {
+    match letter {
+        b"c" => pair(fields).map(|(c, t)| Gate::Cnot(c, t)),
+        b"r" => pair(fields).map(|(q, angle)| Gate::Rot(q, angle as u32)),
+        b"n" => single(fields).map(Gate::X),
         _ => None,
     }
 }
@@ -93,18 +111,15 @@ fn add_line(job: &mut Option<Job>, line: &[u8]) -> Option<()> {
     let fields: Vec<&[u8]> = line.split(|&byte| byte == b'\t').collect();
     let (&letter, rest) = fields.split_first()?;
     let Some(job) = job else {
-        if letter != b"q" || rest.len() != 1 {
+        if letter != b"q" {
             return None;
         }
-        *job = Some(Job { n: number(rest[0], 255)?, couplers: vec![], gates: vec![] });
+        *job = Some(Job { n: single(rest)?, couplers: vec![], gates: vec![] });
         return Some(());
     };
-    let (a, b) = pair(rest)?;
     match letter {
-        b"e" if job.gates.is_empty() => job.couplers.push((a, b)),
-        b"c" => job.gates.push(Gate::Cnot(a, b)),
-        b"r" => job.gates.push(Gate::Rot(a, b as u32)),
-        _ => return None,
+        b"e" if job.gates.is_empty() => job.couplers.push(pair(rest)?),
+        _ => job.gates.push(gate(letter, rest)?),
     }
     Some(())
 }
@@ -268,31 +283,46 @@ impl Walk {
 struct Meaning {
     parity: [u32; MOST_QUBITS],
     mirror: [u32; MOST_QUBITS],
+    flip: [bool; MOST_QUBITS],
     /// Every parity that bears a rotation, also where the sum is 0.
     sums: BTreeMap<u32, u32>,
+    /// The phase common to all states.
+    phase: u32,
 }
 
 impl Meaning {
     /// Refuses with 6 at the gate that brings one parity too many.
     fn of(gates: &[Gate]) -> Result<Meaning, Refusal> {
         let wires: [u32; MOST_QUBITS] = std::array::from_fn(|i| 1 << i);
-        let mut meaning = Meaning { parity: wires, mirror: wires, sums: BTreeMap::new() };
+        let flip = [false; MOST_QUBITS];
+        let mut meaning = Meaning { parity: wires, mirror: wires, flip, sums: BTreeMap::new(), phase: 0 };
         for (place, &gate) in gates.iter().enumerate() {
             match gate {
                 Gate::Cnot(c, t) => {
                     meaning.parity[t] ^= meaning.parity[c];
                     meaning.mirror[c] ^= meaning.mirror[t];
+                    meaning.flip[t] ^= meaning.flip[c];
                 }
-                Gate::Rot(q, angle) => {
-                    let sum = meaning.sums.entry(meaning.parity[q]).or_insert(0);
-                    *sum = (*sum + angle) % FULL_TURN;
-                    if meaning.sums.len() > MOST_PARITIES {
-                        return refuse(6, place);
-                    }
-                }
+                Gate::Rot(q, angle) => meaning.rotate(q, angle),
+                Gate::X(q) => meaning.flip[q] ^= true,
+            }
+            if meaning.sums.len() > MOST_PARITIES {
+                return refuse(6, place);
             }
         }
         Ok(meaning)
+    }
+
+    /// A flipped wire is 1 where its parity is 0: all states get the angle, and those in which the
+    /// parity is 1 give it back.
+    fn rotate(&mut self, q: usize, angle: u32) {
+        let sum = self.sums.entry(self.parity[q]).or_insert(0);
+        if self.flip[q] {
+            *sum = (*sum + FULL_TURN - angle) % FULL_TURN;
+            self.phase = (self.phase + angle) % FULL_TURN;
+        } else {
+            *sum = (*sum + angle) % FULL_TURN;
+        }
     }
 
     fn terms(&self) -> impl Iterator<Item = (u32, u32)> + '_ {
@@ -305,7 +335,7 @@ impl Meaning {
 fn gate_fits(gate: Gate, n: usize) -> bool {
     match gate {
         Gate::Cnot(c, t) => c < n && t < n && c != t,
-        Gate::Rot(q, _) => q < n,
+        Gate::Rot(q, _) | Gate::X(q) => q < n,
     }
 }
 
@@ -355,7 +385,7 @@ fn test_reachable(n: usize, meaning: &Meaning, islands: &[u32]) -> Result<(), Re
 
 /// B, the output records that laying needs for t terms.
 fn bound(n: usize, t: usize) -> usize {
-    2 * (n - 1) * t + t + 2 * n * (n - 1)
+    2 * (n - 1) * t + t + 2 * n * (n - 1) + n
 }
 
 /// Test 8 of laying.
@@ -691,7 +721,21 @@ fn lay_island(island: &Island) -> Vec<Gate> {
     if by_nearness.len() < by_steps.len() { by_nearness } else { by_steps }
 }
 
-fn lay(job: &Job, lent: &Lent) -> Result<Vec<Gate>, Refusal> {
+/// The X gates of an island, which stand behind its ending.
+fn flips_of(qubits: u32, meaning: &Meaning) -> impl Iterator<Item = Gate> + '_ {
+    members(qubits).filter(|&q| meaning.flip[q]).map(Gate::X)
+}
+
+/// What an acceptance returns; the numbers are taken from the gates where they are printed.
+#[derive(PartialEq, Debug)]
+struct Laid {
+    gates: Vec<Gate>,
+    /// The job's common phase less that of the laid gates. They have none: a rotation is laid
+    /// before its island's first X.
+    phase: u32,
+}
+
+fn lay(job: &Job, lent: &Lent) -> Result<Laid, Refusal> {
     test_chip(job)?;
     test_length(job)?;
     test_gates(job)?;
@@ -700,8 +744,12 @@ fn lay(job: &Job, lent: &Lent) -> Result<Vec<Gate>, Refusal> {
     let islands = coupling.islands(job.n);
     test_reachable(job.n, &meaning, &islands)?;
     test_output(job.n, &meaning, lent)?;
-    let lists = islands.iter().map(|&qubits| lay_island(&island_of(qubits, &coupling, &meaning)));
-    Ok(lists.flatten().collect())
+    let mut gates = vec![];
+    for qubits in islands {
+        gates.extend(lay_island(&island_of(qubits, &coupling, &meaning)));
+        gates.extend(flips_of(qubits, &meaning));
+    }
+    Ok(Laid { gates, phase: meaning.phase })
 }
 
 fn depth(gates: &[Gate]) -> usize {
@@ -710,6 +758,7 @@ fn depth(gates: &[Gate]) -> usize {
         let (a, b) = match gate {
             Gate::Cnot(c, t) => (c, t),
             Gate::Rot(q, _) => (q, q),
+            Gate::X(_) => continue,
         };
         let layer = busy_to[a].max(busy_to[b]) + 1;
         busy_to[a] = layer;
@@ -730,6 +779,7 @@ fn job_text(n: usize, couplers: &[(usize, usize)], gates: &[Gate]) -> String {
         text += &match gate {
             Gate::Cnot(c, t) => format!("c\t{c}\t{t}\n"),
             Gate::Rot(q, angle) => format!("r\t{q}\t{angle}\n"),
+            Gate::X(q) => format!("n\t{q}\n"),
         };
     }
     text
@@ -756,17 +806,30 @@ fn lay_text(job: &Job, gates: &[Gate]) -> String {
 }
 
 fn count_text(gates: &[Gate]) -> String {
-    let cnots = cnots_of(gates).len();
-    format!("s\t{}\t{}\t{}\n", cnots, gates.len() - cnots, depth(gates))
+    let rotations = gates.iter().filter(|gate| matches!(gate, Gate::Rot(..))).count();
+    format!("s\t{}\t{}\t{}\n", cnots_of(gates).len(), rotations, depth(gates))
+}
+
+/// The line of a common phase; none where it is 0.
+fn phase_text(phase: u32) -> String {
+    if phase == 0 { String::new() } else { format!("p\t{phase}\n") }
+}
+
+/// What the laying and the counting program print, and the line of the common phase.
+fn all_texts(text: &[u8]) -> [String; 3] {
+    let answer = read_job(text, &ENOUGH).and_then(|job| lay(&job, &ENOUGH).map(|laid| (job, laid)));
+    match answer {
+        Err(refusal) => [refusal_line(refusal), refusal_line(refusal), String::new()],
+        Ok((job, laid)) => {
+            [lay_text(&job, &laid.gates), count_text(&laid.gates), phase_text(laid.phase)]
+        }
+    }
 }
 
 /// What the two programs print.
 fn both_texts(text: &[u8]) -> [String; 2] {
-    let answer = read_job(text, &ENOUGH).and_then(|job| lay(&job, &ENOUGH).map(|gates| (job, gates)));
-    match answer {
-        Err(refusal) => [refusal_line(refusal), refusal_line(refusal)],
-        Ok((job, gates)) => [lay_text(&job, &gates), count_text(&gates)],
-    }
+    let [laid, counted, _] = all_texts(text);
+    [laid, counted]
 }
 
 /// An `x` line for every answer: number and place are 0 where it is an acceptance.
@@ -836,7 +899,7 @@ fn main() {
     let _ = match mode().as_str() {
         "lay" => io::stdout().write_all(both_texts(&read_one())[0].as_bytes()),
         "count" => io::stdout().write_all(both_texts(&read_one())[1].as_bytes()),
-        "many" => print_many(both_texts, ""),
+        "many" | "vectors" => print_many(all_texts, ""),
         "bundle" => print_many(both_texts, "--\n"),
         "scant" => print_many(|text| [scant_text(text)], ""),
         _ => {
@@ -888,13 +951,42 @@ mod too_little_lent {
 
     #[test]
     fn the_bound() {
-        assert_eq!([bound(2, 1), bound(3, 0), bound(2, 3), bound(20, 256)], [7, 12, 13, ENOUGH.laid]);
+        assert_eq!([bound(2, 1), bound(4, 3), bound(3, 7), bound(20, 256)], [9, SCANT.laid, 50, ENOUGH.laid]);
     }
 
     #[test]
     fn example_9() {
         let job = read_job(b"q\t2\ne\t0\t1\nr\t0\t5\n", &ENOUGH).unwrap();
-        assert!(lay(&job, &Lent { laid: 7, ..ENOUGH }).is_ok());
-        assert_eq!(lay(&job, &Lent { laid: 6, ..ENOUGH }), refuse(8, 0));
+        assert!(lay(&job, &Lent { laid: 9, ..ENOUGH }).is_ok());
+        assert_eq!(lay(&job, &Lent { laid: 8, ..ENOUGH }), refuse(8, 0));
+    }
+}
+
+#[cfg(test)]
+mod flips {
+    use super::*;
+
+    #[test]
+    fn a_rotation_between_two_flips() {
+        let texts = ["q\t1\nr\t0\t65531\n", "s\t0\t1\t1\n", "p\t5\n"];
+        assert_eq!(all_texts(b"q\t1\nn\t0\nr\t0\t5\nn\t0\n"), texts);
+    }
+
+    #[test]
+    fn a_cnot_carries_a_flip() {
+        let texts = ["q\t2\ne\t0\t1\nc\t0\t1\nn\t0\nn\t1\n", "s\t1\t0\t1\n", ""];
+        assert_eq!(all_texts(b"q\t2\ne\t0\t1\nn\t0\nc\t0\t1\n"), texts);
+    }
+
+    #[test]
+    fn island_by_island() {
+        let texts = ["q\t3\ne\t0\t2\nn\t0\nn\t2\nr\t1\t7\nn\t1\n", "s\t0\t1\t1\n", ""];
+        assert_eq!(all_texts(b"q\t3\ne\t2\t0\nr\t1\t7\nn\t2\nn\t1\nn\t0\n"), texts);
+    }
+
+    #[test]
+    fn a_phase_of_one_turn_is_none() {
+        assert_eq!(all_texts(b"q\t1\nn\t0\nr\t0\t32768\nr\t0\t32768\n")[2], "");
+        assert_eq!(all_texts(b"q\t1\nn\t0\nr\t0\t32769\nr\t0\t32768\n")[2], "p\t1\n");
     }
 }

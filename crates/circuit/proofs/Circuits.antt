@@ -1,12 +1,12 @@
 -- Lists of gates: the wires and the sums of a concatenation. Assumes nothing.
 use mathlib.Core.Path.{_≡_, refl, ap, _∙_}
 use mathlib.Core.List.{List, [], _∷_, _++_}
-use Prim.Native.Nat.{ℕ, _+_, _%_, _^_, _<_}
+use Prim.Native.Nat.{ℕ, _+_, _^_, _<_}
 use native.Mathlib.Omega.{arith}
 use lib.ListN.{length, getD}
 use Rattle.sets.proofs.Comb.{length-units, getD-units}
 use Rattle.gates.specs.declared.gate.Gate.{Gate}
-use Rattle.circuit.specs.Circuit.{step, run, start, finalOf, gives, given, sumOf}
+use Rattle.circuit.specs.Circuit.{step, run, start, finalOf, gives, given}
 use Rattle.circuit.proofs.Steps.{step-length}
 
 pub run-none : (W : List ℕ) → run [] W ≡ W
@@ -58,14 +58,6 @@ start-length = length-units 20
 pub final-is : (gs : List Gate) (i : ℕ) → finalOf gs i ≡ getD (run gs start) i 0
 unfolding finalOf
 final-is gs i = refl
-
-pub sum-is : (p : ℕ) (gs : List Gate) → sumOf p gs ≡ given p gs start % 65536
-unfolding sumOf
-sum-is p gs = refl
-
-pub sum-append : (p : ℕ) (g h : List Gate) → sumOf p (g ++ h) ≡ (sumOf p g + given p h (run g start)) % 65536
-unfolding sumOf
-sum-append p g h = ap (λ (n : ℕ). n % 65536) (given-append p g h start) ∙ omega arith
 
 pub start-at : (i : ℕ) → i < 20 → getD start i 0 ≡ 2 ^ i
 unfolding start

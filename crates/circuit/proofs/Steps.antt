@@ -9,7 +9,7 @@ use lib.Bits.{bitXor, xor-zero-l}
 use borrow.Author.Tests.{eq-eqb, ne-eqb}
 use Rattle.sets.specs.Columns.{cnot}
 use Rattle.gates.specs.declared.gate.Gate.{Gate}
-use Rattle.gates.specs.declared.gate.Gate.the-variants.{Cnot, Rotation, Bad}
+use Rattle.gates.specs.declared.gate.Gate.the-variants.{Cnot, Rotation, X, Bad}
 use Rattle.circuit.specs.Circuit.{step, gives}
 
 -- ---- a CNOT
@@ -47,6 +47,10 @@ pub step-rotation : (q a : ℕ) (W : List ℕ) → step (Rotation q a) W ≡ W
 unfolding step
 step-rotation q a W = refl
 
+pub step-x : (q : ℕ) (W : List ℕ) → step (X q) W ≡ W
+unfolding step
+step-x q W = refl
+
 pub step-bad : (W : List ℕ) → step Bad W ≡ W
 unfolding step
 step-bad W = refl
@@ -55,6 +59,7 @@ pub step-length : (g : Gate) (W : List ℕ) → length (step g W) ≡ length W
 unfolding step
 step-length (Cnot c t) W = cnot-length c t W
 step-length (Rotation q a) W = refl
+step-length (X q) W = refl
 step-length Bad W = refl
 
 -- ---- the angle that a gate gives
@@ -62,6 +67,10 @@ step-length Bad W = refl
 pub gives-cnot : (p c t : ℕ) (W : List ℕ) → gives p (Cnot c t) W ≡ 0
 unfolding gives
 gives-cnot p c t W = refl
+
+pub gives-x : (p q : ℕ) (W : List ℕ) → gives p (X q) W ≡ 0
+unfolding gives
+gives-x p q W = refl
 
 pub gives-bad : (p : ℕ) (W : List ℕ) → gives p Bad W ≡ 0
 unfolding gives

@@ -14,7 +14,7 @@ use Rattle.sets.proofs.Bits.{bit-pow-same, bit-pow-other, bit-xor, bit-of-zero}
 use Rattle.sets.proofs.Comb.{comb-turn, comb-xor, comb-pow, comb-units, getD-units}
 use Rattle.sets.proofs.Turn.{turn-zero, turn-back}
 use Rattle.gates.specs.declared.gate.Gate.{Gate}
-use Rattle.gates.specs.declared.gate.Gate.the-variants.{Cnot, Rotation, Bad}
+use Rattle.gates.specs.declared.gate.Gate.the-variants.{Cnot, Rotation, X, Bad}
 use Rattle.gates.specs.Layout.{Good}
 use Rattle.circuit.specs.Circuit.{step, run, start}
 use Rattle.gates.specs.All.{All}
@@ -34,6 +34,7 @@ below-step n (Cnot c t) W l (hc, ht, ne) b = record { small = λ i h. at i h (�
     at i h (yes e) = rw e (rw (cnot-target c t W (omega arith)) (xor-lt n (getD W c 0) (getD W t 0) (b .small c hc) (b .small t ht)))
     at i h (no d) = rw (cnot-other c t i W d) (b .small i h)
 below-step n (Rotation q a) W l h b = b
+below-step n (X q) W l h b = b
 below-step n Bad W l h b = absurd h
 
 pub below-run : (n : ℕ) (gs : List Gate) (W : List ℕ) → n ≤ length W → All (Good n) gs → Below n W → Below n (run gs W)
@@ -68,6 +69,7 @@ apart-step n (Cnot c t) W few l (hc, ht, ne) a = record {
   only-empty = λ x h e. turn-zero x c t ne (a .only-empty (turn x c t) (turn-lt x c t (omega arith) h) (sym (comb-cnot W x c t ne (omega arith)) ∙ e));
 }
 apart-step n (Rotation q b) W few l h a = a
+apart-step n (X q) W few l h a = a
 apart-step n Bad W few l h a = absurd h
 
 pub apart-run : (n : ℕ) (gs : List Gate) (W : List ℕ) → n ≤ 20 → length W ≡ 20 → All (Good n) gs → Apart W → Apart (run gs W)
@@ -112,6 +114,7 @@ unfolding run step All Good
 wires-past n [] W i l g = refl
 wires-past n (Cnot c t ∷ gs) W i l g = wires-past n gs (cnot c t W) i l (g .1) ∙ cnot-other c t i W (λ (e : i ≡ t). omega (arith, g .0 .1))
 wires-past n (Rotation q a ∷ gs) W i l g = wires-past n gs W i l (g .1)
+wires-past n (X q ∷ gs) W i l g = wires-past n gs W i l (g .1)
 wires-past n (Bad ∷ gs) W i l g = absurd (g .0)
 
 -- a gate on n qubits is one on more
@@ -119,4 +122,5 @@ pub good-up : (n m : ℕ) (g : Gate) → n ≤ m → Good n g → Good m g
 unfolding Good
 good-up n m (Cnot c t) l h = (omega (arith, h .0), omega (arith, h .1), h .2)
 good-up n m (Rotation q a) l h = (omega (arith, h .0), h .1)
+good-up n m (X q) l h = omega (arith, h)
 good-up n m Bad l h = h

@@ -1,2 +1,4 @@
+pub mod Flips
 pub mod Circuit
+pub mod Phase
 pub mod State

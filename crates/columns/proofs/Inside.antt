@@ -7,7 +7,7 @@ use lib.ListN.{length, getD}
 use Rattle.sets.specs.Bit.{bit}
 use Rattle.sets.proofs.Members.{in-lt}
 use Rattle.gates.specs.declared.gate.Gate.{Gate}
-use Rattle.gates.specs.declared.gate.Gate.the-variants.{Cnot, Rotation, Bad}
+use Rattle.gates.specs.declared.gate.Gate.the-variants.{Cnot, Rotation, X, Bad}
 use Rattle.gates.specs.Layout.{Good}
 use Rattle.circuit.specs.Circuit.{step, run}
 use Rattle.gates.specs.All.{All}
@@ -22,6 +22,7 @@ unfolding All Inside cnotsOf rotationsOf tally
 inside-length near Q [] a = omega arith
 inside-length near Q (Cnot c t ∷ gs) a = omega (arith, inside-length near Q gs (a .1))
 inside-length near Q (Rotation q v ∷ gs) a = omega (arith, inside-length near Q gs (a .1))
+inside-length near Q (X q ∷ gs) a = absurd (a .0)
 inside-length near Q (Bad ∷ gs) a = absurd (a .0)
 
 -- gates of n qubits, where Q has no others
@@ -30,6 +31,7 @@ unfolding All Inside Small Good
 inside-good near n Q low [] a b = tt
 inside-good near n Q low (Cnot c t ∷ gs) ((e, hc, ht, ne), a) b = ((in-lt n Q c low hc, in-lt n Q t low ht, ne), inside-good near n Q low gs a (b .1))
 inside-good near n Q low (Rotation q v ∷ gs) a b = ((in-lt n Q q low (a .0), b .0), inside-good near n Q low gs (a .1) (b .1))
+inside-good near n Q low (X q ∷ gs) a b = absurd (a .0)
 inside-good near n Q low (Bad ∷ gs) a b = absurd (a .0)
 
 -- a wire outside Q keeps its parity
@@ -42,4 +44,5 @@ outside-keeps near Q i z (Cnot c t ∷ gs) W ((e, hc, ht, ne), a) =
 outside-keeps near Q i z (Rotation q v ∷ gs) W a =
     ap (λ (w : List ℕ). getD w i 0) (run-cons (Rotation q v) gs W) ∙ outside-keeps near Q i z gs (step (Rotation q v) W) (a .1)
     ∙ ap (λ (w : List ℕ). getD w i 0) (step-rotation q v W)
+outside-keeps near Q i z (X q ∷ gs) W a = absurd (a .0)
 outside-keeps near Q i z (Bad ∷ gs) W a = absurd (a .0)

@@ -18,7 +18,7 @@ use Rattle.sets.proofs.Members.{in-lt}
 use Rattle.sets.proofs.Turn.{turn-zero}
 use Rattle.sets.proofs.Comb.{comb-turn, comb-pow}
 use Rattle.gates.specs.declared.gate.Gate.{Gate}
-use Rattle.gates.specs.declared.gate.Gate.the-variants.{Cnot, Rotation, Bad}
+use Rattle.gates.specs.declared.gate.Gate.the-variants.{Cnot, Rotation, X, Bad}
 use Rattle.circuit.specs.Circuit.{step, run, gives, given}
 use Rattle.circuit.proofs.Steps.{step-cnot, step-rotation, gives-cnot, gives-borne, gives-other}
 use Rattle.circuit.proofs.Circuits.{run-none, run-cons, run-append, run-length, given-none, given-cons, given-append}
@@ -176,6 +176,7 @@ inside-wider : (near : List ℕ) (S Q : ℕ) → Sub S Q → (g : Gate) → Insi
 unfolding Inside
 inside-wider near S Q f (Cnot c t) (n, hc, ht, ne) = (n, f c hc, f t ht, ne)
 inside-wider near S Q f (Rotation q a) h = f q h
+inside-wider near S Q f (X q) h = h
 inside-wider near S Q f Bad h = h
 
 pub laying-wider : (near : List ℕ) (S Q : ℕ) (angles xs : List ℕ) (g : List Gate) (ys : List ℕ) → Sub S Q → Laying near S angles xs g ys → Laying near Q angles xs g ys

@@ -10,7 +10,7 @@ use Rattle.sets.specs.Pick.{pick}
 use Rattle.sets.specs.Bit.{In}
 use Rattle.sets.specs.Columns.{comb}
 use Rattle.gates.specs.declared.gate.Gate.{Gate}
-use Rattle.gates.specs.declared.gate.Gate.the-variants.{Cnot, Rotation, Bad}
+use Rattle.gates.specs.declared.gate.Gate.the-variants.{Cnot, Rotation, X, Bad}
 use Rattle.circuit.specs.Circuit.{run, given}
 use Rattle.gates.specs.All.{All}
 use Rattle.tallies.specs.Tally.{cnotsOf, rotationsOf}
@@ -29,12 +29,14 @@ totalOf p ps angles = sumTo (length ps) (λ k. pick (eqb (getD ps k 0) p) (getD 
 unfoldable pub Inside : List ℕ → ℕ → Gate → Type 0
 Inside near Q (Cnot c t) = Near near c t × In c Q × In t Q × (c ≢ t)
 Inside near Q (Rotation q a) = In q Q
+Inside near Q (X q) = ⊥
 Inside near Q Bad = ⊥
 
 -- "0 to 65,535"
 unfoldable pub Small : Gate → Type 0
 Small (Cnot c t) = Unit {0}
 Small (Rotation q a) = a < 65536
+Small (X q) = Unit {0}
 Small Bad = Unit {0}
 
 -- the gates `laid` lay the terms of parities ps and angles `angles` on the set Q of a chip's qubits (documents 01 and 000: demand 2, for one island)

@@ -26,18 +26,18 @@ use Rattle.reading.proofs.Answers.{answer-long}
 use Rattle.reading.proofs.Sizes.{place-most}
 use Rattle.reading.proofs.Enough as reads
 use Rattle.text.proofs.Values.{reading-verdict}
-use Rattle.console.specs.Printed.{mostLines, mostPrinted, refusalOf, unless, laidJob, countedJob, laidText, countedText}
+use Rattle.console.specs.Printed.{mostCouplerLines, mostGateLines, mostPrinted, refusalOf, unless, laidJob, countedJob, laidText, countedText}
 use Rattle.console.proofs.Choosing.{unless-refused}
 use Rattle.console.proofs.Whole.{number-few, refusal-fits, job-fits, counts-fits}
 
 -- ---- the records that are lent to the reader and to the laying
 
 -- a longer text is refused with 11
-pub reading-never-8 : (s : List ℕ) → numberOf (judgedReading s mostLines mostLines) ≢ 8
-reading-never-8 s = reads.reads-never-8 s mostLines mostLines (omega arith) (omega arith)
+pub reading-never-8 : (s : List ℕ) → numberOf (judgedReading s mostCouplerLines mostGateLines) ≢ 8
+reading-never-8 s = reads.reads-never-8 s mostCouplerLines mostGateLines (omega arith) (omega arith)
 
-reading-never-9 : (s : List ℕ) → numberOf (judgedReading s mostLines mostLines) ≢ 9
-reading-never-9 s = reads.reads-never-9 s mostLines mostLines (omega arith) (omega arith)
+reading-never-9 : (s : List ℕ) → numberOf (judgedReading s mostCouplerLines mostGateLines) ≢ 9
+reading-never-9 s = reads.reads-never-9 s mostCouplerLines mostGateLines (omega arith) (omega arith)
 
 pub laying-never-8 : (n : ℕ) (couplers gates : List ℕ) → numberOf (verdictOf n couplers gates largest) ≢ 8
 laying-never-8 n couplers gates = lays.lays-never-8 n couplers gates largest (omega arith)
@@ -113,31 +113,31 @@ module _ (n : ℕ) (couplers gates : List ℕ) where
   counts-printable = either-printable (verdictOf n couplers gates largest) _ (λ z. letter-printable 115 _ (λ e. omega arith) (counts-fits n couplers gates z)) refused-printable
 
 module _ (s : List ℕ) where
-  unread-printable : Printable (refusalOf (judgedReading s mostLines mostLines))
+  unread-printable : Printable (refusalOf (judgedReading s mostCouplerLines mostGateLines))
   unread-printable =
-      refusal-printable (judgedReading s mostLines mostLines) (omega (arith, place-most s mostLines mostLines)) (reading-never-8 s)
+      refusal-printable (judgedReading s mostCouplerLines mostGateLines) (omega (arith, place-most s mostCouplerLines mostGateLines)) (reading-never-8 s)
       (reading-never-9 s)
 
   pub laid-printable : Printable (laidText s)
   unfolding laidText
   laid-printable =
-      either-printable (judgedReading s mostLines mostLines) _ (λ z. job-printable (jobIn (parsed s) .qubits) (couplersIn (parsed s)) (gatesIn (parsed s))) unread-printable
+      either-printable (judgedReading s mostCouplerLines mostGateLines) _ (λ z. job-printable (jobIn (parsed s) .qubits) (couplersIn (parsed s)) (gatesIn (parsed s))) unread-printable
 
   pub counted-printable : Printable (countedText s)
   unfolding countedText
   counted-printable =
-      either-printable (judgedReading s mostLines mostLines) _ (λ z. counts-printable (jobIn (parsed s) .qubits) (couplersIn (parsed s)) (gatesIn (parsed s))) unread-printable
+      either-printable (judgedReading s mostCouplerLines mostGateLines) _ (λ z. counts-printable (jobIn (parsed s) .qubits) (couplersIn (parsed s)) (gatesIn (parsed s))) unread-printable
 
 -- ---- the bytes that are read
 
 -- a text above its limit is refused with 11, whatever it holds
 module _ (s : List ℕ) (long : mostBytes < length s) where
-  judged-long : judgedReading s mostLines mostLines ≡ LongText
-  judged-long = sym (reading-verdict s mostLines mostLines) ∙ sym (ap readVerdict (answer-long s mostLines mostLines long))
+  judged-long : judgedReading s mostCouplerLines mostGateLines ≡ LongText
+  judged-long = sym (reading-verdict s mostCouplerLines mostGateLines) ∙ sym (ap readVerdict (answer-long s mostCouplerLines mostGateLines long))
 
-  refused-long : (text : List ℕ) → unless (judgedReading s mostLines mostLines) text ≡ refusalOf LongText
+  refused-long : (text : List ℕ) → unless (judgedReading s mostCouplerLines mostGateLines) text ≡ refusalOf LongText
   refused-long text =
-      sym (unless-refused (judgedReading s mostLines mostLines) text (λ z. let y : _≡_ {A = ℕ} 11 0 = sym (ap numberOf judged-long) ∙ z in omega arith))
+      sym (unless-refused (judgedReading s mostCouplerLines mostGateLines) text (λ z. let y : _≡_ {A = ℕ} 11 0 = sym (ap numberOf judged-long) ∙ z in omega arith))
       ∙ ap refusalOf judged-long
 
   laid-long : laidText s ≡ refusalOf LongText

@@ -23,13 +23,13 @@ use Rattle.console.proofs.Choosing.{unless-passed, unless-refused}
 use Rattle.console.proofs.Whole.{writer-accepts, counts-fits}
 
 -- a job that was laid into the memory `laid`, which was `old`
-module _ (n : ℕ) (xs ys old laid : List ℕ) (a : Answer) (k c t d : ℕ) (long : length old ≡ largest) (e : a ≡ answered n xs ys (length old)) (l : a ≡ Laid k c t d)
+module _ (n : ℕ) (xs ys old laid : List ℕ) (a : Answer) (k c t d f : ℕ) (long : length old ≡ largest) (e : a ≡ answered n xs ys (length old)) (l : a ≡ Laid k c t d f)
     (m : laid ≡ outputOf n xs ys old) where
   abbrev gates : List ℕ
   gates = map recordOf (circuitOf n xs ys)
 
-  laid-counts : Counted n xs ys (length old) k c t d
-  laid-counts = laid-says n xs ys (length old) k c t d (sym e ∙ l)
+  laid-counts : Counted n xs ys (length old) k c t d f
+  laid-counts = laid-says n xs ys (length old) k c t d f (sym e ∙ l)
 
   passed : numberOf (verdictOf n xs ys largest) ≡ 0
   passed = sym (ap (λ (room : ℕ). numberOf (verdictOf n xs ys room)) long) ∙ laid-counts .passed
@@ -61,9 +61,9 @@ module _ (n : ℕ) (xs ys : List ℕ) (room : ℕ) (a : Answer) (long : room ≡
   at : answered n xs ys largest ≡ a
   at = sym (ap (answered n xs ys) long) ∙ sym e
 
-  module _ (k c t d : ℕ) (l : a ≡ Laid k c t d) where
-    counts : Counted n xs ys largest k c t d
-    counts = laid-says n xs ys largest k c t d (at ∙ l)
+  module _ (k c t d f : ℕ) (l : a ≡ Laid k c t d f) where
+    counts : Counted n xs ys largest k c t d f
+    counts = laid-says n xs ys largest k c t d f (at ∙ l)
 
     the-counts : countsText c t d ≡ countsText (cnotsOf (circuitOf n xs ys)) (rotationsOf (circuitOf n xs ys)) (depthOf (circuitOf n xs ys))
     the-counts = ap (λ (i : ℕ). countsText i t d) (counts .cnots) ∙ ap₂ (countsText (cnotsOf (circuitOf n xs ys))) (counts .rotations) (counts .depth)

@@ -9,7 +9,7 @@ use borrow.Author.Tests.{le-ltb}
 use Rattle.sets.specs.Pick.{pick}
 use Rattle.sets.proofs.Finding.{first-is}
 use Rattle.gates.specs.declared.gate.Gate.{Gate}
-use Rattle.gates.specs.declared.gate.Gate.the-variants.{Cnot, Rotation, Bad}
+use Rattle.gates.specs.declared.gate.Gate.the-variants.{Cnot, Rotation, X, Bad}
 use Rattle.gates.specs.Limits.{mostQubits, mostCouplers}
 use Rattle.gates.specs.Layout.{packed, gateOf, isBad, recordOf, Good, couplerOf, isWrong}
 use Rattle.gates.specs.All.{All}
@@ -46,6 +46,7 @@ good-right : (n : ℕ) (g : Gate) → Good n g → isBad g ≡ false
 unfolding Good
 good-right n (Cnot c t) h = refl
 good-right n (Rotation q a) h = refl
+good-right n (X q) h = refl
 good-right n Bad h = absurd h
 
 records-right : (n : ℕ) (gs : List Gate) → n ≤ 256 → All (Good n) gs → (k : ℕ) → k < length (map recordOf gs) → isBad (gateOf n (getD (map recordOf gs) k 0)) ≡ false

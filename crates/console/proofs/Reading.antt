@@ -12,7 +12,7 @@ use Rattle.reading.specs.Readings.{couplersIn, gatesIn, jobIn, judgedReading, r
 use Rattle.reading.specs.declared.read.Reading.{Reading}
 use Rattle.reading.specs.declared.read.Reading.the-variants.{Read, Refused}
 use Rattle.reading.proofs.Said.{read-says, refused-says}
-use Rattle.console.specs.Printed.{mostLines, refusalOf, laidJob, countedJob, laidText, countedText}
+use Rattle.console.specs.Printed.{mostCouplerLines, mostGateLines, refusalOf, laidJob, countedJob, laidText, countedText}
 use Rattle.console.proofs.Fronts.{front-fits, front-long, front-is}
 use Rattle.console.proofs.Choosing.{unless-passed, unless-refused}
 
@@ -25,15 +25,15 @@ gates-counted (misfit k) = refl
 gates-counted (job n es gs) = refl
 
 -- a text that was read: j, and the lists at the front of cs and gs
-module _ (s cs₀ gs₀ cs gs : List ℕ) (lc : length cs₀ ≡ mostLines) (lg : length gs₀ ≡ mostLines) (r : Reading) (j : Job)
+module _ (s cs₀ gs₀ cs gs : List ℕ) (lc : length cs₀ ≡ mostCouplerLines) (lg : length gs₀ ≡ mostGateLines) (r : Reading) (j : Job)
     (e : r ≡ readingOf s (length cs₀) (length gs₀)) (d : r ≡ Read j) (f : cs ≡ listAfter r (couplersIn (parsed s)) cs₀) (g : gs ≡ listAfter r (gatesIn (parsed s)) gs₀) where
-  both-read : (numberOf (judgedReading s mostLines mostLines) ≡ 0) × (j ≡ jobIn (parsed s))
-  both-read = read-says s mostLines mostLines j (sym (ap₂ (readingOf s) lc lg) ∙ sym e ∙ d)
+  both-read : (numberOf (judgedReading s mostCouplerLines mostGateLines) ≡ 0) × (j ≡ jobIn (parsed s))
+  both-read = read-says s mostCouplerLines mostGateLines j (sym (ap₂ (readingOf s) lc lg) ∙ sym e ∙ d)
 
   the-job : j ≡ jobIn (parsed s)
   the-job = both-read .1
 
-  passed : numberOf (judgedReading s mostLines mostLines) ≡ 0
+  passed : numberOf (judgedReading s mostCouplerLines mostGateLines) ≡ 0
   passed = both-read .0
 
   couplers-count : j .couplers ≡ length (couplersIn (parsed s))
@@ -71,24 +71,24 @@ module _ (s cs₀ gs₀ cs gs : List ℕ) (lc : length cs₀ ≡ mostLines) (lg 
   laid-read =
       ap (λ (k : Job). laidJob (k .qubits) (take (j .couplers) cs) (take (j .gates) gs)) the-job
       ∙ ap₂ (λ (x y : List ℕ). laidJob (jobIn (parsed s) .qubits) x y) the-couplers the-gates
-      ∙ unless-passed (judgedReading s mostLines mostLines) _ passed
+      ∙ unless-passed (judgedReading s mostCouplerLines mostGateLines) _ passed
 
   pub counted-read : countedJob (j .qubits) (take (j .couplers) cs) (take (j .gates) gs) ≡ countedText s
   unfolding countedText
   counted-read =
       ap (λ (k : Job). countedJob (k .qubits) (take (j .couplers) cs) (take (j .gates) gs)) the-job
       ∙ ap₂ (λ (x y : List ℕ). countedJob (jobIn (parsed s) .qubits) x y) the-couplers the-gates
-      ∙ unless-passed (judgedReading s mostLines mostLines) _ passed
+      ∙ unless-passed (judgedReading s mostCouplerLines mostGateLines) _ passed
 
 -- a text that was refused
-module _ (s : List ℕ) (a b : ℕ) (la : a ≡ mostLines) (lb : b ≡ mostLines) (r : Reading) (v : Verdict) (e : r ≡ readingOf s a b) (d : r ≡ Refused v) where
-  no : (numberOf (judgedReading s mostLines mostLines) ≡ 0 → ⊥) × (v ≡ judgedReading s mostLines mostLines)
-  no = refused-says s mostLines mostLines v (sym (ap₂ (readingOf s) la lb) ∙ sym e ∙ d)
+module _ (s : List ℕ) (a b : ℕ) (la : a ≡ mostCouplerLines) (lb : b ≡ mostGateLines) (r : Reading) (v : Verdict) (e : r ≡ readingOf s a b) (d : r ≡ Refused v) where
+  no : (numberOf (judgedReading s mostCouplerLines mostGateLines) ≡ 0 → ⊥) × (v ≡ judgedReading s mostCouplerLines mostGateLines)
+  no = refused-says s mostCouplerLines mostGateLines v (sym (ap₂ (readingOf s) la lb) ∙ sym e ∙ d)
 
   pub laid-unread : refusalOf v ≡ laidText s
   unfolding laidText
-  laid-unread = ap refusalOf (no .1) ∙ unless-refused (judgedReading s mostLines mostLines) _ (no .0)
+  laid-unread = ap refusalOf (no .1) ∙ unless-refused (judgedReading s mostCouplerLines mostGateLines) _ (no .0)
 
   pub counted-unread : refusalOf v ≡ countedText s
   unfolding countedText
-  counted-unread = ap refusalOf (no .1) ∙ unless-refused (judgedReading s mostLines mostLines) _ (no .0)
+  counted-unread = ap refusalOf (no .1) ∙ unless-refused (judgedReading s mostCouplerLines mostGateLines) _ (no .0)

@@ -20,9 +20,13 @@ use Rattle.reading.specs.Readings.{couplersIn, gatesIn, jobIn, judgedReading}
 
 -- ---- what is lent
 
--- "it lends the reader 10,922 records for each list"
-abbrev pub mostLines : ℕ
-mostLines = 10922
+-- "it lends the reader 10,922 records", for the couplers
+abbrev pub mostCouplerLines : ℕ
+mostCouplerLines = 10922
+
+-- request E3: "the program lends 16,383 gate records"
+abbrev pub mostGateLines : ℕ
+mostGateLines = 16383
 
 -- 6 bytes for the `q` line, 12 for each coupler and for each gate: "A text above 65,536 bytes is printed whole too"
 abbrev pub mostPrinted : ℕ
@@ -58,9 +62,9 @@ countedJob n couplers gates =
 -- "The laying program reads a job"
 unfoldable pub laidText : List ℕ → List ℕ
 laidText s =
-    unless (judgedReading s mostLines mostLines) (laidJob (jobIn (parsed s) .qubits) (couplersIn (parsed s)) (gatesIn (parsed s)))
+    unless (judgedReading s mostCouplerLines mostGateLines) (laidJob (jobIn (parsed s) .qubits) (couplersIn (parsed s)) (gatesIn (parsed s)))
 
 -- "The counting program lays the same input"
 unfoldable pub countedText : List ℕ → List ℕ
 countedText s =
-    unless (judgedReading s mostLines mostLines) (countedJob (jobIn (parsed s) .qubits) (couplersIn (parsed s)) (gatesIn (parsed s)))
+    unless (judgedReading s mostCouplerLines mostGateLines) (countedJob (jobIn (parsed s) .qubits) (couplersIn (parsed s)) (gatesIn (parsed s)))

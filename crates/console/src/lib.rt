@@ -29,8 +29,11 @@ pub const INPUT: usize = read::MOST_BYTES + 1;
 // Lent for what is printed: 6 bytes for the `q` line, 12 for each coupler and for each gate.
 pub const OUTPUT: usize = 6 + 12 * Job::COUPLERS + 12 * tally::LARGEST;
 
-// Lent to the reader for each list: no text within its limit has more lines, so that 8 cannot hide 2 or 4.
-pub const LINES: usize = 10922;
+// Lent to the reader for the couplers: no text within its limit has more lines of them, so that 8 cannot hide 2.
+pub const COUPLER_LINES: usize = 10922;
+
+// Lent to it for the gates, whose lines may be shorter: so 8 cannot hide 4 either.
+pub const GATE_LINES: usize = 16383;
 
 fn print_refusal(v: Verdict, out: &mut [u8; OUTPUT]) -> usize
     ensures { λ r. ⌜ Prints (refusalOf v) (now (out .entry)) r (now (out .exit)) ⌝ }
@@ -62,6 +65,7 @@ fn lay_job(n: usize, couplers: &[u32], gates: &[u32], out: &mut [u8; OUTPUT]) ->
             cnots: _,
             rotations: _,
             depth: _,
+            phase: _,
         } => print_job(n, couplers, &laid[..records], out),
         Answer::Refused { verdict } => print_refusal(verdict, out),
     }
@@ -77,6 +81,7 @@ fn count_job(n: usize, couplers: &[u32], gates: &[u32], out: &mut [u8; OUTPUT]) 
             cnots,
             rotations,
             depth,
+            phase: _,
         } => print::counts(cnots, rotations, depth, out),
         Answer::Refused { verdict } => print_refusal(verdict, out),
     }
@@ -97,8 +102,8 @@ pub fn lay_text(input: &[u8; INPUT], len: usize, out: &mut [u8; OUTPUT]) -> usiz
     ensures { λ r. ⌜ length (now (input .entry)) ≡ mostBytes + 1 ⌝ }
     ensures { λ r. ⌜ Prints (laidText (take len (now (input .entry)))) (now (out .entry)) r (now (out .exit)) ⌝ }
 {
-    let mut couplers = [0u32; LINES];
-    let mut gates = [0u32; LINES];
+    let mut couplers = [0u32; COUPLER_LINES];
+    let mut gates = [0u32; GATE_LINES];
     match read::read(front(input, len), &mut couplers, &mut gates) {
         Reading::Read { job } => {
             let c = job.couplers;
@@ -114,8 +119,8 @@ pub fn count_text(input: &[u8; INPUT], len: usize, out: &mut [u8; OUTPUT]) -> us
     ensures { λ r. ⌜ length (now (input .entry)) ≡ mostBytes + 1 ⌝ }
     ensures { λ r. ⌜ Prints (countedText (take len (now (input .entry)))) (now (out .entry)) r (now (out .exit)) ⌝ }
 {
-    let mut couplers = [0u32; LINES];
-    let mut gates = [0u32; LINES];
+    let mut couplers = [0u32; COUPLER_LINES];
+    let mut gates = [0u32; GATE_LINES];
     match read::read(front(input, len), &mut couplers, &mut gates) {
         Reading::Read { job } => {
             let c = job.couplers;

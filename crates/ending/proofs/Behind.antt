@@ -4,7 +4,7 @@ use mathlib.Core.List.{List, [], _∷_, _++_}
 use Prim.Native.Nat.{ℕ}
 use native.Mathlib.Omega.{arith}
 use Rattle.gates.specs.declared.gate.Gate.{Gate}
-use Rattle.gates.specs.declared.gate.Gate.the-variants.{Cnot, Rotation, Bad}
+use Rattle.gates.specs.declared.gate.Gate.the-variants.{Cnot, Rotation, X, Bad}
 use Rattle.circuit.specs.Circuit.{step, run, given}
 use Rattle.circuit.proofs.Steps.{gives-cnot}
 use Rattle.circuit.proofs.Circuits.{given-none, given-cons, given-append}
@@ -16,6 +16,7 @@ module _ (near : List ℕ) (Q : ℕ) where
   coupled-given p (Cnot c t ∷ gs) W h =
       given-cons p (Cnot c t) gs W ∙ omega (arith, gives-cnot p c t W, coupled-given p gs (step (Cnot c t) W) (h .1))
   coupled-given p (Rotation q a ∷ gs) W h = absurd h
+  coupled-given p (X q ∷ gs) W h = absurd h
   coupled-given p (Bad ∷ gs) W h = absurd h
 
   -- the sums are those of what stands before

@@ -12,7 +12,7 @@ use borrow.Author.Tests.{eq-eqb, ne-eqb, lt-ltb, le-ltb}
 use Rattle.sets.specs.Pick.{pick, both}
 use Rattle.spares.specs.Spare.{spareOf}
 use Rattle.gates.specs.declared.gate.Gate.{Gate}
-use Rattle.gates.specs.declared.gate.Gate.the-variants.{Cnot, Rotation, Bad}
+use Rattle.gates.specs.declared.gate.Gate.the-variants.{Cnot, Rotation, X, Bad}
 use Rattle.gathering.specs.declared.gather.Moves.{Moves}
 use Rattle.gathering.specs.declared.gather.Order.{Order}
 use Rattle.gathering.specs.Order.{orderOf, orderIn}
@@ -33,12 +33,14 @@ flip-controls : (gs : List Gate) → map controlOf (flip gs) ≡ map targetOf gs
 flip-controls [] = refl
 flip-controls (Cnot c t ∷ gs) = ap (λ (l : List ℕ). t ∷ l) (flip-controls gs)
 flip-controls (Rotation q a ∷ gs) = ap (λ (l : List ℕ). 0 ∷ l) (flip-controls gs)
+flip-controls (X q ∷ gs) = ap (λ (l : List ℕ). 0 ∷ l) (flip-controls gs)
 flip-controls (Bad ∷ gs) = ap (λ (l : List ℕ). 0 ∷ l) (flip-controls gs)
 
 flip-targets : (gs : List Gate) → map targetOf (flip gs) ≡ map controlOf gs
 flip-targets [] = refl
 flip-targets (Cnot c t ∷ gs) = ap (λ (l : List ℕ). c ∷ l) (flip-targets gs)
 flip-targets (Rotation q a ∷ gs) = ap (λ (l : List ℕ). 0 ∷ l) (flip-targets gs)
+flip-targets (X q ∷ gs) = ap (λ (l : List ℕ). 0 ∷ l) (flip-targets gs)
 flip-targets (Bad ∷ gs) = ap (λ (l : List ℕ). 0 ∷ l) (flip-targets gs)
 
 swapped-moves : (gs : List Gate) → swappedOf (movesIn gs) ≡ movesIn (flip gs)
@@ -50,6 +52,7 @@ flip-plain : (gs : List Gate) → Plain gs → Plain (flip gs)
 flip-plain [] p = tt
 flip-plain (Cnot c t ∷ gs) p = flip-plain gs p
 flip-plain (Rotation q a ∷ gs) p = absurd p
+flip-plain (X q ∷ gs) p = absurd p
 flip-plain (Bad ∷ gs) p = absurd p
 
 -- ---- moves that are held

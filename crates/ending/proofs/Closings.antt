@@ -22,7 +22,7 @@ use Rattle.sets.proofs.Members.{in-lt, sub-eq, xor-sub}
 use Rattle.chip.specs.Graph.{Symm, Joined}
 use Rattle.chip.proofs.Growth.{pow-sub}
 use Rattle.gates.specs.declared.gate.Gate.{Gate}
-use Rattle.gates.specs.declared.gate.Gate.the-variants.{Cnot, Rotation, Bad}
+use Rattle.gates.specs.declared.gate.Gate.the-variants.{Cnot, Rotation, X, Bad}
 use Rattle.gates.specs.Layout.{Good}
 use Rattle.circuit.specs.Circuit.{run}
 use Rattle.gates.specs.All.{All}
@@ -49,6 +49,7 @@ module _ (near : List ℕ) (Q : ℕ) where
   back-undoes (Cnot c t ∷ gs) x h =
       turns-append (backOf gs) (Cnot c t ∷ []) (turns gs (turn x c t)) ∙ ap (λ (m : ℕ). turn m c t) (back-undoes gs (turn x c t) (h .1)) ∙ turn-back x c t (h .0 .2)
   back-undoes (Rotation q a ∷ gs) x h = back-undoes gs x h
+  back-undoes (X q ∷ gs) x h = back-undoes gs x h
   back-undoes (Bad ∷ gs) x h = back-undoes gs x h
 
   undoes-back : (gs : List Gate) (x : ℕ) → Within near Q gs → turns gs (turns (backOf gs) x) ≡ x
@@ -56,12 +57,14 @@ module _ (near : List ℕ) (Q : ℕ) where
   undoes-back (Cnot c t ∷ gs) x h =
       ap (λ (m : ℕ). turns gs (turn m c t)) (turns-append (backOf gs) (Cnot c t ∷ []) x) ∙ ap (turns gs) (turn-back (turns (backOf gs) x) c t (h .0 .2)) ∙ undoes-back gs x (h .1)
   undoes-back (Rotation q a ∷ gs) x h = undoes-back gs x h
+  undoes-back (X q ∷ gs) x h = undoes-back gs x h
   undoes-back (Bad ∷ gs) x h = undoes-back gs x h
 
   pub back-coupled : (gs : List Gate) → Within near Q gs → Coupled near Q (backOf gs)
   back-coupled [] h = tt
   back-coupled (Cnot c t ∷ gs) h = coupled-append near Q (backOf gs) (Cnot c t ∷ []) (back-coupled gs (h .1)) (h .0, tt)
   back-coupled (Rotation q a ∷ gs) h = back-coupled gs h
+  back-coupled (X q ∷ gs) h = back-coupled gs h
   back-coupled (Bad ∷ gs) h = back-coupled gs h
 
   -- ---- either closing, with any ending
@@ -92,6 +95,7 @@ module _ (near : List ℕ) (Q : ℕ) where
   coupled-good low [] h = tt
   coupled-good low (Cnot c t ∷ gs) h = ((in-lt 20 Q c low (h .0 .0), in-lt 20 Q t low (h .0 .1), h .0 .2), coupled-good low gs (h .1))
   coupled-good low (Rotation q a ∷ gs) h = absurd h
+  coupled-good low (X q ∷ gs) h = absurd h
   coupled-good low (Bad ∷ gs) h = absurd h
 
   coupled-rotations : (L : List Gate) → Coupled near Q L → tally oneRotation L ≡ 0
@@ -99,6 +103,7 @@ module _ (near : List ℕ) (Q : ℕ) where
   coupled-rotations [] h = refl
   coupled-rotations (Cnot c t ∷ gs) h = omega (arith, coupled-rotations gs (h .1))
   coupled-rotations (Rotation q a ∷ gs) h = absurd h
+  coupled-rotations (X q ∷ gs) h = absurd h
   coupled-rotations (Bad ∷ gs) h = absurd h
 
   coupled-cnots : (L : List Gate) → Coupled near Q L → tally oneCnot L ≡ length L
@@ -106,6 +111,7 @@ module _ (near : List ℕ) (Q : ℕ) where
   coupled-cnots [] h = refl
   coupled-cnots (Cnot c t ∷ gs) h = omega (arith, coupled-cnots gs (h .1))
   coupled-cnots (Rotation q a ∷ gs) h = absurd h
+  coupled-cnots (X q ∷ gs) h = absurd h
   coupled-cnots (Bad ∷ gs) h = absurd h
 
 -- ---- rows and wires

@@ -17,7 +17,7 @@ use Rattle.sets.proofs.Dot.{dot-xor, dot-comm, dot-pow, dot-zero, dot-when}
 use Rattle.sets.proofs.Members.{in-lt, in-and, xor-sub}
 use Rattle.sets.proofs.Ones.{ones-of-zero}
 use Rattle.gates.specs.declared.gate.Gate.{Gate}
-use Rattle.gates.specs.declared.gate.Gate.the-variants.{Cnot, Rotation, Bad}
+use Rattle.gates.specs.declared.gate.Gate.the-variants.{Cnot, Rotation, X, Bad}
 use Rattle.gates.specs.Layout.{Good}
 use Rattle.circuit.specs.Circuit.{step, run, start, finalOf}
 use Rattle.gates.specs.All.{All}
@@ -91,6 +91,7 @@ paired-run (Cnot c t ∷ gs) W D lw ld g p =
     paired-run gs (cnot c t W) (cnot t c D) (step-length (Cnot c t) W ∙ lw) (step-length (Cnot t c) D ∙ ld) (g .1)
     (paired-cnot 20 W D c t (g .0 .2) (g .0 .0) (g .0 .1) (omega (arith, lw, g .0 .1)) (omega (arith, ld, g .0 .0)) p)
 paired-run (Rotation q a ∷ gs) W D lw ld g p = paired-run gs W D lw ld (g .1) p
+paired-run (X q ∷ gs) W D lw ld g p = paired-run gs W D lw ld (g .1) p
 paired-run (Bad ∷ gs) W D lw ld g p = absurd (g .0)
 
 paired-start : Paired 20 start start
@@ -118,6 +119,7 @@ comb-good [] x W l g = refl
 comb-good (Cnot c t ∷ gs) x W l g =
     comb-good gs (turn x c t) (cnot c t W) (step-length (Cnot c t) W ∙ l) (g .1) ∙ comb-turn W x c t (g .0 .2) (omega (arith, l, g .0 .1))
 comb-good (Rotation q a ∷ gs) x W l g = comb-good gs x W l (g .1)
+comb-good (X q ∷ gs) x W l g = comb-good gs x W l (g .1)
 comb-good (Bad ∷ gs) x W l g = absurd (g .0)
 
 dot-comb : (W : List ℕ) (x y : ℕ) → ((i : ℕ) → i < length W → dot (getD W i 0) y ≡ 0) → dot (comb x W) y ≡ 0
@@ -158,6 +160,7 @@ small-run (Cnot c t ∷ gs) W s = small-run gs (cnot c t W) (λ i. at i (ℕ-dis
         subst (λ (m : ℕ). m < 2 ^ 20) (sym (List·getD-eq-default (cnot c t W) 0 {n = i} (omega (arith, e, step-length (Cnot c t) W)))) (pow-pos 20)
     at i (no n) l = subst (λ (m : ℕ). m < 2 ^ 20) (sym (cnot-other c t i W n)) (s i)
 small-run (Rotation q a ∷ gs) W s = small-run gs W s
+small-run (X q ∷ gs) W s = small-run gs W s
 small-run (Bad ∷ gs) W s = small-run gs W s
 
 small-start : Small start

@@ -9,7 +9,7 @@ use native.Mathlib.Decide.{ℕ-discrete}
 use lib.ListN.{getD, length, drop, drop-of-length-le, set, length-set, length-map, List·getD-map}
 use lib.Seq.{getD-set-same, getD-set-other, drop-cons, ext-getD}
 use Rattle.gates.specs.declared.gate.Gate.{Gate}
-use Rattle.gates.specs.declared.gate.Gate.the-variants.{Cnot, Rotation, Bad}
+use Rattle.gates.specs.declared.gate.Gate.the-variants.{Cnot, Rotation, X, Bad}
 use Rattle.gates.specs.Layout.{gateOf, gatesOf}
 use Rattle.columns.specs.Turning.{turnedBy}
 use Rattle.gathering.specs.Gather.{cnotsIn}
@@ -21,6 +21,7 @@ pub played-append : (L M : List Gate) (x : ℕ) → played (L ++ M) x ≡ played
 played-append [] M x = refl
 played-append (Cnot c t ∷ gs) M x = played-append gs M (turnedBy c t x)
 played-append (Rotation q a ∷ gs) M x = played-append gs M x
+played-append (X q ∷ gs) M x = played-append gs M x
 played-append (Bad ∷ gs) M x = played-append gs M x
 
 pub played-twice : (L M : List Gate) (N : List ℕ) → map (played M) (map (played L) N) ≡ map (played (L ++ M)) N
@@ -31,6 +32,7 @@ played-zero : (L : List Gate) → played L 0 ≡ 0
 played-zero [] = refl
 played-zero (Cnot c t ∷ gs) = ap (played gs) (turned-zero c t) ∙ played-zero gs
 played-zero (Rotation q a ∷ gs) = played-zero gs
+played-zero (X q ∷ gs) = played-zero gs
 played-zero (Bad ∷ gs) = played-zero gs
 
 -- ---- moves of an array
@@ -76,9 +78,11 @@ rowed-end gs N all i l e r =
 pub seen-step : (b : Bool) (g : Gate) (gs : List Gate) (x : ℕ) → played (seen b (g ∷ gs)) x ≡ played (seen b gs) (played (seen b (g ∷ [])) x)
 seen-step true (Cnot c t) gs x = refl
 seen-step true (Rotation q a) gs x = refl
+seen-step true (X q) gs x = refl
 seen-step true Bad gs x = refl
 seen-step false (Cnot c t) gs x = refl
 seen-step false (Rotation q a) gs x = refl
+seen-step false (X q) gs x = refl
 seen-step false Bad gs x = refl
 
 seen-steps : (b : Bool) (g : Gate) (gs : List Gate) (N : List ℕ) → map (played (seen b (g ∷ gs))) N ≡ map (played (seen b gs)) (map (played (seen b (g ∷ []))) N)
@@ -106,6 +110,10 @@ module _ (b : Bool) (laid N : List ℕ) where
 pub fed-rotation : (b : Bool) (q a x : ℕ) → played (seen b (Rotation q a ∷ [])) x ≡ x
 fed-rotation true q a x = refl
 fed-rotation false q a x = refl
+
+pub fed-x : (b : Bool) (q x : ℕ) → played (seen b (X q ∷ [])) x ≡ x
+fed-x true q x = refl
+fed-x false q x = refl
 
 pub fed-bad : (b : Bool) (x : ℕ) → played (seen b (Bad ∷ [])) x ≡ x
 fed-bad true x = refl

@@ -7,7 +7,7 @@ use native.Mathlib.Numerals.{add-one}
 use lib.ListN.{getD, length, take, drop, drop-of-length-le, length-append}
 use lib.Seq.{take-suc, take-length, drop-cons}
 use Rattle.gates.specs.declared.gate.Gate.{Gate}
-use Rattle.gates.specs.declared.gate.Gate.the-variants.{Cnot, Rotation, Bad}
+use Rattle.gates.specs.declared.gate.Gate.the-variants.{Cnot, Rotation, X, Bad}
 use Rattle.gates.specs.Layout.{gateOf, gatesOf}
 use Rattle.circuit.specs.declared.wires.Wires.{Wires}
 use Rattle.circuit.specs.State.{wiresOf}
@@ -74,6 +74,7 @@ back-snoc : (gs : List Gate) (g : Gate) → backOf (gs ++ g ∷ []) ≡ backOf (
 back-snoc [] g = sym (append-nil (backOf (g ∷ [])))
 back-snoc (Cnot c t ∷ gs) g = ap (λ (l : List Gate). l ++ Cnot c t ∷ []) (back-snoc gs g) ∙ append-assoc (backOf (g ∷ [])) (backOf gs) (Cnot c t ∷ [])
 back-snoc (Rotation q a ∷ gs) g = back-snoc gs g
+back-snoc (X q ∷ gs) g = back-snoc gs g
 back-snoc (Bad ∷ gs) g = back-snoc gs g
 
 gates-snoc : (n : ℕ) (xs : List ℕ) (x : ℕ) → gatesOf n (xs ++ x ∷ []) ≡ gatesOf n xs ++ gateOf n x ∷ []
@@ -100,11 +101,13 @@ back-done laid (suc k) l = absurd (omega arith)
 back-step : (g : Gate) (gs : List Gate) → length (backOf (g ∷ gs)) ≡ length (backOf (g ∷ [])) + length (backOf gs)
 back-step (Cnot c t) gs = length-append (backOf gs) (Cnot c t ∷ []) ∙ omega arith
 back-step (Rotation q a) gs = omega arith
+back-step (X q) gs = omega arith
 back-step Bad gs = omega arith
 
 pub back-one : (g : Gate) → length (backOf (g ∷ [])) ≤ 1
 back-one (Cnot c t) = omega arith
 back-one (Rotation q a) = omega arith
+back-one (X q) = omega arith
 back-one Bad = omega arith
 
 next-drop : (xs : List ℕ) (i : ℕ) → i < length xs → drop i xs ≡ getD xs i 0 ∷ drop (i + 1) xs
@@ -129,6 +132,7 @@ module _ (laid : List ℕ) where
 flip-cons : (g : Gate) (gs : List Gate) → flip (g ∷ gs) ≡ flip (g ∷ []) ++ flip gs
 flip-cons (Cnot c t) gs = refl
 flip-cons (Rotation q a) gs = refl
+flip-cons (X q) gs = refl
 flip-cons Bad gs = refl
 
 module _ (n : ℕ) (gates : List ℕ) where

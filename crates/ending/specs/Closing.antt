@@ -7,7 +7,7 @@ use lib.ListN.{length}
 use Rattle.sets.specs.Pick.{pick}
 use Rattle.sets.specs.Size.{sizeOf, onlyOf}
 use Rattle.gates.specs.declared.gate.Gate.{Gate}
-use Rattle.gates.specs.declared.gate.Gate.the-variants.{Cnot, Rotation, Bad}
+use Rattle.gates.specs.declared.gate.Gate.the-variants.{Cnot, Rotation, X, Bad}
 use Rattle.gathering.specs.Gather.{flip}
 use Rattle.ending.specs.Rows.{played}
 use Rattle.ending.specs.Clear.{outOf, cheapestOf}
@@ -34,6 +34,7 @@ abbrev pub backOf : List Gate → List Gate
 backOf [] = []
 backOf (Cnot c t ∷ gs) = backOf gs ++ Cnot c t ∷ []
 backOf (Rotation q a ∷ gs) = backOf gs
+backOf (X q ∷ gs) = backOf gs
 backOf (Bad ∷ gs) = backOf gs
 
 -- back to the start first, then the ending from there

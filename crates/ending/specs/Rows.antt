@@ -3,7 +3,7 @@ use mathlib.Core.Bool.{Bool}
 use mathlib.Core.List.{List, [], _∷_}
 use Prim.Native.Nat.{ℕ}
 use Rattle.gates.specs.declared.gate.Gate.{Gate}
-use Rattle.gates.specs.declared.gate.Gate.the-variants.{Cnot, Rotation, Bad}
+use Rattle.gates.specs.declared.gate.Gate.the-variants.{Cnot, Rotation, X, Bad}
 use Rattle.sets.specs.Pick.{pick}
 use Rattle.columns.specs.Turning.{turnedBy}
 use Rattle.gathering.specs.Gather.{flip}
@@ -13,6 +13,7 @@ abbrev pub played : List Gate → ℕ → ℕ
 played [] x = x
 played (Cnot c t ∷ gs) x = played gs (turnedBy c t x)
 played (Rotation q a ∷ gs) x = played gs x
+played (X q ∷ gs) x = played gs x
 played (Bad ∷ gs) x = played gs x
 
 -- the gates as the rows see them, or as the mirror rows do

@@ -112,6 +112,7 @@ fn put_cnot_of(out: &mut [u32], at: usize, g: Gate) -> usize
     match g {
         Gate::Cnot { control, target } => emit::put_cnot(out, at, control, target),
         Gate::Rotation { qubit: _, angle: _ } => at,
+        Gate::X { qubit: _ } => at,
         Gate::Bad => at,
     }
 }
@@ -139,6 +140,7 @@ fn one(g: Gate) -> usize
             target: _,
         } => 1,
         Gate::Rotation { qubit: _, angle: _ } => 0,
+        Gate::X { qubit: _ } => 0,
         Gate::Bad => 0,
     }
 }

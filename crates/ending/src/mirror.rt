@@ -17,6 +17,7 @@ fn after(rows: [u32; Job::QUBITS], g: Gate) -> [u32; Job::QUBITS]
     match g {
         Gate::Cnot { control, target } => wires::joined(rows, target, control),
         Gate::Rotation { qubit: _, angle: _ } => rows,
+        Gate::X { qubit: _ } => rows,
         Gate::Bad => rows,
     }
 }

@@ -52,6 +52,7 @@ fn fed(x: u32, g: Gate, mirror: bool) -> u32
             }
         }
         Gate::Rotation { qubit: _, angle: _ } => x,
+        Gate::X { qubit: _ } => x,
         Gate::Bad => x,
     }
 }

@@ -8,8 +8,8 @@ use lib.Dec.{eqb, ltb}
 use borrow.Author.Tests.{lt-ltb, ne-eqb, ltb-true, eqb-true, eqb-false}
 use Rattle.sets.specs.Pick.{pick}
 use Rattle.gates.specs.declared.gate.Gate.{Gate}
-use Rattle.gates.specs.declared.gate.Gate.the-variants.{Cnot, Rotation, Bad}
-use Rattle.gates.specs.Layout.{packed, kindIn, aIn, bIn, gateOf, cnotOf, rotationOf, recordOf, Good}
+use Rattle.gates.specs.declared.gate.Gate.the-variants.{Cnot, Rotation, X, Bad}
+use Rattle.gates.specs.Layout.{packed, kindIn, aIn, bIn, gateOf, cnotOf, rotationOf, xOf, recordOf, Good}
 
 -- ---- the three numbers of a record
 
@@ -34,7 +34,7 @@ packed-back x = omega arith
 -- ---- gates
 
 pub gate-record : (n : ℕ) (g : Gate) → n ≤ 256 → Good n g → gateOf n (recordOf g) ≡ g
-unfolding gateOf cnotOf rotationOf recordOf Good
+unfolding gateOf cnotOf rotationOf xOf recordOf Good
 gate-record n (Cnot c t) few (hc, ht, ne) =
     let ec : c % 256 ≡ c = omega arith in
     let et : t % 65536 ≡ t = omega arith in
@@ -46,11 +46,15 @@ gate-record n (Rotation q a) few (hq, ha) =
     let ea : a % 65536 ≡ a = omega arith in
     let q< : q < 256 = omega arith in
     rw (eq, ea) (simp (kind-packed 2 q a q< ha, a-packed 2 q a q< ha, b-packed 2 q a q< ha, lt-ltb q n hq))
+gate-record n (X q) few hq =
+    let eq : q % 256 ≡ q = omega arith in
+    let q< : q < 256 = omega arith in
+    rw eq (simp (kind-packed 3 q 0 q< (omega arith), a-packed 3 q 0 q< (omega arith), b-packed 3 q 0 q< (omega arith), lt-ltb q n hq))
 
 -- what a record decodes to is good, and then the record is that gate's; or it is bad
 pub gate-back : (n x : ℕ) → (gateOf n x ≡ Bad) ⊎ (Good n (gateOf n x) × (recordOf (gateOf n x) ≡ x))
-unfolding gateOf cnotOf rotationOf Good recordOf packed kindIn aIn bIn
-gate-back n x = go (eqb (x / 16777216) 1) (eqb (x / 16777216) 2) (ltb a n) (ltb b n) (eqb a b) refl refl refl refl refl
+unfolding gateOf cnotOf rotationOf xOf Good recordOf packed kindIn aIn bIn
+gate-back n x = go (eqb (x / 16777216) 1) (eqb (x / 16777216) 2) (eqb (x / 16777216) 3) (ltb a n) (ltb b n) (eqb a b) (eqb b 0) refl refl refl refl refl refl refl
   where
     a : ℕ
     a = x / 65536 % 256
@@ -58,16 +62,19 @@ gate-back n x = go (eqb (x / 16777216) 1) (eqb (x / 16777216) 2) (ltb a n) (ltb 
     b : ℕ
     b = x % 65536
 
-    G : Bool → Bool → Bool → Bool → Bool → Gate
-    G k₁ k₂ s t u = pick k₁ (pick s (pick t (pick u Bad (Cnot a b)) Bad) Bad) (pick k₂ (pick s (Rotation a b) Bad) Bad)
+    G : Bool → Bool → Bool → Bool → Bool → Bool → Bool → Gate
+    G k₁ k₂ k₃ s t u z = pick k₁ (pick s (pick t (pick u Bad (Cnot a b)) Bad) Bad) (pick k₂ (pick s (Rotation a b) Bad) (pick k₃ (pick s (pick z (X a) Bad) Bad) Bad))
 
-    go : (k₁ k₂ s t u : Bool) → eqb (x / 16777216) 1 ≡ k₁ → eqb (x / 16777216) 2 ≡ k₂ → ltb a n ≡ s → ltb b n ≡ t → eqb a b ≡ u
-        → (G k₁ k₂ s t u ≡ Bad) ⊎ (Good n (G k₁ k₂ s t u) × (recordOf (G k₁ k₂ s t u) ≡ x))
-    go true k₂ true true true k l p q r = inl refl
-    go true k₂ true true false k l p q r =
+    go : (k₁ k₂ k₃ s t u z : Bool) → eqb (x / 16777216) 1 ≡ k₁ → eqb (x / 16777216) 2 ≡ k₂ → eqb (x / 16777216) 3 ≡ k₃ → ltb a n ≡ s → ltb b n ≡ t → eqb a b ≡ u → eqb b 0 ≡ z
+        → (G k₁ k₂ k₃ s t u z ≡ Bad) ⊎ (Good n (G k₁ k₂ k₃ s t u z) × (recordOf (G k₁ k₂ k₃ s t u z) ≡ x))
+    go true k₂ k₃ true true true z k l m p q r o = inl refl
+    go true k₂ k₃ true true false z k l m p q r o =
         inr ((ltb-true a n p, ltb-true b n q, eqb-false a b r), omega (arith, eqb-true (x / 16777216) 1 k))
-    go true k₂ true false u k l p q r = inl refl
-    go true k₂ false t u k l p q r = inl refl
-    go false true true t u k l p q r = inr ((ltb-true a n p, omega arith), omega (arith, eqb-true (x / 16777216) 2 l))
-    go false true false t u k l p q r = inl refl
-    go false false s t u k l p q r = inl refl
+    go true k₂ k₃ true false u z k l m p q r o = inl refl
+    go true k₂ k₃ false t u z k l m p q r o = inl refl
+    go false true k₃ true t u z k l m p q r o = inr ((ltb-true a n p, omega arith), omega (arith, eqb-true (x / 16777216) 2 l))
+    go false true k₃ false t u z k l m p q r o = inl refl
+    go false false true true t u true k l m p q r o = inr (ltb-true a n p, omega (arith, eqb-true (x / 16777216) 3 m, eqb-true b 0 o))
+    go false false true true t u false k l m p q r o = inl refl
+    go false false true false t u z k l m p q r o = inl refl
+    go false false false s t u z k l m p q r o = inl refl

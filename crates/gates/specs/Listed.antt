@@ -5,7 +5,7 @@ use mathlib.Core.List.{List}
 use Prim.Native.Nat.{ℕ, _<_}
 use lib.ListN.{length, getD}
 use Rattle.gates.specs.declared.gate.Gate.{Gate}
-use Rattle.gates.specs.declared.gate.Gate.the-variants.{Cnot, Rotation, Bad}
+use Rattle.gates.specs.declared.gate.Gate.the-variants.{Cnot, Rotation, X, Bad}
 use Rattle.gates.specs.Layout.{packed}
 
 -- a coupler a,b is listed: "Couplers have no direction"
@@ -17,4 +17,5 @@ Listed couplers a b =
 unfoldable pub OnCoupler : List ℕ → Gate → Type 0
 OnCoupler couplers (Cnot c t) = Listed couplers c t
 OnCoupler couplers (Rotation q a) = Unit {0}
+OnCoupler couplers (X q) = Unit {0}
 OnCoupler couplers Bad = Unit {0}

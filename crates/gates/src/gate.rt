@@ -5,6 +5,7 @@ ghost use Rattle.gates.specs.Layout.{gateOf, recordOf, isBad};
 pub enum Gate {
     Cnot { control: usize, target: usize },
     Rotation { qubit: usize, angle: u32 },
+    X { qubit: usize },
     Bad,
 }
 
@@ -36,6 +37,14 @@ pub fn decode(x: u32, n: usize) -> Gate
                 angle: x % 65536,
             };
         }
+        return Gate::Bad;
+    }
+    if kind == 3 {
+        if a < n {
+            if b == 0 {
+                return Gate::X { qubit: a };
+            }
+        }
     }
     Gate::Bad
 }
@@ -49,6 +58,7 @@ pub fn encode(g: Gate) -> u32
             + (control % 256) as u32 * 65536
             + (target % 65536) as u32,
         Gate::Rotation { qubit, angle } => 33554432 + (qubit % 256) as u32 * 65536 + angle % 65536,
+        Gate::X { qubit } => 50331648 + (qubit % 256) as u32 * 65536,
         Gate::Bad => 0,
     }
 }
@@ -62,6 +72,7 @@ pub fn is_bad(g: Gate) -> bool
             target: _,
         } => false,
         Gate::Rotation { qubit: _, angle: _ } => false,
+        Gate::X { qubit: _ } => false,
         Gate::Bad => true,
     }
 }

@@ -15,7 +15,7 @@ use Rattle.sets.specs.Pick.{pick}
 use Rattle.sets.specs.Bit.{has}
 use Rattle.sets.specs.Size.{lowestOf, onlyOf}
 use Rattle.gates.specs.declared.gate.Gate.{Gate}
-use Rattle.gates.specs.declared.gate.Gate.the-variants.{Cnot, Rotation, Bad}
+use Rattle.gates.specs.declared.gate.Gate.the-variants.{Cnot, Rotation, X, Bad}
 use Rattle.gathering.specs.declared.gather.Order.{Order}
 use Rattle.gathering.specs.declared.gather.Moves.{Moves}
 use Rattle.gathering.specs.declared.gather.Gathering.{Gathering}
@@ -215,6 +215,7 @@ abbrev pub Plain : List Gate → Type 0
 Plain [] = Unit {0}
 Plain (Cnot c t ∷ gs) = Plain gs
 Plain (Rotation q a ∷ gs) = ⊥
+Plain (X q ∷ gs) = ⊥
 Plain (Bad ∷ gs) = ⊥
 
 cnots-back : (gs : List Gate) (to by : List ℕ) (k : ℕ) → Plain gs → ((j : ℕ) → j < length gs → getD to (k + j) 0 ≡ getD (map controlOf gs) j 0)
@@ -228,6 +229,7 @@ cnots-back (Cnot c t ∷ gs) to by k p f g =
     (λ j l. ap (λ (i : ℕ). getD to i 0) (omega arith) ∙ f (suc j) (omega arith))
     (λ j l. ap (λ (i : ℕ). getD by i 0) (omega arith) ∙ g (suc j) (omega arith)))
 cnots-back (Rotation q a ∷ gs) to by k p f g = absurd p
+cnots-back (X q ∷ gs) to by k p f g = absurd p
 cnots-back (Bad ∷ gs) to by k p f g = absurd p
 
 pub moves-back : (gs : List Gate) → Plain gs → length gs ≤ 38 → cnotsIn (movesIn gs .to) (movesIn gs .by) 0 (movesIn gs .len) ≡ gs
@@ -241,6 +243,7 @@ plain-append : (g h : List Gate) → Plain g → Plain h → Plain (g ++ h)
 plain-append [] h p q = q
 plain-append (Cnot c t ∷ g) h p q = plain-append g h p q
 plain-append (Rotation r a ∷ g) h p q = absurd p
+plain-append (X v ∷ g) h p q = absurd p
 plain-append (Bad ∷ g) h p q = absurd p
 
 moves-plain : (a u x : ℕ) → Plain (movesAt a u x)

@@ -25,7 +25,7 @@ use Rattle.sets.proofs.Turn.{turn-on}
 use Rattle.sets.proofs.Words.{has-true, has-false, out-has, lowest-in, only-is}
 use Rattle.chip.specs.Graph.{Near, Symm, Joined}
 use Rattle.gates.specs.declared.gate.Gate.{Gate}
-use Rattle.gates.specs.declared.gate.Gate.the-variants.{Cnot, Rotation, Bad}
+use Rattle.gates.specs.declared.gate.Gate.the-variants.{Cnot, Rotation, X, Bad}
 use Rattle.gathering.specs.Order.{orderOf, Along, root, then}
 use Rattle.gathering.specs.Gather.{turns, Coupled, Within, Spares, movesAt, leftAt, gatherFrom, gatherOf, Gathers}
 use Rattle.gathering.proofs.OrderParts.{sub-lt}
@@ -37,30 +37,35 @@ pub turns-append : (L M : List Gate) (x : ℕ) → turns (L ++ M) x ≡ turns M 
 turns-append [] M x = refl
 turns-append (Cnot c t ∷ gs) M x = turns-append gs M (turn x c t)
 turns-append (Rotation q a ∷ gs) M x = turns-append gs M x
+turns-append (X q ∷ gs) M x = turns-append gs M x
 turns-append (Bad ∷ gs) M x = turns-append gs M x
 
 pub coupled-append : (near : List ℕ) (Q : ℕ) (L M : List Gate) → Coupled near Q L → Coupled near Q M → Coupled near Q (L ++ M)
 coupled-append near Q [] M h k = k
 coupled-append near Q (Cnot c t ∷ gs) M h k = (h .0, coupled-append near Q gs M (h .1) k)
 coupled-append near Q (Rotation q a ∷ gs) M h k = absurd h
+coupled-append near Q (X q ∷ gs) M h k = absurd h
 coupled-append near Q (Bad ∷ gs) M h k = absurd h
 
 pub coupled-up : (near : List ℕ) (S R : ℕ) → Sub S R → (L : List Gate) → Coupled near S L → Coupled near R L
 coupled-up near S R f [] h = tt
 coupled-up near S R f (Cnot c t ∷ gs) h = ((f c (h .0 .0), f t (h .0 .1), h .0 .2, h .0 .3), coupled-up near S R f gs (h .1))
 coupled-up near S R f (Rotation q a ∷ gs) h = absurd h
+coupled-up near S R f (X q ∷ gs) h = absurd h
 coupled-up near S R f (Bad ∷ gs) h = absurd h
 
 pub coupled-within : (near : List ℕ) (Q : ℕ) (L : List Gate) → Coupled near Q L → Within near Q L
 coupled-within near Q [] h = tt
 coupled-within near Q (Cnot c t ∷ gs) h = (h .0, coupled-within near Q gs (h .1))
 coupled-within near Q (Rotation q a ∷ gs) h = absurd h
+coupled-within near Q (X q ∷ gs) h = absurd h
 coupled-within near Q (Bad ∷ gs) h = absurd h
 
 pub spares-append : (v : ℕ) (L M : List Gate) → Spares v L → Spares v M → Spares v (L ++ M)
 spares-append v [] M h k = k
 spares-append v (Cnot c t ∷ gs) M h k = (h .0, spares-append v gs M (h .1) k)
 spares-append v (Rotation q a ∷ gs) M h k = spares-append v gs M h k
+spares-append v (X q ∷ gs) M h k = spares-append v gs M h k
 spares-append v (Bad ∷ gs) M h k = spares-append v gs M h k
 
 -- ---- one member is taken out

@@ -14,7 +14,7 @@ use Rattle.sets.specs.Size.{lowestOf, onlyOf}
 use Rattle.sets.specs.Columns.{turn}
 use Rattle.chip.specs.Graph.{Near}
 use Rattle.gates.specs.declared.gate.Gate.{Gate}
-use Rattle.gates.specs.declared.gate.Gate.the-variants.{Cnot, Rotation, Bad}
+use Rattle.gates.specs.declared.gate.Gate.the-variants.{Cnot, Rotation, X, Bad}
 use Rattle.gathering.specs.declared.gather.Order.{Order}
 use Rattle.gathering.specs.declared.gather.Moves.{Moves}
 use Rattle.gathering.specs.declared.gather.Gathering.{Gathering}
@@ -27,6 +27,7 @@ abbrev pub turns : List Gate → ℕ → ℕ
 turns [] x = x
 turns (Cnot c t ∷ gs) x = turns gs (turn x c t)
 turns (Rotation q a ∷ gs) x = turns gs x
+turns (X q ∷ gs) x = turns gs x
 turns (Bad ∷ gs) x = turns gs x
 
 -- control and target change places: what is done to the rows so is done to the mirror rows
@@ -34,6 +35,7 @@ abbrev pub flip : List Gate → List Gate
 flip [] = []
 flip (Cnot c t ∷ gs) = Cnot t c ∷ flip gs
 flip (Rotation q a ∷ gs) = Rotation q a ∷ flip gs
+flip (X q ∷ gs) = X q ∷ flip gs
 flip (Bad ∷ gs) = Bad ∷ flip gs
 
 -- a CNOT on a coupler whose ends are in Q
@@ -45,6 +47,7 @@ abbrev pub Coupled : List ℕ → ℕ → List Gate → Type 0
 Coupled near Q [] = Unit {0}
 Coupled near Q (Cnot c t ∷ gs) = On near Q c t × Coupled near Q gs
 Coupled near Q (Rotation q a ∷ gs) = ⊥
+Coupled near Q (X q ∷ gs) = ⊥
 Coupled near Q (Bad ∷ gs) = ⊥
 
 -- every CNOT is on a coupler inside Q; other gates are free
@@ -52,6 +55,7 @@ abbrev pub Within : List ℕ → ℕ → List Gate → Type 0
 Within near Q [] = Unit {0}
 Within near Q (Cnot c t ∷ gs) = On near Q c t × Within near Q gs
 Within near Q (Rotation q a ∷ gs) = Within near Q gs
+Within near Q (X q ∷ gs) = Within near Q gs
 Within near Q (Bad ∷ gs) = Within near Q gs
 
 -- v is the control of none: the sets' bit v stays
@@ -59,6 +63,7 @@ abbrev pub Spares : ℕ → List Gate → Type 0
 Spares v [] = Unit {0}
 Spares v (Cnot c t ∷ gs) = (c ≢ v) × Spares v gs
 Spares v (Rotation q a ∷ gs) = Spares v gs
+Spares v (X q ∷ gs) = Spares v gs
 Spares v (Bad ∷ gs) = Spares v gs
 
 -- ---- gathering
@@ -106,11 +111,13 @@ pub record Gathers (near : List ℕ) (v S x : ℕ) (L : List Gate) : Type 0 wher
 abbrev pub controlOf : Gate → ℕ
 controlOf (Cnot c t) = c
 controlOf (Rotation q a) = 0
+controlOf (X q) = 0
 controlOf Bad = 0
 
 abbrev pub targetOf : Gate → ℕ
 targetOf (Cnot c t) = t
 targetOf (Rotation q a) = 0
+targetOf (X q) = 0
 targetOf Bad = 0
 
 unfoldable pub movesIn : List Gate → Moves

@@ -10,13 +10,16 @@ use lib.ListN.{getD}
 use lib.Bits.{bitAnd}
 use Rattle.sets.specs.Pick.{pick}
 use Rattle.sets.specs.Bit.{bit, In, Sub, has}
-use Rattle.sets.proofs.Deciding.{both-yes, both-not}
+use Rattle.sets.proofs.Deciding.{both-true, both-yes, both-not}
 use Rattle.sets.proofs.Bits.{bit-cases}
 use Rattle.sets.proofs.Members.{in-and, and-in, sub-eq}
-use Rattle.sets.proofs.Words.{in-has, out-has}
+use Rattle.sets.proofs.Words.{has-true, in-has, out-has}
 use Rattle.gates.specs.declared.gate.Gate.{Gate}
-use Rattle.gates.specs.declared.gate.Gate.the-variants.{Cnot, Rotation, Bad}
+use Rattle.gates.specs.declared.gate.Gate.the-variants.{Cnot, Rotation, X, Bad}
 use Rattle.gates.specs.All.{All}
+use Rattle.gates.proofs.Alls.{all-map, all-append}
+use Rattle.flips.specs.Xs.{xsOn}
+use Rattle.flips.proofs.Xs.{xs-all}
 use Rattle.meaning.specs.Borne.{Among}
 use Rattle.meaning.proofs.Lists.{Up, ascending-same}
 use Rattle.chip.specs.Graph.{Near}
@@ -41,22 +44,41 @@ on-append S (x ∷ g) h = go (isOn S x) (on-append S g h)
     go true e = ap (λ (l : List Gate). x ∷ l) e
     go false e = e
 
-on-all : (near : List ℕ) (S : ℕ) (gs : List Gate) → All (Inside near S) gs → gatesOn S gs ≡ gs
-unfolding gatesOn isOn All Inside
-on-all near S [] a = refl
-on-all near S (Cnot c t ∷ gs) a = ap (λ (b : Bool). pick b (Cnot c t ∷ gatesOn S gs) (gatesOn S gs)) (both-yes (has S c) (has S t) (in-has S c (a .0 .1)) (in-has S t (a .0 .2))) ∙ ap (λ (l : List Gate). Cnot c t ∷ l) (on-all near S gs (a .1))
-on-all near S (Rotation q x ∷ gs) a = ap (λ (b : Bool). pick b (Rotation q x ∷ gatesOn S gs) (gatesOn S gs)) (in-has S q (a .0)) ∙ ap (λ (l : List Gate). Rotation q x ∷ l) (on-all near S gs (a .1))
-on-all near S (Bad ∷ gs) a = absurd (a .0)
+-- all qubits of a gate are in S
+abbrev pub On : ℕ → Gate → Type 0
+On S g = isOn S g ≡ true
 
-on-none : (near : List ℕ) (S R : ℕ) → ((i : ℕ) → In i R → bit S i ≡ 0) → (gs : List Gate) → All (Inside near R) gs → gatesOn S gs ≡ []
-unfolding gatesOn isOn All Inside
-on-none near S R off [] a = refl
-on-none near S R off (Cnot c t ∷ gs) a = ap (λ (b : Bool). pick b (Cnot c t ∷ gatesOn S gs) (gatesOn S gs)) (both-not (has S c) (has S t) (out-has S c (off c (a .0 .1)))) ∙ on-none near S R off gs (a .1)
-on-none near S R off (Rotation q x ∷ gs) a = ap (λ (b : Bool). pick b (Rotation q x ∷ gatesOn S gs) (gatesOn S gs)) (out-has S q (off q (a .0))) ∙ on-none near S R off gs (a .1)
-on-none near S R off (Bad ∷ gs) a = absurd (a .0)
+on-all : (S : ℕ) (gs : List Gate) → All (On S) gs → gatesOn S gs ≡ gs
+unfolding gatesOn All
+on-all S [] a = refl
+on-all S (g ∷ gs) a = ap (λ (b : Bool). pick b (g ∷ gatesOn S gs) (gatesOn S gs)) (a .0) ∙ ap (λ (l : List Gate). g ∷ l) (on-all S gs (a .1))
 
-module _ (n : ℕ) (isl : ℕ → ℕ) (few : n ≤ 20) (parts : Parts n isl) (on : ℕ → List Gate) (nears : ℕ → List ℕ)
-    (inside : (q : ℕ) → q < n → All (Inside (nears q) (isl q)) (on q)) (j : ℕ) (lj : j < n) (ej : leads isl j ≡ true) where
+on-off : (S R : ℕ) → ((i : ℕ) → In i R → bit S i ≡ 0) → (g : Gate) → On R g → isOn S g ≡ false
+unfolding isOn
+on-off S R off (Cnot c t) h = both-not (has S c) (has S t) (out-has S c (off c (has-true R c (both-true (has R c) (has R t) h .0))))
+on-off S R off (Rotation q a) h = out-has S q (off q (has-true R q h))
+on-off S R off (X q) h = out-has S q (off q (has-true R q h))
+on-off S R off Bad h = refl
+
+on-none : (S R : ℕ) → ((i : ℕ) → In i R → bit S i ≡ 0) → (gs : List Gate) → All (On R) gs → gatesOn S gs ≡ []
+unfolding gatesOn All
+on-none S R off [] a = refl
+on-none S R off (g ∷ gs) a = ap (λ (b : Bool). pick b (g ∷ gatesOn S gs) (gatesOn S gs)) (on-off S R off g (a .0)) ∙ on-none S R off gs (a .1)
+
+pub inside-on : (near : List ℕ) (S : ℕ) (g : Gate) → Inside near S g → On S g
+unfolding isOn Inside
+inside-on near S (Cnot c t) h = both-yes (has S c) (has S t) (in-has S c (h .1)) (in-has S t (h .2))
+inside-on near S (Rotation q a) h = in-has S q h
+inside-on near S (X q) h = absurd h
+inside-on near S Bad h = absurd h
+
+-- the gates of an island and the X gates behind them are on it
+pub flips-on : (near : List ℕ) (S : ℕ) (F : List ℕ) (gs : List Gate) → All (Inside near S) gs → All (On S) (gs ++ xsOn S F)
+unfolding isOn
+flips-on near S F gs a = all-append (On S) gs (xsOn S F) (all-map (Inside near S) (On S) (inside-on near S) gs a) (xs-all S F (On S) (λ k m. in-has S k m))
+
+module _ (n : ℕ) (isl : ℕ → ℕ) (few : n ≤ 20) (parts : Parts n isl) (on : ℕ → List Gate)
+    (own : (q : ℕ) → q < n → All (On (isl q)) (on q)) (j : ℕ) (lj : j < n) (ej : leads isl j ≡ true) where
   apart : (q : ℕ) → q < n → leads isl q ≡ true → q ≢ j → (i : ℕ) → In i (isl q) → bit (isl j) i ≡ 0
   apart q l e ne i m = go (bit-cases (isl j) i)
     where
@@ -71,7 +93,7 @@ module _ (n : ℕ) (isl : ℕ → ℕ) (few : n ≤ 20) (parts : Parts n isl) (o
       go : (t : Bool) → leads isl k ≡ t → gatesOn (isl j) (laidTo isl on k) ≡ [] → gatesOn (isl j) (laidTo isl on (suc k)) ≡ []
       go true e ih =
           ap (gatesOn (isl j)) (laid-led n isl few parts on k e) ∙ on-append (isl j) (laidTo isl on k) (on k)
-          ∙ ap₂ (λ (a b : List Gate). a ++ b) ih (on-none (nears k) (isl j) (isl k) (apart k l e (λ (d : k ≡ j). omega arith)) (on k) (inside k l))
+          ∙ ap₂ (λ (a b : List Gate). a ++ b) ih (on-none (isl j) (isl k) (apart k l e (λ (d : k ≡ j). omega arith)) (on k) (own k l))
       go false e ih = ap (gatesOn (isl j)) (laid-not n isl few parts on k e) ∙ ih
 
   pub gates-on : (k : ℕ) → k ≤ n → j < k → gatesOn (isl j) (laidTo isl on k) ≡ on j
@@ -82,10 +104,10 @@ module _ (n : ℕ) (isl : ℕ → ℕ) (few : n ≤ 20) (parts : Parts n isl) (o
       go true e (yes d) ih =
           ap (gatesOn (isl j)) (laid-led n isl few parts on k e) ∙ on-append (isl j) (laidTo isl on k) (on k)
           ∙ ap₂ (λ (a b : List Gate). a ++ b) (before k (omega arith) (omega arith))
-          (subst (λ (m : ℕ). gatesOn (isl j) (on m) ≡ on j) (sym d) (on-all (nears j) (isl j) (on j) (inside j lj)))
+          (subst (λ (m : ℕ). gatesOn (isl j) (on m) ≡ on j) (sym d) (on-all (isl j) (on j) (own j lj)))
       go true e (no d) ih =
           ap (gatesOn (isl j)) (laid-led n isl few parts on k e) ∙ on-append (isl j) (laidTo isl on k) (on k)
-          ∙ ap₂ (λ (a b : List Gate). a ++ b) (ih (omega arith)) (on-none (nears k) (isl j) (isl k) (apart k l e d) (on k) (inside k l)) ∙ append-nil (on j)
+          ∙ ap₂ (λ (a b : List Gate). a ++ b) (ih (omega arith)) (on-none (isl j) (isl k) (apart k l e d) (on k) (own k l)) ∙ append-nil (on j)
       go false e (yes d) ih = absurd (let z : _≡_ {A = ℕ} 1 0 = ap (λ (b : Bool). pick b 1 0) (sym (subst (λ (m : ℕ). leads isl m ≡ true) (sym d) ej) ∙ e) in omega arith)
       go false e (no d) ih = ap (gatesOn (isl j)) (laid-not n isl few parts on k e) ∙ ih (omega arith)
 

@@ -11,6 +11,7 @@ use Rattle.sets.specs.Pick.{pick}
 use Rattle.gates.specs.declared.gate.Gate.{Gate}
 use Rattle.verdicts.specs.declared.verdict.Verdict.{Verdict}
 use Rattle.gates.specs.Layout.{gatesOf, recordOf}
+use Rattle.circuit.specs.Phase.{phaseOf}
 use Rattle.verdicts.specs.Verdicts.{numberOf}
 use Rattle.verdicts.proofs.Judged.{then-stop}
 use Rattle.emitting.specs.Emit.{emit, emitAt}
@@ -57,7 +58,7 @@ module _ (n : ℕ) (xs ys : List ℕ) (out : List ℕ) where
   refused v e ne =
       let w : judgedJob n xs ys room ≡ verdictOf n xs ys room = then-stop (judgedJob n xs ys room) _ (λ z. ne (ap numberOf e ∙ z)) in
       let b : eqb (numberOf (verdictOf n xs ys room)) 0 ≡ false = ne-eqb (numberOf (verdictOf n xs ys room)) 0 (λ z. ne (ap numberOf (e ∙ w) ∙ z)) in (
-        ap Refused (e ∙ w) ∙ sym (ap (λ (t : Bool). pick t (countsOf C) (Refused (verdictOf n xs ys room))) b),
+        ap Refused (e ∙ w) ∙ sym (ap (λ (t : Bool). pick t (countsOf C (phaseOf (gatesOf n ys))) (Refused (verdictOf n xs ys room))) b),
         sym (ap (λ (t : Bool). pick t (map recordOf C ++ drop (length C) out) out) b),
       )
 
@@ -71,12 +72,12 @@ module _ (n : ℕ) (xs ys : List ℕ) (out : List ℕ) where
     accepted = eq-eqb (numberOf (verdictOf n xs ys room)) 0 (ap numberOf (job-accepted n xs ys room e))
 
     module _ (laid : List ℕ) (k : ℕ) (a : laid ≡ emit zeros 0 C) (b : k ≡ emitAt zeros 0 C) where
-      counts-are : (r : Answer) → r ≡ countsOf (gatesOf n (take k laid)) → r ≡ answered n xs ys room
+      counts-are : (r : Answer) (f : ℕ) → f ≡ phaseOf (gatesOf n ys) → r ≡ countsOf (gatesOf n (take k laid)) f → r ≡ answered n xs ys room
       unfolding answered
-      counts-are r h =
+      counts-are r f d h =
           let f = job .few in
-          h ∙ ap countsOf (ap₂ (λ (i : ℕ) (l : List ℕ). gatesOf n (take i l)) b a ∙ gates-read C (circuit-fine n xs ys job) n (omega arith) (circuit-good n xs ys job))
-          ∙ sym (ap (λ (t : Bool). pick t (countsOf C) (Refused (verdictOf n xs ys room))) accepted)
+          h ∙ ap₂ countsOf (ap₂ (λ (i : ℕ) (l : List ℕ). gatesOf n (take i l)) b a ∙ gates-read C (circuit-fine n xs ys job) n (omega arith) (circuit-good n xs ys job)) d
+          ∙ sym (ap (λ (t : Bool). pick t (countsOf C (phaseOf (gatesOf n ys))) (Refused (verdictOf n xs ys room))) accepted)
 
       output-is : (out′ : List ℕ) → out′ ≡ emit out 0 (gatesOf 20 (take k laid)) → out′ ≡ outputOf n xs ys out
       unfolding outputOf
@@ -86,6 +87,6 @@ module _ (n : ℕ) (xs ys : List ℕ) (out : List ℕ) where
           ∙ ap (λ (j : ℕ). map recordOf C ++ drop j out) (let z : 0 + length C ≡ length C = omega arith in z)
           ∙ sym (ap (λ (t : Bool). pick t (map recordOf C ++ drop (length C) out) out) accepted)
 
-      pub copied : (r : Answer) (out′ : List ℕ) → r ≡ countsOf (gatesOf n (take k laid)) → out′ ≡ emit out 0 (gatesOf 20 (take k laid))
+      pub copied : (r : Answer) (f : ℕ) (out′ : List ℕ) → f ≡ phaseOf (gatesOf n ys) → r ≡ countsOf (gatesOf n (take k laid)) f → out′ ≡ emit out 0 (gatesOf 20 (take k laid))
           → (r ≡ answered n xs ys room) × (out′ ≡ outputOf n xs ys out)
-      copied r out′ g h = (counts-are r g, output-is out′ h)
+      copied r f out′ d g h = (counts-are r f d g, output-is out′ h)

@@ -14,18 +14,19 @@ use Rattle.gates.specs.Layout.{gatesOf, recordOf}
 use Rattle.verdicts.specs.declared.verdict.Verdict.the-variants.{Accepted}
 use Rattle.verdicts.specs.Verdicts.{numberOf, judgedCouplers}
 use Rattle.circuit.specs.Circuit.{finalOf, sumOf}
-use Rattle.meaning.specs.Same.{SameMeaning}
+use Rattle.circuit.specs.Flips.{flipRun, noFlips, flipOf}
+use Rattle.meaning.specs.Same.{Alike}
 use Rattle.chip.specs.Couplers.{nearOf}
 use Rattle.isles.specs.Islands.{islandOf}
 use Rattle.share.specs.Own.{ownSets}
 use Rattle.laying.specs.Islands.{leads, laidTo}
-use Rattle.laying.specs.Laid.{onIsland, laidOf}
+use Rattle.laying.specs.Laid.{onIsland, withFlips, laidOf}
 use Rattle.laying.specs.Layable.{Layable}
 use Rattle.laying.specs.Verdict.{verdictOf, circuitOf, laidRecords}
 use Rattle.laying.specs.Demands.{Linked, same, more, Island, gatesOn, SameCouplers, Agree}
 use Rattle.laying.proofs.Job.{parts}
 use Rattle.laying.proofs.Both.{island-placed}
-use Rattle.laying.proofs.Alike.{gates-on}
+use Rattle.laying.proofs.Alike.{flips-on, gates-on}
 use Rattle.laying.proofs.Accepting.{job-layable, job-listed}
 use Rattle.laying.proofs.Linking.{linked-in, in-linked, island-found}
 use Rattle.laying.proofs.Demands.{accepted-job, records-are, demand-2, demand-2-lent, demand-3}
@@ -37,7 +38,7 @@ module _ (n : ℕ) (couplers gates : List ℕ) (room : ℕ) (accepted : numberOf
   isl = islandOf (nearOf n couplers)
 
   abbrev on : ℕ → List Gate
-  on q = onIsland (nearOf n couplers) (gatesOf n gates) q .laid
+  on = withFlips (nearOf n couplers) (gatesOf n gates)
 
   job : Layable n couplers gates
   job = job-layable n couplers gates room (accepted-job n couplers gates room accepted)
@@ -65,7 +66,9 @@ module _ (n : ℕ) (couplers gates : List ℕ) (room : ℕ) (accepted : numberOf
   led : (q : ℕ) → q < n → leads isl q ≡ true → gatesOn (isl q) (circuitOf n couplers gates) ≡ on q
   led q h e =
       ap (gatesOn (isl q)) circuit-laid
-      ∙ gates-on n isl (job .few) (parts n couplers (job .few)) on (λ k. ownSets (isl k) (nearOf n couplers)) (λ k l. island-placed n couplers gates job k l .inside) q h e n (omega arith) h
+      ∙ gates-on n isl (job .few) (parts n couplers (job .few)) on
+      (λ k l. unfold withFlips in flips-on (ownSets (isl k) (nearOf n couplers)) (isl k) (flipRun (gatesOf n gates) noFlips) (onIsland (nearOf n couplers) (gatesOf n gates) k .laid) (island-placed n couplers gates job k l .inside))
+      q h e n (omega arith) h
 
 -- ---- two jobs
 
@@ -80,7 +83,7 @@ leads-same : (isl isl′ : ℕ → ℕ) (q : ℕ) → isl q ≡ isl′ q → lea
 unfolding leads
 leads-same isl isl′ q e = ap (λ (Q : ℕ). eqb (lowestOf Q) q) e
 
-laid-alike : (isl isl′ : ℕ → ℕ) (on on′ : ℕ → List Gate) (k : ℕ) → ((q : ℕ) → q < k → isl q ≡ isl′ q) → ((q : ℕ) → q < k → leads isl q ≡ true → on q ≡ on′ q)
+pub laid-alike : (isl isl′ : ℕ → ℕ) (on on′ : ℕ → List Gate) (k : ℕ) → ((q : ℕ) → q < k → isl q ≡ isl′ q) → ((q : ℕ) → q < k → leads isl q ≡ true → on q ≡ on′ q)
     → laidTo isl on k ≡ laidTo isl′ on′ k
 unfolding laidTo
 laid-alike isl isl′ on on′ zero e alike = refl
@@ -114,15 +117,16 @@ module _ (n : ℕ) (couplers couplers′ gates gates′ : List ℕ) (room room�
   linked-below (more l h k) = h
 
   -- jobs of equal meaning agree on each of their islands
-  pub meaning-agrees : SameMeaning n drawn drawn′ → (S q : ℕ) → Island n couplers S q → Agree S couplers couplers′ drawn drawn′
+  pub meaning-agrees : Alike n drawn drawn′ → (S q : ℕ) → Island n couplers S q → Agree S couplers couplers′ drawn drawn′
   meaning-agrees m S q i = record {
     there = λ u v a b k. chip .there u v k;
     back = λ u v a b k. chip .back u v k;
     finals = λ j a. m .finals j (linked-below (i .only j a));
+    flips = λ j a. m .flips j (linked-below (i .only j a));
     sums = λ p a. m .sums p;
   }
 
-  same-circuit : SameMeaning n drawn drawn′ → circuitOf n couplers gates ≡ circuitOf n couplers′ gates′
+  same-circuit : Alike n drawn drawn′ → circuitOf n couplers gates ≡ circuitOf n couplers′ gates′
   same-circuit m =
       circuit-laid n couplers gates room one ∙ laid-alike (isl n couplers gates room one) (isl n couplers′ gates′ room′ two) (on n couplers gates room one) (on n couplers′ gates′ room′ two) n same-island same-gates
       ∙ sym (circuit-laid n couplers′ gates′ room′ two)
@@ -138,7 +142,7 @@ module _ (n : ℕ) (couplers couplers′ gates gates′ : List ℕ) (room room�
           island-found n couplers′ (job n couplers′ gates′ room′ two .few) (listed n couplers′ gates′ room′ two) (islandOf (nearOf n couplers) q) q (there q h)
 
       same-gates : (q : ℕ) → q < n → leads (islandOf (nearOf n couplers)) q ≡ true
-          → onIsland (nearOf n couplers) drawn q .laid ≡ onIsland (nearOf n couplers′) drawn′ q .laid
+          → withFlips (nearOf n couplers) drawn q ≡ withFlips (nearOf n couplers′) drawn′ q
       same-gates q h e =
           let S : ℕ = islandOf (nearOf n couplers) q in
           sym (led n couplers gates room one q h e)
@@ -146,10 +150,10 @@ module _ (n : ℕ) (couplers couplers′ gates gates′ : List ℕ) (room room�
           ∙ ap (λ (Q : ℕ). gatesOn Q (circuitOf n couplers′ gates′)) (same-island q h)
           ∙ led n couplers′ gates′ room′ two q h (sym (leads-same (islandOf (nearOf n couplers)) (islandOf (nearOf n couplers′)) q (same-island q h)) ∙ e)
 
--- Two accepted jobs with the same number of qubits and the same couplers have equal meaning exactly when the same records were laid for them.
+-- Two accepted jobs with the same number of qubits and the same couplers have equal meaning, common phases aside, exactly when the same records were laid for them.
 pub one-circuit-for-one-meaning : (n : ℕ) (couplers couplers′ gates gates′ out out′ : List ℕ)
     → numberOf (verdictOf n couplers gates (length out)) ≡ 0 → numberOf (verdictOf n couplers′ gates′ (length out′)) ≡ 0 → SameCouplers couplers couplers′
-    → SameMeaning n (gatesOf n gates) (gatesOf n gates′) ↔ (laidRecords n couplers gates out ≡ laidRecords n couplers′ gates′ out′)
+    → Alike n (gatesOf n gates) (gatesOf n gates′) ↔ (laidRecords n couplers gates out ≡ laidRecords n couplers′ gates′ out′)
 one-circuit-for-one-meaning n couplers couplers′ gates gates′ out out′ one two chip = (there, back)
   where
     C : List Gate
@@ -158,18 +162,19 @@ one-circuit-for-one-meaning n couplers couplers′ gates gates′ out out′ one
     C′ : List Gate
     C′ = circuitOf n couplers′ gates′
 
-    there : SameMeaning n (gatesOf n gates) (gatesOf n gates′) → laidRecords n couplers gates out ≡ laidRecords n couplers′ gates′ out′
+    there : Alike n (gatesOf n gates) (gatesOf n gates′) → laidRecords n couplers gates out ≡ laidRecords n couplers′ gates′ out′
     there m =
         records-are n couplers gates out one ∙ ap (map recordOf) (same-circuit n couplers couplers′ gates gates′ (length out) (length out′) one two chip m)
         ∙ sym (records-are n couplers′ gates′ out′ two)
 
-    back : laidRecords n couplers gates out ≡ laidRecords n couplers′ gates′ out′ → SameMeaning n (gatesOf n gates) (gatesOf n gates′)
+    back : laidRecords n couplers gates out ≡ laidRecords n couplers′ gates′ out′ → Alike n (gatesOf n gates) (gatesOf n gates′)
     back e =
         let same-laid : C ≡ C′ = sym (demand-2-lent n couplers gates out one) ∙ ap (gatesOf n) e ∙ demand-2-lent n couplers′ gates′ out′ two in
-        let a = demand-2 n couplers gates (length out) one .same in
-        let b = demand-2 n couplers′ gates′ (length out′) two .same in
+        let a = demand-2 n couplers gates (length out) one .same .alike in
+        let b = demand-2 n couplers′ gates′ (length out′) two .same .alike in
         record {
           finals = λ i h. a .finals i h ∙ ap (λ (g : List Gate). finalOf g i) same-laid ∙ sym (b .finals i h);
+          flips = λ i h. a .flips i h ∙ ap (λ (g : List Gate). flipOf g i) same-laid ∙ sym (b .flips i h);
           sums = λ p. a .sums p ∙ ap (λ (g : List Gate). sumOf p g) same-laid ∙ sym (b .sums p);
         }
 
@@ -179,4 +184,4 @@ pub laid-again : (n : ℕ) (couplers gates out out′ : List ℕ) → numberOf (
     → laidRecords n couplers (laidRecords n couplers gates out) out′ ≡ laidRecords n couplers gates out
 laid-again n couplers gates out out′ one two =
     sym (one-circuit-for-one-meaning n couplers couplers gates (laidRecords n couplers gates out) out out′ one two (record { there = λ u v k. k; back = λ u v k. k }) .0
-    (subst (SameMeaning n (gatesOf n gates)) (sym (demand-2-lent n couplers gates out one)) (demand-2 n couplers gates (length out) one .same)))
+    (subst (Alike n (gatesOf n gates)) (sym (demand-2-lent n couplers gates out one)) (demand-2 n couplers gates (length out) one .same .alike)))

@@ -9,7 +9,7 @@ use native.Mathlib.Decide.{ℕ-discrete}
 use lib.Dec.{eqb}
 use lib.ListN.{length, take, drop, length-map}
 use lib.Seq.{take-append-seam}
-use borrow.Author.Tests.{eqb-true, eqb-false}
+use borrow.Author.Tests.{eq-eqb, eqb-true, eqb-false}
 use Rattle.sets.specs.Pick.{pick}
 use Rattle.gates.specs.declared.gate.Gate.{Gate}
 use Rattle.verdicts.specs.declared.verdict.Verdict.{Verdict}
@@ -17,7 +17,8 @@ use Rattle.verdicts.specs.declared.verdict.Verdict.the-variants.{Accepted}
 use Rattle.gates.specs.Layout.{gatesOf, recordOf, Good}
 use Rattle.meaning.specs.Borne.{overAt}
 use Rattle.gates.specs.All.{All}
-use Rattle.meaning.specs.Same.{Reachable}
+use Rattle.meaning.specs.Same.{SameMeaning, Reachable}
+use Rattle.circuit.specs.Phase.{phaseOf}
 use Rattle.tallies.specs.Tally.{cnotsOf, rotationsOf, depthOf}
 use Rattle.verdicts.specs.Verdicts.{numberOf, placeOf, judgedQubits, judgedCouplers, judgedGates}
 use Rattle.verdicts.specs.InOrder.{andThen}
@@ -31,16 +32,16 @@ use Rattle.laying.specs.declared.lay.Answer.{Answer}
 use Rattle.laying.specs.declared.lay.Answer.the-variants.{Laid, Refused}
 use Rattle.laying.specs.Layable.{Layable}
 use Rattle.judging.specs.Tests.{judgedCount, judgedParities, judgedReach, judgedRoom, judgedMeaning, judgedJob}
-use Rattle.laying.specs.Verdict.{judgedStuck, verdictOf, circuitOf, countsOf, answered, outputOf, verdictIn, recordsIn, cnotsIn, rotationsIn, depthIn, laidRecords}
+use Rattle.laying.specs.Verdict.{judgedStuck, verdictOf, circuitOf, countsOf, answered, outputOf, verdictIn, recordsIn, cnotsIn, rotationsIn, depthIn, phaseIn, laidRecords}
 use Rattle.laying.specs.Reach.{Within}
-use Rattle.laying.specs.Demands.{Island, InIsland, gatesOn, Faithful, judgedSix, Stays, InIslands, Strays, Agree}
+use Rattle.laying.specs.Demands.{Island, InIsland, gatesOn, Faithful, FlipsLast, judgedSix, Stays, InIslands, Strays, Agree}
 use Rattle.laying.proofs.Job.{only-inside}
 use Rattle.judging.proofs.Judging.{qubits-few, over-few}
 use Rattle.laying.proofs.Accepting.{reach-within, within-reach, reach-number, reach-place, parities-whole, job-layable, job-room, job-listed, job-not-stuck, room-number}
-use Rattle.laying.proofs.Accepted.{circuit-same, circuit-good, circuit-coupled, circuit-rotations, circuit-cnots, circuit-bounded, circuit-reaches, stuck-passed, job-accepted}
+use Rattle.laying.proofs.Accepted.{circuit-quiet, circuit-alike, circuit-phase, circuit-same, circuit-good, circuit-coupled, circuit-rotations, circuit-cnots, circuit-xs, circuit-xs-at, circuit-bounded, circuit-reaches, stuck-passed, job-accepted}
 use Rattle.laying.proofs.Linking.{linked-in, in-linked}
 use Rattle.laying.proofs.Each.{each-term-once, no-other}
-use Rattle.laying.proofs.Twice.{same-gates}
+use Rattle.laying.proofs.Twice.{flips-last, same-gates}
 
 -- ---- demand 1
 
@@ -54,38 +55,43 @@ module _ (n : ℕ) (couplers gates out : List ℕ) where
   abbrev circuit : List Gate
   circuit = circuitOf n couplers gates
 
+  abbrev phase : ℕ
+  phase = phaseOf (gatesOf n gates)
+
   -- every job gets the answer of the first test that it fails, of 1 to 9 in that order, or is accepted
   pub demand-1-verdict : verdictIn answer ≡ verdict
   unfolding answered
   demand-1-verdict = go (eqb (numberOf verdict) 0) refl
     where
-      go : (b : Bool) → eqb (numberOf verdict) 0 ≡ b → verdictIn (pick b (countsOf circuit) (Refused verdict)) ≡ verdict
+      go : (b : Bool) → eqb (numberOf verdict) 0 ≡ b → verdictIn (pick b (countsOf circuit phase) (Refused verdict)) ≡ verdict
       go true e = unfold countsOf in sym (zero-accepted verdict (eqb-true (numberOf verdict) 0 e))
       go false e = refl
 
   -- "On refusal all counts are 0 and no lent record has changed"
-  pub demand-1-refused : numberOf verdict ≢ 0 → (recordsIn answer ≡ 0) × (cnotsIn answer ≡ 0) × (rotationsIn answer ≡ 0) × (depthIn answer ≡ 0) × (outputOf n couplers gates out ≡ out)
+  pub demand-1-refused : numberOf verdict ≢ 0 → (recordsIn answer ≡ 0) × (cnotsIn answer ≡ 0) × (rotationsIn answer ≡ 0) × (depthIn answer ≡ 0) × (phaseIn answer ≡ 0)
+      × (outputOf n couplers gates out ≡ out)
   unfolding answered outputOf
   demand-1-refused ne = go (eqb (numberOf verdict) 0) refl
     where
       go : (b : Bool) → eqb (numberOf verdict) 0 ≡ b
-          → let a = pick b (countsOf circuit) (Refused verdict) in
-          (recordsIn a ≡ 0) × (cnotsIn a ≡ 0) × (rotationsIn a ≡ 0) × (depthIn a ≡ 0) × (pick b (map recordOf circuit ++ drop (length circuit) out) out ≡ out)
+          → let a = pick b (countsOf circuit phase) (Refused verdict) in
+          (recordsIn a ≡ 0) × (cnotsIn a ≡ 0) × (rotationsIn a ≡ 0) × (depthIn a ≡ 0) × (phaseIn a ≡ 0)
+          × (pick b (map recordOf circuit ++ drop (length circuit) out) out ≡ out)
       go true e = absurd (ne (eqb-true (numberOf verdict) 0 e))
-      go false e = (refl, refl, refl, refl, refl)
+      go false e = (refl, refl, refl, refl, refl, refl)
 
-  -- "An acceptance returns the number of records, CNOTs, rotations and the depth; the first records of the output are the circuit and all later ones stay"
+  -- "An acceptance returns the number of records, CNOTs, rotations and the depth; the first records of the output are the circuit and all later ones stay"; it returns the common phase too
   pub demand-1-accepted : numberOf verdict ≡ 0
       → (recordsIn answer ≡ length circuit) × (cnotsIn answer ≡ cnotsOf circuit) × (rotationsIn answer ≡ rotationsOf circuit) × (depthIn answer ≡ depthOf circuit)
-      × (outputOf n couplers gates out ≡ map recordOf circuit ++ drop (length circuit) out)
+      × (phaseIn answer ≡ phase) × (outputOf n couplers gates out ≡ map recordOf circuit ++ drop (length circuit) out)
   unfolding answered outputOf countsOf
   demand-1-accepted z = go (eqb (numberOf verdict) 0) refl
     where
       go : (b : Bool) → eqb (numberOf verdict) 0 ≡ b
-          → let a = pick b (Laid (length circuit) (cnotsOf circuit) (rotationsOf circuit) (depthOf circuit)) (Refused verdict) in
+          → let a = pick b (Laid (length circuit) (cnotsOf circuit) (rotationsOf circuit) (depthOf circuit) phase) (Refused verdict) in
           (recordsIn a ≡ length circuit) × (cnotsIn a ≡ cnotsOf circuit) × (rotationsIn a ≡ rotationsOf circuit) × (depthIn a ≡ depthOf circuit)
-          × (pick b (map recordOf circuit ++ drop (length circuit) out) out ≡ map recordOf circuit ++ drop (length circuit) out)
-      go true e = (refl, refl, refl, refl, refl)
+          × (phaseIn a ≡ phase) × (pick b (map recordOf circuit ++ drop (length circuit) out) out ≡ map recordOf circuit ++ drop (length circuit) out)
+      go true e = (refl, refl, refl, refl, refl, refl)
       go false e = absurd (eqb-false (numberOf verdict) 0 e z)
 
 -- ---- demand 2
@@ -96,19 +102,33 @@ unfolding verdictOf
 accepted-job n couplers gates room z = then-zero (judgedJob n couplers gates room) _ z .0
 
 -- the circuit has the meaning of the job, is on its couplers and within the bound
-pub demand-2 : (n : ℕ) (couplers gates : List ℕ) (room : ℕ) → numberOf (verdictOf n couplers gates room) ≡ 0 → Faithful n couplers (gatesOf n gates) (circuitOf n couplers gates)
+pub demand-2 : (n : ℕ) (couplers gates : List ℕ) (room : ℕ) → numberOf (verdictOf n couplers gates room) ≡ 0
+    → Faithful n couplers (phaseIn (answered n couplers gates room)) (gatesOf n gates) (circuitOf n couplers gates)
 demand-2 n couplers gates room z =
     let job = job-layable n couplers gates room (accepted-job n couplers gates room z) in
     record {
-      same = circuit-same n couplers gates job;
+      same = subst (λ (f : ℕ). SameMeaning n f (gatesOf n gates) (circuitOf n couplers gates)) (sym returned) (circuit-same n couplers gates job);
+      phaseless = circuit-phase n couplers gates job;
       good = circuit-good n couplers gates job;
       coupled = circuit-coupled n couplers gates job;
       rotations = circuit-rotations n couplers gates job;
-      each = each-term-once n (gatesOf n gates) (circuitOf n couplers gates) (circuit-same n couplers gates job) (circuit-rotations n couplers gates job);
-      other = no-other n (gatesOf n gates) (circuitOf n couplers gates) (circuit-same n couplers gates job) (circuit-rotations n couplers gates job);
+      each = each-term-once n (gatesOf n gates) (circuitOf n couplers gates) (circuit-alike n couplers gates job) (circuit-quiet n couplers gates job) (circuit-rotations n couplers gates job);
+      other = no-other n (gatesOf n gates) (circuitOf n couplers gates) (circuit-alike n couplers gates job) (circuit-quiet n couplers gates job) (circuit-rotations n couplers gates job);
       cnots = circuit-cnots n couplers gates job;
+      flipped = circuit-xs-at n couplers gates job;
+      xs = circuit-xs n couplers gates job;
       bound = circuit-bounded n couplers gates job;
     }
+  where
+    returned : phaseIn (answered n couplers gates room) ≡ phaseOf (gatesOf n gates)
+    returned =
+        unfold answered countsOf in ap (λ (b : Bool). phaseIn (pick b (countsOf (circuitOf n couplers gates) (phaseOf (gatesOf n gates))) (Refused (verdictOf n couplers gates room)))) (eq-eqb (numberOf (verdictOf n couplers gates room)) 0 z)
+
+-- the X gates of each island stand behind its other gates, by ascending qubit
+pub demand-2-flips-last : (n : ℕ) (couplers gates : List ℕ) (room : ℕ) → numberOf (verdictOf n couplers gates room) ≡ 0
+    → (S q : ℕ) → Island n couplers S q → FlipsLast S (circuitOf n couplers gates)
+demand-2-flips-last n couplers gates room z S q island =
+    let e = accepted-job n couplers gates room z in flips-last n couplers gates (job-layable n couplers gates room e) (job-listed n couplers gates room e) S q island
 
 -- the records laid are the circuit's
 pub records-are : (n : ℕ) (couplers gates out : List ℕ) → numberOf (verdictOf n couplers gates (length out)) ≡ 0
@@ -116,7 +136,7 @@ pub records-are : (n : ℕ) (couplers gates out : List ℕ) → numberOf (verdic
 records-are n couplers gates out z =
     let C : List Gate = circuitOf n couplers gates in
     let a = demand-1-accepted n couplers gates out z in
-    ap₂ (λ (k : ℕ) (l : List ℕ). take k l) (a .0 ∙ sym (length-map C recordOf)) (a .4) ∙ take-append-seam (map recordOf C) (drop (length C) out)
+    ap₂ (λ (k : ℕ) (l : List ℕ). take k l) (a .0 ∙ sym (length-map C recordOf)) (a .5) ∙ take-append-seam (map recordOf C) (drop (length C) out)
 
 -- the same of the lent output: the gates of the records laid are the circuit
 pub demand-2-lent : (n : ℕ) (couplers gates out : List ℕ) → numberOf (verdictOf n couplers gates (length out)) ≡ 0

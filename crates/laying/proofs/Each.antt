@@ -11,12 +11,14 @@ use lib.ListN.{length, getD}
 use borrow.Author.Tests.{eqb-true}
 use Rattle.sets.specs.Pick.{pick}
 use Rattle.gates.specs.declared.gate.Gate.{Gate}
-use Rattle.gates.specs.declared.gate.Gate.the-variants.{Cnot, Rotation, Bad}
+use Rattle.gates.specs.declared.gate.Gate.the-variants.{Cnot, Rotation, X, Bad}
 use Rattle.circuit.specs.Circuit.{step, start, gives, given, Term}
+use Rattle.circuit.specs.Flips.{noFlips}
 use Rattle.meaning.specs.Borne.{Among, terms}
-use Rattle.meaning.specs.Same.{SameMeaning}
+use Rattle.meaning.specs.Same.{Alike}
 use Rattle.tallies.specs.Tally.{tally, rotationsOf, oneRotation}
-use Rattle.circuit.proofs.Circuits.{given-none, given-cons, sum-is}
+use Rattle.circuit.proofs.Circuits.{given-none, given-cons}
+use Rattle.circuit.proofs.Quiet.{Quiet, sum-is}
 use Rattle.meaning.proofs.Bearing.{terms-up, term-among, among-term}
 use Rattle.meaning.proofs.Lists.{Up, up-tail, up-among, among-none, among-first, among-rest, among-cases}
 use Rattle.laying.specs.Demands.{oneOn, rotationsOn}
@@ -75,6 +77,7 @@ one-gate : (ps : List ℕ) → Once ps → (g : Gate) (W : List ℕ) → addUp (
 unfolding oneOn
 one-gate ps o (Cnot c t) W = omega (arith, add-none ps)
 one-gate ps o (Rotation q a) W = hit-one (getD W q 0) ps o
+one-gate ps o (X q) W = omega (arith, add-none ps)
 one-gate ps o Bad W = omega (arith, add-none ps)
 
 not-more : (ps : List ℕ) → Once ps → (gs : List Gate) (W : List ℕ) → addUp (λ p. rotationsOn p gs W) ps ≤ tally oneRotation gs
@@ -96,6 +99,7 @@ nothing-given p (g ∷ gs) W z = given-cons p g gs W ∙ omega (arith, at g (ome
         turn : (b : Bool) → _≡_ {A = ℕ} (pick b 1 0) 0 → _≡_ {A = ℕ} (pick b a 0) 0
         turn true e = absurd (omega arith)
         turn false e = refl
+    at (X q) e = unfold gives in refl
     at Bad e = unfold gives in refl
 
 -- ---- each at least once, not more in all: each exactly once
@@ -123,7 +127,7 @@ module _ (f : ℕ → ℕ) where
 
 -- ---- a circuit with the job's meaning and t rotations
 
-module _ (n : ℕ) (drawn laid : List Gate) (same : SameMeaning n drawn laid) (count : rotationsOf laid ≡ length (terms drawn)) where
+module _ (n : ℕ) (drawn laid : List Gate) (same : Alike n drawn laid) (quiet : Quiet laid noFlips) (count : rotationsOf laid ≡ length (terms drawn)) where
   abbrev on : ℕ → ℕ
   on p = rotationsOn p laid start
 
@@ -134,7 +138,7 @@ module _ (n : ℕ) (drawn laid : List Gate) (same : SameMeaning n drawn laid) (c
       go : Dec (on p ≡ 0) → 1 ≤ on p
       go (no ne) = omega arith
       go (yes z) =
-          absurd (among-term p drawn k (same .sums p ∙ sum-is p laid ∙ ap (λ (x : ℕ). x % 65536) (nothing-given p laid start z)))
+          absurd (among-term p drawn k (same .sums p ∙ sum-is p laid quiet ∙ ap (λ (x : ℕ). x % 65536) (nothing-given p laid start z)))
 
   within : (ps : List ℕ) → Once ps → addUp on ps ≤ length (terms drawn)
   unfolding rotationsOf

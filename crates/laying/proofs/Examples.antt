@@ -9,7 +9,8 @@ use Rattle.sets.specs.Columns.{units, cnot}
 use Rattle.sets.specs.Search.{firstOf, someOf}
 use Rattle.sets.specs.Size.{lowestOf}
 use Rattle.gates.specs.Layout.{packed, kindIn, aIn, bIn, cnotOf, rotationOf, gateOf, couplerOf, gatesOf}
-use Rattle.circuit.specs.Circuit.{step, run, start, gives, given, sumOf}
+use Rattle.circuit.specs.Circuit.{step, run, start, takes, givesOn, givenOn, sumOf}
+use Rattle.circuit.specs.Flips.{flipStep, noFlips}
 use Rattle.meaning.specs.Borne.{insert, bears, borneFrom, borne, overAt, terms}
 use Rattle.table.specs.Table.{kept}
 use Rattle.tallies.specs.Tally.{boundOf}
@@ -36,13 +37,13 @@ use Rattle.laying.proofs.Rows.{rows}
 record Computed : Type 0 where
   once : (room : ℕ) → (numberOf (verdictOf 3 couplers4 once4 room) ≡ 7) × (placeOf (verdictOf 3 couplers4 once4 room) ≡ 2)
   term : (room : ℕ) → (numberOf (verdictOf 3 couplers4 records5 room) ≡ 7) × (placeOf (verdictOf 3 couplers4 records5 room) ≡ 3)
-  short : (numberOf (verdictOf 2 couplers4 gates9 6) ≡ 8) × (placeOf (verdictOf 2 couplers4 gates9 6) ≡ 0)
-  twice : numberOf (judgedJob 3 couplers4 twice4 12) ≡ 0
-  none : numberOf (judgedJob 3 couplers4 records6 12) ≡ 0
-  enough : numberOf (judgedJob 2 couplers4 gates9 7) ≡ 0
+  short : (numberOf (verdictOf 2 couplers4 gates9 8) ≡ 8) × (placeOf (verdictOf 2 couplers4 gates9 8) ≡ 0)
+  twice : numberOf (judgedJob 3 couplers4 twice4 15) ≡ 0
+  none : numberOf (judgedJob 3 couplers4 records6 15) ≡ 0
+  enough : numberOf (judgedJob 2 couplers4 gates9 9) ≡ 0
 
 computed : Computed
-unfolding verdictOf judgedJob judgedMeaning judgedQubits judgedCouplers wrongAt judgedCount judgedGates badAt firstFailing firstOf someOf judgedParities overAt borne borneFrom bears insert judgedReach strayAt leavesAt insideOf scattered scatters terms kept sumOf given gives judgedRoom boundOf run start step units cnot lowestOf trailingZeros islandsOf islandsFrom islandOf closure grow nbrs nearOf addAll addOf linkOf couplerOf gateOf cnotOf rotationOf packed kindIn aIn bIn
+unfolding verdictOf judgedJob judgedMeaning judgedQubits judgedCouplers wrongAt judgedCount judgedGates badAt firstFailing firstOf someOf judgedParities overAt borne borneFrom bears insert judgedReach strayAt leavesAt insideOf scattered scatters terms kept sumOf givenOn givesOn takes noFlips flipStep judgedRoom boundOf run start step units cnot lowestOf trailingZeros islandsOf islandsFrom islandOf closure grow nbrs nearOf addAll addOf linkOf couplerOf gateOf cnotOf rotationOf packed kindIn aIn bIn
 computed = record { once = λ room. (refl, refl); term = λ room. (refl, refl); short = (refl, refl); twice = refl; none = refl; enough = refl }
 
 accepted : (n : ℕ) (xs ys : List ℕ) (room : ℕ) → numberOf (judgedJob n xs ys room) ≡ 0 → numberOf (verdictOf n xs ys room) ≡ 0
@@ -72,11 +73,11 @@ loop-refused n l m ys room =
 laying-examples : True layingExamples
 unfolding True
 laying-examples = (
-  (reached 3 couplers4 twice4 12 (computed .twice), accepted 3 couplers4 twice4 12 (computed .twice), computed .once),
+  (reached 3 couplers4 twice4 15 (computed .twice), accepted 3 couplers4 twice4 15 (computed .twice), computed .once),
   (
     computed .term,
     (
-      (reached 3 couplers4 records6 12 (computed .none), accepted 3 couplers4 records6 12 (computed .none)),
+      (reached 3 couplers4 records6 15 (computed .none), accepted 3 couplers4 records6 15 (computed .none)),
       (
         (λ xs ys room. (
           qubits-fail 0 xs ys room (λ (p : Passes1 0). omega (arith, p .0)),
@@ -84,7 +85,7 @@ laying-examples = (
           qubits-pass 1 xs ys room (omega arith, omega arith),
           qubits-pass 20 xs ys room (omega arith, omega arith),
         )),
-        (loop-refused, ((computed .short .0, computed .short .1, accepted 2 couplers4 gates9 7 (computed .enough)), tt)),
+        (loop-refused, ((computed .short .0, computed .short .1, accepted 2 couplers4 gates9 9 (computed .enough)), tt)),
       ),
     ),
   ),

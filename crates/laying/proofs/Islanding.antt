@@ -8,7 +8,7 @@ use lib.Count.{ones}
 use Rattle.sets.specs.Bit.{In}
 use Rattle.sets.specs.Size.{sizeOf}
 use Rattle.gates.specs.declared.gate.Gate.{Gate}
-use Rattle.gates.specs.declared.gate.Gate.the-variants.{Cnot, Rotation, Bad}
+use Rattle.gates.specs.declared.gate.Gate.the-variants.{Cnot, Rotation, X, Bad}
 use Rattle.gates.specs.Layout.{Good}
 use Rattle.circuit.specs.Circuit.{step, run, given}
 use Rattle.gates.specs.All.{All}
@@ -32,6 +32,7 @@ unfolding All Inside
 inside-within near Q [] a = tt
 inside-within near Q (Cnot c t ∷ gs) a = ((a .0 .1, a .0 .2, a .0 .3, a .0 .0), inside-within near Q gs (a .1))
 inside-within near Q (Rotation q b ∷ gs) a = inside-within near Q gs (a .1)
+inside-within near Q (X q ∷ gs) a = absurd (a .0)
 inside-within near Q (Bad ∷ gs) a = absurd (a .0)
 
 coupled-inside : (near : List ℕ) (Q : ℕ) (gs : List Gate) → Coupled near Q gs → All (Inside near Q) gs
@@ -39,6 +40,7 @@ unfolding All Inside
 coupled-inside near Q [] h = tt
 coupled-inside near Q (Cnot c t ∷ gs) h = ((h .0 .3, h .0 .0, h .0 .1, h .0 .2), coupled-inside near Q gs (h .1))
 coupled-inside near Q (Rotation q b ∷ gs) h = absurd h
+coupled-inside near Q (X q ∷ gs) h = absurd h
 coupled-inside near Q (Bad ∷ gs) h = absurd h
 
 coupled-small : (near : List ℕ) (Q : ℕ) (gs : List Gate) → Coupled near Q gs → All Small gs
@@ -46,6 +48,7 @@ unfolding All Small
 coupled-small near Q [] h = tt
 coupled-small near Q (Cnot c t ∷ gs) h = (tt, coupled-small near Q gs (h .1))
 coupled-small near Q (Rotation q b ∷ gs) h = absurd h
+coupled-small near Q (X q ∷ gs) h = absurd h
 coupled-small near Q (Bad ∷ gs) h = absurd h
 
 -- CNOTs give no angle
@@ -53,6 +56,7 @@ coupled-given : (near : List ℕ) (Q p : ℕ) (gs : List Gate) (W : List ℕ) �
 coupled-given near Q p [] W h = given-none p W
 coupled-given near Q p (Cnot c t ∷ gs) W h = given-cons p (Cnot c t) gs W ∙ omega (arith, gives-cnot p c t W, coupled-given near Q p gs (step (Cnot c t) W) (h .1))
 coupled-given near Q p (Rotation q b ∷ gs) W h = absurd h
+coupled-given near Q p (X q ∷ gs) W h = absurd h
 coupled-given near Q p (Bad ∷ gs) W h = absurd h
 
 -- gates on an island whose angles are small are good, its qubits being below n
@@ -61,6 +65,7 @@ unfolding All Inside Small Good
 inside-good near Q n low [] a s = tt
 inside-good near Q n low (Cnot c t ∷ gs) a s = ((low c (a .0 .1), low t (a .0 .2), a .0 .3), inside-good near Q n low gs (a .1) (s .1))
 inside-good near Q n low (Rotation q b ∷ gs) a s = ((low q (a .0), s .0), inside-good near Q n low gs (a .1) (s .1))
+inside-good near Q n low (X q ∷ gs) a s = absurd (a .0)
 inside-good near Q n low (Bad ∷ gs) a s = absurd (a .0)
 
 -- ---- the island

@@ -3,7 +3,7 @@ use mathlib.Core.Path.{_≡_, refl, sym, ap, _∙_, subst}
 use mathlib.Core.Logic.{_≢_, _⊎_, inl, inr}
 use mathlib.Core.Bool.{true}
 use mathlib.Core.List.{List}
-use Prim.Native.Nat.{ℕ, _+_, _-_, _*_, _%_, _^_, _≤_, _<_}
+use Prim.Native.Nat.{ℕ, _+_, _-_, _*_, _^_, _≤_, _<_}
 use native.Mathlib.Omega.{arith}
 use native.Mathlib.Decide.{ℕ-discrete, decLt}
 use lib.ListN.{length, getD, length-map, List·getD-eq-default}
@@ -13,17 +13,17 @@ use Rattle.sets.proofs.Bits.{bit-cases}
 use Rattle.sets.proofs.Members.{in-lt, in-pow}
 use Rattle.sets.proofs.Comb.{getD-units}
 use Rattle.gates.specs.declared.gate.Gate.{Gate}
-use Rattle.gates.specs.declared.gate.Gate.the-variants.{Cnot, Rotation, Bad}
+use Rattle.gates.specs.declared.gate.Gate.the-variants.{Cnot, Rotation, X, Bad}
 use Rattle.verdicts.specs.declared.verdict.Verdict.the-variants.{Accepted}
 use Rattle.gates.specs.Layout.{Good}
 use Rattle.circuit.specs.Circuit.{run, start, finalOf, given, sumOf, Term}
 use Rattle.meaning.specs.Borne.{Among, borne, terms, sumsOf}
 use Rattle.gates.specs.All.{All}
 use Rattle.gates.specs.Listed.{Listed, OnCoupler}
-use Rattle.meaning.specs.Same.{SameMeaning, Reachable}
+use Rattle.meaning.specs.Same.{Reachable}
 use Rattle.tallies.specs.Tally.{tally, cnotsOf, rotationsOf, oneCnot, oneRotation}
 use Rattle.verdicts.specs.Verdicts.{judgedCouplers}
-use Rattle.circuit.proofs.Circuits.{final-is, sum-is}
+use Rattle.circuit.proofs.Circuits.{final-is}
 use Rattle.circuit.proofs.Wiring.{wires-past, good-up}
 use Rattle.meaning.proofs.Bearing.{borne-not-empty, terms-up, term-among, among-term, terms-borne, terms-few}
 use Rattle.gates.proofs.Alls.{all-map}
@@ -46,7 +46,7 @@ use Rattle.laying.proofs.Parting.{Parts, leader-below, leader-leads, le
 use Rattle.laying.proofs.Restricting.{own-whole, own-symm, own-joined, own-near}
 use Rattle.laying.proofs.Owning.{own-up, own-has, own-back, own-few, total-own, total-none}
 use Rattle.laying.proofs.Islanding.{Placed, closed-lays, closed-placed, inside-good}
-use Rattle.laying.proofs.Composing.{Lays, wired, given-laid, laid-all}
+use Rattle.laying.proofs.Composing.{Lays, on-parities, wired, parities-brought, given-laid}
 use Rattle.laying.proofs.Counting.{Fits, fits-by, over-ext, over-one, over-none, tally-laid, terms-counted, cnots-bounded, overIslands}
 use Rattle.laying.proofs.Reaching.{reachable-within}
 
@@ -204,6 +204,7 @@ module _ (n : ℕ) (xs : List ℕ) (gs : List Gate) (few : n ≤ 20) (good : All
         on : (g : Gate) → Inside (ownSets (Q q) (nearOf n xs)) (Q q) g → OnCoupler xs g
         on (Cnot c t) h = unfold OnCoupler Inside in near-listed n xs c t (own-near (nearOf n xs) (Q q) c t (h .0) .1)
         on (Rotation a b) h = unfold OnCoupler in tt
+        on (X q) h = unfold OnCoupler in tt
         on Bad h = unfold OnCoupler in tt
 
     abbrev laid : List Gate
@@ -211,7 +212,7 @@ module _ (n : ℕ) (xs : List ℕ) (gs : List Gate) (few : n ≤ 20) (good : All
 
     pub finals-same : (i : ℕ) → i < n → finalOf gs i ≡ finalOf laid i
     finals-same i h =
-        sym (final-is laid i ∙ wired n Q few P lists (λ i. finalOf gs i) T (λ q l e. lays q l) n (omega arith) .done i h (leader-below n Q few P i h))
+        sym (final-is laid i ∙ wired n Q few P lists run start on-parities (λ i. finalOf gs i) (parities-brought n Q few P lists (λ i. finalOf gs i) T (λ q l e. lays q l)) n (omega arith) .done i h (leader-below n Q few P i h))
 
     term-given : (p : ℕ) → Term gs p → overIslands n Q few P (λ q. T q p) ≡ sumOf p gs
     term-given p t =
@@ -230,28 +231,13 @@ module _ (n : ℕ) (xs : List ℕ) (gs : List Gate) (few : n ≤ 20) (good : All
     unfolding Term
     other-given p z = over-none n Q few P (λ q. T q p) (λ q l e. total-none (λ r. sumOf r gs) p (ownTerms (Q q) ts) (λ h. among-term p gs (own-back (Q q) p ts h .0) z))
 
-    sums-given : (p : ℕ) → given p laid start ≡ sumOf p gs
+    pub sums-given : (p : ℕ) → given p laid start ≡ sumOf p gs
     unfolding Term
     sums-given p = given-laid n Q few P lists (λ i. finalOf gs i) T (λ q l e. lays q l) p n (omega arith) ∙ go (ℕ-discrete (sumOf p gs) 0)
       where
         go : Dec (sumOf p gs ≡ 0) → overIslands n Q few P (λ q. T q p) ≡ sumOf p gs
         go (yes z) = other-given p z ∙ sym z
         go (no ne) = term-given p ne
-
-    pub laid-same : SameMeaning n gs laid
-    laid-same = record { finals = finals-same; sums = λ p. sum-of p ∙ sym (sum-is p laid) }
-      where
-        reduced : (p : ℕ) → sumOf p gs < 65536
-        reduced p = unfold sumOf in omega arith
-
-        sum-of : (p : ℕ) → sumOf p gs ≡ given p laid start % 65536
-        sum-of p = omega (arith, sums-given p, reduced p)
-
-    pub laid-good : All (Good n) laid
-    laid-good = laid-all n Q few P lists (Good n) (λ q l e. island-good q l) n (omega arith)
-
-    pub laid-coupled : All (OnCoupler xs) laid
-    laid-coupled = laid-all n Q few P lists (OnCoupler xs) (λ q l e. island-coupled q l) n (omega arith)
 
     -- "exactly t rotations", "at most 2(n-1)t + 2n(n-1) CNOTs"
     pub laid-rotations : rotationsOf laid ≡ length ts

@@ -8,6 +8,9 @@ pub mod Restricting
 pub mod Islanding
 pub mod Job
 pub mod Both
+pub mod Flipping
+pub mod FlipCounts
+pub mod FlipOrder
 pub mod Alike
 pub mod Tabled
 pub mod Walking
@@ -21,5 +24,6 @@ pub mod Twice
 pub mod Demands
 pub mod Rows
 pub mod Archive
+pub mod Without
 pub mod Enough
 pub mod Examples

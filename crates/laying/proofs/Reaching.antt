@@ -11,14 +11,16 @@ use Rattle.sets.specs.Columns.{cnot}
 use Rattle.sets.proofs.Members.{xor-sub, in-pow}
 use Rattle.sets.proofs.Comb.{getD-units}
 use Rattle.gates.specs.declared.gate.Gate.{Gate}
-use Rattle.gates.specs.declared.gate.Gate.the-variants.{Cnot, Rotation, Bad}
+use Rattle.gates.specs.declared.gate.Gate.the-variants.{Cnot, Rotation, X, Bad}
 use Rattle.gates.specs.Layout.{Good}
-use Rattle.circuit.specs.Circuit.{step, run, start, finalOf, gives, given, sumOf, Term}
+use Rattle.circuit.specs.Circuit.{step, run, start, finalOf, gives, given, Term}
+use Rattle.circuit.specs.Flips.{noFlips}
 use Rattle.gates.specs.All.{All}
 use Rattle.gates.specs.Listed.{Listed, OnCoupler}
 use Rattle.meaning.specs.Same.{Reachable}
-use Rattle.circuit.proofs.Steps.{cnot-target, cnot-other, step-length, gives-cnot, gives-bad, gives-other}
+use Rattle.circuit.proofs.Steps.{cnot-target, cnot-other, step-length, gives-cnot, gives-x, gives-bad, gives-other}
 use Rattle.circuit.proofs.Circuits.{start-length}
+use Rattle.circuit.proofs.Straight.{straight, straight-good, straight-coupled, sum-straight}
 use Rattle.laying.specs.Reach.{Within}
 
 -- wire i bears a parity inside isl i
@@ -41,6 +43,7 @@ module _ (n : ℕ) (isl : ℕ → ℕ) (couplers : List ℕ) (few : n ≤ 20) (s
       go i h (yes e) =
           rw e (rw (cnot-target c t W (omega (arith, w .long))) (xor-sub (getD W c 0) (getD W t 0) (isl t) (subst (Sub (getD W c 0)) (joins c t hc ht ne o) (w .at c hc)) (w .at t ht)))
   inside-step (Rotation q a) W g o w = w
+  inside-step (X q) W g o w = w
   inside-step Bad W g o w = absurd g
 
   inside-run : (gs : List Gate) (W : List ℕ) → All (Good n) gs → All (OnCoupler couplers) gs → Inside n isl W → Inside n isl (run gs W)
@@ -64,6 +67,7 @@ module _ (n : ℕ) (isl : ℕ → ℕ) (couplers : List ℕ) (few : n ≤ 20) (s
           at : Dec (getD W q 0 ≡ p) → (i : ℕ) × (i < n) × Sub p (isl i)
           at (yes e) = (q, below h, subst (λ (r : ℕ). Sub r (isl q)) e (w .at q (below h)))
           at (no f) = absurd (d (gives-other p q a W f))
+      here (X q) h d = absurd (d (gives-x p q W))
       here Bad h d = absurd (d (gives-bad p W))
 
       go : Dec (gives p x W ≡ 0) → (given p gs (step x W) ≢ 0 → (i : ℕ) × (i < n) × Sub p (isl i)) → (i : ℕ) × (i < n) × Sub p (isl i)
@@ -72,9 +76,10 @@ module _ (n : ℕ) (isl : ℕ → ℕ) (couplers : List ℕ) (few : n ≤ 20) (s
 
   -- only what is inside is reachable
   pub reachable-within : (gs : List Gate) → Reachable n couplers gs → Within n isl gs
-  unfolding finalOf Term sumOf
+  unfolding finalOf Term
   reachable-within gs r =
       record {
         finals = λ i h. subst (λ (m : ℕ). Sub m (isl i)) (sym (r .same .finals i h)) (inside-run (r .circuit) start (r .good) (r .coupled) inside-start .at i h);
-        terms = λ p t. inside-given p (r .circuit) start (r .good) (r .coupled) inside-start (λ (z : given p (r .circuit) start ≡ 0). t (r .same .sums p ∙ ap (λ (m : ℕ). m % 65536) z));
+        terms = λ p t. inside-given p (straight (r .circuit) noFlips) start (straight-good n (r .circuit) noFlips (r .good)) (straight-coupled couplers (r .circuit) noFlips (r .coupled)) inside-start
+            (λ (z : given p (straight (r .circuit) noFlips) start ≡ 0). t (r .same .sums p ∙ sum-straight p (r .circuit) ∙ ap (λ (m : ℕ). m % 65536) z));
       }

@@ -9,7 +9,8 @@ use lib.ListN.{length, drop, length-map}
 use borrow.Author.Tests.{eqb-true, eqb-false, eq-eqb}
 use Rattle.sets.specs.Pick.{pick}
 use Rattle.gates.specs.declared.gate.Gate.{Gate}
-use Rattle.gates.specs.Layout.{recordOf}
+use Rattle.gates.specs.Layout.{gatesOf, recordOf}
+use Rattle.circuit.specs.Phase.{phaseOf}
 use Rattle.verdicts.specs.declared.verdict.Verdict.{Verdict}
 use Rattle.verdicts.specs.Verdicts.{numberOf}
 use Rattle.tallies.specs.Tally.{cnotsOf, rotationsOf, depthOf}
@@ -24,20 +25,21 @@ module _ (n : ℕ) (xs ys : List ℕ) (room : ℕ) where
   verdict = verdictOf n xs ys room
 
   -- an acceptance says these numbers
-  pub record Counted (k c t d : ℕ) : Type 0 where
+  pub record Counted (k c t d f : ℕ) : Type 0 where
     pub passed : numberOf verdict ≡ 0
     pub records : k ≡ length circuit
     pub cnots : c ≡ cnotsOf circuit
     pub rotations : t ≡ rotationsOf circuit
     pub depth : d ≡ depthOf circuit
+    pub phase : f ≡ phaseOf (gatesOf n ys)
 
-  pub laid-says : (k c t d : ℕ) → answered n xs ys room ≡ Laid k c t d → Counted k c t d
+  pub laid-says : (k c t d f : ℕ) → answered n xs ys room ≡ Laid k c t d f → Counted k c t d f
   unfolding answered countsOf
-  laid-says k c t d e = go (eqb (numberOf verdict) 0) refl e
+  laid-says k c t d f e = go (eqb (numberOf verdict) 0) refl e
     where
       go : (b : Bool) → eqb (numberOf verdict) 0 ≡ b
-          → pick b (Laid (length circuit) (cnotsOf circuit) (rotationsOf circuit) (depthOf circuit)) (Refused verdict) ≡ Laid k c t d → Counted k c t d
-      go true q e = record { passed = eqb-true (numberOf verdict) 0 q; records = cc e; cnots = cc e; rotations = cc e; depth = cc e }
+          → pick b (Laid (length circuit) (cnotsOf circuit) (rotationsOf circuit) (depthOf circuit) (phaseOf (gatesOf n ys))) (Refused verdict) ≡ Laid k c t d f → Counted k c t d f
+      go true q e = record { passed = eqb-true (numberOf verdict) 0 q; records = cc e; cnots = cc e; rotations = cc e; depth = cc e; phase = cc e }
       go false q e = let z : _≡_ {A = ℕ} 0 1 = cc e in absurd (omega arith)
 
   pub refused-says : (v : Verdict) → answered n xs ys room ≡ Refused v → (numberOf verdict ≡ 0 → ⊥) × (v ≡ verdict)
@@ -45,7 +47,7 @@ module _ (n : ℕ) (xs ys : List ℕ) (room : ℕ) where
   refused-says v e = go (eqb (numberOf verdict) 0) refl e
     where
       go : (b : Bool) → eqb (numberOf verdict) 0 ≡ b
-          → pick b (Laid (length circuit) (cnotsOf circuit) (rotationsOf circuit) (depthOf circuit)) (Refused verdict) ≡ Refused v
+          → pick b (Laid (length circuit) (cnotsOf circuit) (rotationsOf circuit) (depthOf circuit) (phaseOf (gatesOf n ys))) (Refused verdict) ≡ Refused v
           → (numberOf verdict ≡ 0 → ⊥) × (v ≡ verdict)
       go true q e = let z : _≡_ {A = ℕ} 0 1 = cc e in absurd (omega arith)
       go false q e = (eqb-false (numberOf verdict) 0 q, cc e)

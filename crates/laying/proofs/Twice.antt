@@ -1,19 +1,25 @@
 -- An island of two jobs that agree on it gets the same gates in both. Assumes nothing.
 use mathlib.Core.Path.{_≡_, refl, sym, ap, ap₂, _∙_, subst}
-use mathlib.Core.List.{List, [], _∷_, map}
+use mathlib.Core.List.{List, [], _∷_, _++_, map}
 use Prim.Native.Nat.{ℕ, _^_, _<_}
 use native.Mathlib.Omega.{arith}
 use lib.Bits.{bitAnd}
 use Rattle.sets.specs.Bit.{In}
 use Rattle.sets.specs.Size.{lowestOf}
 use Rattle.gates.specs.declared.gate.Gate.{Gate}
+use Rattle.gates.specs.declared.gate.Gate.the-variants.{Cnot, Rotation, X, Bad}
 use Rattle.verdicts.specs.declared.verdict.Verdict.the-variants.{Accepted}
 use Rattle.gates.specs.Layout.{gatesOf, Good}
 use Rattle.circuit.specs.Circuit.{run, start, sumOf, Term}
+use Rattle.circuit.specs.Flips.{flipRun, noFlips}
 use Rattle.meaning.specs.Borne.{Among, terms, sumsOf}
 use Rattle.gates.specs.All.{All}
+use Rattle.gates.proofs.Alls.{all-map}
 use Rattle.verdicts.specs.Verdicts.{judgedCouplers}
 use Rattle.circuit.proofs.Circuits.{final-is}
+use Rattle.circuit.proofs.Flips.{flip-is}
+use Rattle.flips.specs.Xs.{flippedTo, xsOn, NoX}
+use Rattle.flips.proofs.Xs.{xs-same}
 use Rattle.meaning.proofs.Bearing.{terms-up, term-among, among-term}
 use Rattle.meaning.proofs.Lists.{among-first, among-rest}
 use Rattle.chip.specs.Couplers.{nearOf}
@@ -21,20 +27,22 @@ use Rattle.isles.specs.Islands.{islandOf}
 use Rattle.chip.proofs.Neighbours.{near-listed, accepted-near}
 use Rattle.isles.proofs.Isles.{island-lt}
 use Rattle.columns.specs.Pieces.{Piece}
+use Rattle.columns.specs.Terms.{Inside}
 use Rattle.ending.specs.Mirror.{mirrorsOf, mirrorOf, Bordered}
 use Rattle.ending.proofs.Mirrors.{mirror-same-inside}
 use Rattle.share.specs.Own.{ownSets, ownTerms}
 use Rattle.ways.specs.Ways.{islandLaid}
-use Rattle.laying.specs.Laid.{onIsland, laidOf}
+use Rattle.laying.specs.Laid.{onIsland, withFlips, laidOf}
 use Rattle.laying.specs.Layable.{Layable}
 use Rattle.laying.specs.Verdict.{circuitOf}
-use Rattle.laying.specs.Demands.{Island, gatesOn, Agree}
+use Rattle.laying.specs.Demands.{Island, gatesOn, FlipsLast, Agree}
 use Rattle.laying.proofs.Parting.{Parts, leader-below, leader-same, leader-leads}
 use Rattle.laying.proofs.Restricting.{own-same}
 use Rattle.laying.proofs.Owning.{own-back}
 use Rattle.laying.proofs.Job.{parts, bordered, good20}
 use Rattle.laying.proofs.Both.{island-placed}
-use Rattle.laying.proofs.Alike.{gates-on, near-alike, terms-alike}
+use Rattle.laying.proofs.Alike.{flips-on, gates-on, near-alike, terms-alike}
+use Rattle.laying.proofs.FlipOrder.{flipped-ascending}
 use Rattle.laying.proofs.Linking.{island-found}
 
 -- what the set S is laid with, in a job whose chip is `near` and whose gates are gs
@@ -70,15 +78,35 @@ module _ (n : ℕ) (xs ys : List ℕ) (job : Layable n xs ys) (ok : judgedCouple
   well : All (Good 20) gs
   well = good20 n xs gs (job .few) (job .good) (job .fit) (job .within)
 
-  gates-are : gatesOn S (circuitOf n xs ys) ≡ laidOn S (nearOf n xs) gs .laid
-  unfolding circuitOf laidOf laidOn onIsland
+  -- the gates on the island: its own, and the X gates on its wires
+  gates-are : gatesOn S (circuitOf n xs ys) ≡ laidOn S (nearOf n xs) gs .laid ++ xsOn S (flipRun gs noFlips)
+  unfolding circuitOf laidOf withFlips laidOn onIsland
   gates-are =
       let j : ℕ = lowestOf (isl q) in
       let l : j < n = leader-below n isl (job .few) P q (island .below) in
       let e : isl j ≡ S = leader-same n isl (job .few) P q (island .below) ∙ sym found in
-      subst (λ (Q : ℕ). gatesOn Q (circuitOf n xs ys) ≡ laidOn Q (nearOf n xs) gs .laid) e
-      (gates-on n isl (job .few) P (λ q. onIsland (nearOf n xs) gs q .laid) (λ q. ownSets (isl q) (nearOf n xs)) (λ q l. island-placed n xs ys job q l .inside)
+      subst (λ (Q : ℕ). gatesOn Q (circuitOf n xs ys) ≡ laidOn Q (nearOf n xs) gs .laid ++ xsOn Q (flipRun gs noFlips)) e
+      (gates-on n isl (job .few) P (withFlips (nearOf n xs) gs) (λ q l. flips-on (ownSets (isl q) (nearOf n xs)) (isl q) (flipRun gs noFlips) (onIsland (nearOf n xs) gs q .laid) (island-placed n xs ys job q l .inside))
       j l (leader-leads n isl (job .few) P q (island .below)) n (omega arith) l)
+
+  -- the X gates behind the others, by ascending qubit
+  pub flips-last : FlipsLast S (circuitOf n xs ys)
+  flips-last = record {
+    before = laidOn S (nearOf n xs) gs .laid;
+    flipped = flippedTo S (flipRun gs noFlips) 20;
+    parted = unfold xsOn in gates-are;
+    none = subst (λ (Q : ℕ). All NoX (laidOn Q (nearOf n xs) gs .laid)) (sym found) plain;
+    ascending = flipped-ascending S (flipRun gs noFlips) 20;
+  }
+    where
+      no-x : (near : List ℕ) (Q : ℕ) (g : Gate) → Inside near Q g → NoX g
+      no-x near Q (Cnot c t) h = unfold NoX in tt
+      no-x near Q (Rotation r a) h = unfold NoX in tt
+      no-x near Q (X r) h = unfold Inside in absurd h
+      no-x near Q Bad h = unfold NoX in tt
+
+      plain : All NoX (laidOn (isl q) (nearOf n xs) gs .laid)
+      plain = unfold laidOn onIsland in all-map (Inside (ownSets (isl q) (nearOf n xs)) (isl q)) NoX (no-x (ownSets (isl q) (nearOf n xs)) (isl q)) (laidOn (isl q) (nearOf n xs) gs .laid) (island-placed n xs ys job q (island .below) .inside)
 
 -- ---- two
 
@@ -122,10 +150,12 @@ module _ (n m : ℕ) (xs xs′ ys ys′ : List ℕ) (job : Layable n xs ys) (job
       (mirror-same-inside one two S (low n xs ys job ok S q here) (well n xs ys job ok S q here) (well m xs′ ys′ job′ ok′ S r there)
       (no-crossing n xs ys job ok S q here) (no-crossing m xs′ ys′ job′ ok′ S r there) (agree .finals) i k))
 
+  same-flips : xsOn S (flipRun one noFlips) ≡ xsOn S (flipRun two noFlips)
+  same-flips = xs-same S (flipRun one noFlips) (flipRun two noFlips) (λ i k. sym (flip-is one i) ∙ agree .flips i k ∙ flip-is two i)
+
   pub same-gates : gatesOn S (circuitOf n xs ys) ≡ gatesOn S (circuitOf m xs′ ys′)
   unfolding laidOn
-  same-gates =
-      gates-are n xs ys job ok S q here ∙ ap (λ (p : Piece). p .laid) alike ∙ sym (gates-are m xs′ ys′ job′ ok′ S r there)
+  same-gates = gates-are n xs ys job ok S q here ∙ ap₂ (λ (p : Piece) (l : List Gate). p .laid ++ l) alike same-flips ∙ sym (gates-are m xs′ ys′ job′ ok′ S r there)
     where
       alike : laidOn S (nearOf n xs) one ≡ laidOn S (nearOf m xs′) two
       alike = cc (same-near, same-terms, same-sums, same-finals, same-mirrors)

@@ -15,6 +15,9 @@ use Rattle.meaning.specs.declared.told.Told.{Told}
 use Rattle.meaning.specs.declared.told.Meaning.{Meaning}
 use Rattle.gates.specs.Layout.{gatesOf}
 use Rattle.circuit.specs.Circuit.{run, start}
+use Rattle.circuit.specs.Flips.{flipRun, noFlips}
+use Rattle.circuit.specs.Phase.{phaseOf}
+use Rattle.flips.specs.Xs.{xsOn}
 use Rattle.meaning.specs.Borne.{overAt}
 use Rattle.meaning.specs.Told.{toldOf, meaningOf, tableOf}
 use Rattle.circuit.specs.State.{wiresOf}
@@ -30,7 +33,7 @@ use Rattle.ending.specs.Mirror.{mirrorsOf}
 use Rattle.share.specs.declared.own.Own.{Own}
 use Rattle.share.specs.OwnTable.{ownOf}
 use Rattle.laying.specs.Islands.{leads, laidTo}
-use Rattle.laying.specs.Laid.{onIsland, laidOf}
+use Rattle.laying.specs.Laid.{onIsland, withFlips, laidOf}
 use Rattle.ways.specs.Ways.{withClosing}
 use Rattle.laying.specs.Layable.{Layable}
 use Rattle.ways.specs.Memory.{stepsOwn, nearestOwn, closedBy, heldOwn, memoryAt, answerAt}
@@ -48,8 +51,11 @@ module _ (n : ℕ) (xs ys : List ℕ) where
   abbrev isl : ℕ → ℕ
   isl = islandOf (nearOf n xs)
 
+  abbrev plain : ℕ → List Gate
+  plain q = onIsland (nearOf n xs) gs q .laid
+
   abbrev on : ℕ → List Gate
-  on q = onIsland (nearOf n xs) gs q .laid
+  on = withFlips (nearOf n xs) gs
 
   abbrev upTo : ℕ → List Gate
   upTo = laidTo isl on
@@ -83,6 +89,14 @@ module _ (n : ℕ) (xs ys : List ℕ) where
     wires-are : t .meaning .wires .parity ≡ run gs start
     unfolding meaningOf wiresOf
     wires-are = ap (λ (u : Meaning). u .wires .parity) told-is
+
+    flips-are : t .meaning .wires .flip ≡ flipRun gs noFlips
+    unfolding meaningOf wiresOf
+    flips-are = ap (λ (u : Meaning). u .wires .flip) told-is
+
+    pub phase-is : t .meaning .phase ≡ phaseOf gs
+    unfolding meaningOf
+    phase-is = ap (λ (u : Meaning). u .phase) told-is
 
     sums-are : t .meaning .sums ≡ tableOf gs
     unfolding meaningOf
@@ -131,15 +145,15 @@ module _ (n : ℕ) (xs ys : List ℕ) where
         on-it : heldOwn h .stuck ≡ false
         on-it = ap (λ (p : Piece). p .stuck) piece ∙ never-stuck n xs ys job q l
 
-        gates-are : heldOwn h .laid ≡ on q
+        gates-are : heldOwn h .laid ≡ plain q
         gates-are = ap (λ (p : Piece). p .laid) piece
 
         module _ (out₀ out out′ : List ℕ) (at : ℕ) (r : Laid) (a : out′ ≡ memoryAt (heldOwn h) (heldOwn h .laid) out at) (b : r ≡ answerAt (heldOwn h) (heldOwn h .laid) out at) where
-          memory-is : out′ ≡ emit out at (on q)
+          memory-is : out′ ≡ emit out at (plain q)
           unfolding memoryAt
           memory-is = a ∙ ap₂ (λ (s : Bool) (L : List Gate). pick s out (emit out at L)) on-it gates-are
 
-          answer-is : r ≡ On (emitAt out at (on q))
+          answer-is : r ≡ On (emitAt out at (plain q))
           unfolding answerAt
           answer-is = b ∙ ap₂ (λ (s : Bool) (L : List Gate). pick s (Stuck at) (On (emitAt out at L))) on-it gates-are
 
@@ -150,19 +164,33 @@ module _ (n : ℕ) (xs ys : List ℕ) where
               isOne (On v) = 1
               isOne (Stuck v) = 0
 
-          pub walked-led : lowestOf (getD all q 0) ≡ q → (next : ℕ) → r ≡ On next → Walked out₀ q out at → Walked out₀ (suc q) out′ next
-          walked-led y next s w =
-              let c : upTo (suc q) ≡ upTo q ++ on q = laid-led n isl (job .few) (parts n xs (job .few)) on q (leads-yes y) in
-              record {
-                within = l;
-                size = ap length memory-is ∙ emit-length out at (on q) ∙ w .size;
-                memory = memory-is ∙ ap₂ (λ (u : List ℕ) (v : ℕ). emit u v (on q)) (w .memory) (w .place) ∙ sym (emit-append out₀ 0 (upTo q) (on q)) ∙ ap (emit out₀ 0) (sym c);
-                place = same (sym s ∙ answer-is) ∙ ap₂ (λ (u : List ℕ) (v : ℕ). emitAt u v (on q)) (w .memory) (w .place) ∙ sym (emit-at-append out₀ 0 (upTo q) (on q)) ∙ ap (emitAt out₀ 0) (sym c);
-              }
-            where
-              value : Laid → ℕ
-              value (On v) = v
-              value (Stuck v) = 0
+          -- the X gates behind the island's own
+          module _ (next : ℕ) (s : r ≡ On next) (out″ : List ℕ) (end : ℕ) (c : out″ ≡ emit out′ next (xsOn (getD all q 0) (t .meaning .wires .flip)))
+              (f : end ≡ emitAt out′ next (xsOn (getD all q 0) (t .meaning .wires .flip))) where
+            behind : next ≡ emitAt out at (plain q)
+            behind = ap value (sym s ∙ answer-is)
+              where
+                value : Laid → ℕ
+                value (On v) = v
+                value (Stuck v) = 0
 
-              same : {u v : ℕ} → On u ≡ On v → u ≡ v
-              same p = ap value p
+            xs-are : xsOn (getD all q 0) (t .meaning .wires .flip) ≡ xsOn (isl q) (flipRun gs noFlips)
+            xs-are = ap₂ xsOn set-is flips-are
+
+            memory-on : out″ ≡ emit out at (on q)
+            unfolding withFlips
+            memory-on = c ∙ ap₂ (λ (o : List ℕ) (k : ℕ). emit o k (xsOn (getD all q 0) (t .meaning .wires .flip))) memory-is behind ∙ sym (emit-append out at (plain q) (xsOn (getD all q 0) (t .meaning .wires .flip))) ∙ ap (λ (L : List Gate). emit out at (plain q ++ L)) xs-are
+
+            place-on : end ≡ emitAt out at (on q)
+            unfolding withFlips
+            place-on = f ∙ ap₂ (λ (o : List ℕ) (k : ℕ). emitAt o k (xsOn (getD all q 0) (t .meaning .wires .flip))) memory-is behind ∙ sym (emit-at-append out at (plain q) (xsOn (getD all q 0) (t .meaning .wires .flip))) ∙ ap (λ (L : List Gate). emitAt out at (plain q ++ L)) xs-are
+
+            pub walked-led : lowestOf (getD all q 0) ≡ q → Walked out₀ q out at → Walked out₀ (suc q) out″ end
+            walked-led y w =
+                let u : upTo (suc q) ≡ upTo q ++ on q = laid-led n isl (job .few) (parts n xs (job .few)) on q (leads-yes y) in
+                record {
+                  within = l;
+                  size = ap length memory-on ∙ emit-length out at (on q) ∙ w .size;
+                  memory = memory-on ∙ ap₂ (λ (o : List ℕ) (k : ℕ). emit o k (on q)) (w .memory) (w .place) ∙ sym (emit-append out₀ 0 (upTo q) (on q)) ∙ ap (emit out₀ 0) (sym u);
+                  place = place-on ∙ ap₂ (λ (o : List ℕ) (k : ℕ). emitAt o k (on q)) (w .memory) (w .place) ∙ sym (emit-at-append out₀ 0 (upTo q) (on q)) ∙ ap (emitAt out₀ 0) (sym u);
+                }

@@ -1,22 +1,25 @@
 -- The words of the demands: islands as chains of listed couplers, the gates on a set of qubits, and what each demand says of a job.
 use mathlib.Core.Path.{_≡_}
 use mathlib.Core.Bool.{Bool, false}
-use mathlib.Core.List.{List, [], _∷_}
+use mathlib.Core.List.{List, [], _∷_, _++_, map}
 use Prim.Native.Nat.{ℕ, _-_, _+_, _*_, _≤_, _<_}
 use lib.Dec.{eqb}
 use lib.ListN.{length, getD}
 use Rattle.sets.specs.Pick.{pick, both}
 use Rattle.sets.specs.Bit.{In, Sub, has}
 use Rattle.gates.specs.declared.gate.Gate.{Gate}
-use Rattle.gates.specs.declared.gate.Gate.the-variants.{Cnot, Rotation, Bad}
+use Rattle.gates.specs.declared.gate.Gate.the-variants.{Cnot, Rotation, X, Bad}
 use Rattle.verdicts.specs.declared.verdict.Verdict.{Verdict}
 use Rattle.gates.specs.Layout.{gatesOf, Good}
 use Rattle.circuit.specs.Circuit.{step, start, finalOf, sumOf, Term}
-use Rattle.meaning.specs.Borne.{terms}
+use Rattle.circuit.specs.Flips.{flipOf}
+use Rattle.circuit.specs.Phase.{phaseOf}
+use Rattle.meaning.specs.Borne.{terms, Ascending}
 use Rattle.gates.specs.All.{All}
 use Rattle.gates.specs.Listed.{Listed, OnCoupler}
 use Rattle.meaning.specs.Same.{SameMeaning}
-use Rattle.tallies.specs.Tally.{cnotsOf, rotationsOf, boundOf}
+use Rattle.tallies.specs.Tally.{tally, cnotsOf, rotationsOf, xsOf, boundOf}
+use Rattle.flips.specs.Xs.{NoX}
 use Rattle.verdicts.specs.Verdicts.{judgedQubits, judgedCouplers, judgedGates}
 use Rattle.verdicts.specs.InOrder.{andThen}
 use Rattle.judging.specs.Tests.{judgedCount, judgedParities}
@@ -41,6 +44,7 @@ InIsland n couplers q p = (j : ℕ) → In j p → Linked couplers n q j
 unfoldable pub isOn : ℕ → Gate → Bool
 isOn S (Cnot c t) = both (has S c) (has S t)
 isOn S (Rotation q a) = has S q
+isOn S (X q) = has S q
 isOn S Bad = false
 
 -- "the gates laid on that island", in order
@@ -54,6 +58,7 @@ gatesOn S (g ∷ gs) = pick (isOn S g) (g ∷ gatesOn S gs) (gatesOn S gs)
 unfoldable pub oneOn : ℕ → Gate → List ℕ → ℕ
 oneOn p (Cnot c t) W = 0
 oneOn p (Rotation q a) W = pick (eqb (getD W q 0) p) 1 0
+oneOn p (X q) W = 0
 oneOn p Bad W = 0
 
 -- the rotations of a list that parity p bears, from the wires W on
@@ -61,16 +66,39 @@ unfoldable pub rotationsOn : ℕ → List Gate → List ℕ → ℕ
 rotationsOn p [] W = 0
 rotationsOn p (g ∷ gs) W = oneOn p g W + rotationsOn p gs (step g W)
 
--- "The circuit that comes out": its meaning, its couplers, "exactly t rotations", one for each term, "and at most 2(n-1)t + 2n(n-1) CNOTs", at most B gates
-pub record Faithful (n : ℕ) (couplers : List ℕ) (drawn laid : List Gate) : Type 0 where
-  pub same : SameMeaning n drawn laid
+-- 1 for an X on wire i
+unfoldable pub oneXAt : ℕ → Gate → ℕ
+oneXAt i (Cnot c t) = 0
+oneXAt i (Rotation q a) = 0
+oneXAt i (X q) = pick (eqb q i) 1 0
+oneXAt i Bad = 0
+
+-- the X gates of a list on wire i
+unfoldable pub xsAt : ℕ → List Gate → ℕ
+xsAt i gs = tally (oneXAt i) gs
+
+-- "The circuit that comes out": its meaning, where the phase that the acceptance returns is the whole common phase and the circuit's own is 0; its couplers; "exactly t rotations",
+-- one for each term, "and at most 2(n-1)t + 2n(n-1) CNOTs"; on each wire an X where the job flips it and none elsewhere, so never more than n; at most B gates
+pub record Faithful (n : ℕ) (couplers : List ℕ) (phase : ℕ) (drawn laid : List Gate) : Type 0 where
+  pub same : SameMeaning n phase drawn laid
+  pub phaseless : phaseOf laid ≡ 0
   pub good : All (Good n) laid
   pub coupled : All (OnCoupler couplers) laid
   pub rotations : rotationsOf laid ≡ length (terms drawn)
   pub each : (p : ℕ) → Term drawn p → rotationsOn p laid start ≡ 1
   pub other : (p : ℕ) → (Term drawn p → ⊥) → rotationsOn p laid start ≡ 0
   pub cnots : cnotsOf laid ≤ 2 * (n - 1) * length (terms drawn) + 2 * n * (n - 1)
+  pub flipped : (i : ℕ) → i < n → xsAt i laid ≡ flipOf drawn i
+  pub xs : xsOf laid ≤ n
   pub bound : length laid ≤ boundOf n (length (terms drawn))
+
+-- the gates on S: "Flips asked for at the end are laid as X .. after its island's ending", ascending by qubit
+pub record FlipsLast (S : ℕ) (laid : List Gate) : Type 0 where
+  pub before : List Gate
+  pub flipped : List ℕ
+  pub parted : gatesOn S laid ≡ before ++ map X flipped
+  pub none : All NoX before
+  pub ascending : Ascending flipped
 
 -- tests 1 to 6, in that order
 unfoldable pub judgedSix : ℕ → List ℕ → List ℕ → Verdict
@@ -99,9 +127,10 @@ pub record SameCouplers (couplers couplers′ : List ℕ) : Type 0 where
   pub there : (u v : ℕ) → Listed couplers u v → Listed couplers′ u v
   pub back : (u v : ℕ) → Listed couplers′ u v → Listed couplers u v
 
--- two jobs agree on the set S: "the same couplers inside, the same final parities of its wires, the same sums of all parities inside it"
+-- two jobs agree on the set S: "the same couplers inside, the same final parities of its wires, the same sums of all parities inside it", the same final flips of its wires
 pub record Agree (S : ℕ) (couplers couplers′ : List ℕ) (drawn drawn′ : List Gate) : Type 0 where
   pub there : (u v : ℕ) → In u S → In v S → Listed couplers u v → Listed couplers′ u v
   pub back : (u v : ℕ) → In u S → In v S → Listed couplers′ u v → Listed couplers u v
   pub finals : (i : ℕ) → In i S → finalOf drawn i ≡ finalOf drawn′ i
+  pub flips : (i : ℕ) → In i S → flipOf drawn i ≡ flipOf drawn′ i
   pub sums : (p : ℕ) → Sub p S → sumOf p drawn ≡ sumOf p drawn′

@@ -26,7 +26,7 @@ twice4 = cnotRecord 0 2 ∷ cnotRecord 0 2 ∷ []
 abbrev pub fourth : Example
 fourth = record {
   number = 4;
-  says = Reachable 3 couplers4 (gatesOf 3 twice4) × (numberOf (verdictOf 3 couplers4 twice4 12) ≡ 0)
+  says = Reachable 3 couplers4 (gatesOf 3 twice4) × (numberOf (verdictOf 3 couplers4 twice4 15) ≡ 0)
       × ((room : ℕ) → (numberOf (verdictOf 3 couplers4 once4 room) ≡ 7) × (placeOf (verdictOf 3 couplers4 once4 room) ≡ 2));
 }
 
@@ -36,7 +36,7 @@ fifth = record { number = 5; says = (room : ℕ) → (numberOf (verdictOf 3 coup
 
 -- "the same with angles 40 and 65,496 between: reachable, no term"
 abbrev pub sixth : Example
-sixth = record { number = 6; says = Reachable 3 couplers4 (gatesOf 3 records6) × (numberOf (verdictOf 3 couplers4 records6 12) ≡ 0) }
+sixth = record { number = 6; says = Reachable 3 couplers4 (gatesOf 3 records6) × (numberOf (verdictOf 3 couplers4 records6 15) ≡ 0) }
 
 -- "n=0 and n=21: 1. n=1 and 20 pass that test", whatever the rest of the job
 abbrev pub seventh : Example
@@ -56,14 +56,14 @@ eighth = record {
   says = (n : ℕ) → 1 ≤ n → n ≤ mostQubits → (gates : List ℕ) (room : ℕ) → (numberOf (verdictOf n loop8 gates room) ≡ 3) × (placeOf (verdictOf n loop8 gates room) ≡ 0);
 }
 
--- "n=2, t=1: B is 7; 6 records lent give 8", 7 do not
+-- "n=2, t=1: B is 7; 6 records lent give 8"; by request E3 "example 9: 9": 8 records lent give 8, 9 do not
 abbrev pub gates9 : List ℕ
 gates9 = rotationRecord 0 5 ∷ []
 
 abbrev pub ninth : Example
 ninth = record {
   number = 9;
-  says = (numberOf (verdictOf 2 couplers4 gates9 6) ≡ 8) × (placeOf (verdictOf 2 couplers4 gates9 6) ≡ 0) × (numberOf (verdictOf 2 couplers4 gates9 7) ≡ 0);
+  says = (numberOf (verdictOf 2 couplers4 gates9 8) ≡ 8) × (placeOf (verdictOf 2 couplers4 gates9 8) ≡ 0) × (numberOf (verdictOf 2 couplers4 gates9 9) ≡ 0);
 }
 
 abbrev pub layingExamples : List Example

@@ -5,4 +5,5 @@ pub mod Verdict
 pub mod Demands
 pub mod Rows
 pub mod Layable
+pub mod Without
 pub mod Examples

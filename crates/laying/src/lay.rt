@@ -14,6 +14,7 @@ use ways::island;
 ghost use mathlib.Core.Path.{_≡_};
 ghost use lib.ListN.{length};
 ghost use Rattle.gates.specs.Layout.{gatesOf};
+ghost use Rattle.circuit.specs.Phase.{phaseOf};
 ghost use Rattle.laying.specs.Layable.{Layable};
 ghost use Rattle.emitting.specs.Emit.{emit, emitAt};
 ghost use Rattle.steps.specs.declared.Laid.the-variants.{On};
@@ -26,16 +27,24 @@ pub enum Answer {
         cnots: usize,
         rotations: usize,
         depth: usize,
+        // What the laid gates' common phase lacks of the job's.
+        phase: u32,
     },
     Refused {
         verdict: Verdict,
     },
 }
 
-// The islands one after another, by ascending lowest qubit.
-fn lay_islands(n: usize, couplers: &[u32], gates: &[u32], out: &mut [u32]) -> Laid
+// What laying comes to, and the job's common phase.
+struct Outcome {
+    laid: Laid,
+    phase: u32,
+}
+
+// The islands one after another, by ascending lowest qubit, each with its X gates behind its ending.
+fn lay_islands(n: usize, couplers: &[u32], gates: &[u32], out: &mut [u32]) -> Outcome
     requires { ⌜ Layable n (now couplers) (now gates) ⌝ }
-    ensures { λ r. ⌜ (now (out .exit) ≡ emit (now (out .entry)) 0 (circuitOf n (now (couplers .entry)) (now (gates .entry)))) × (r ≡ On (emitAt (now (out .entry)) 0 (circuitOf n (now (couplers .entry)) (now (gates .entry))))) ⌝ }
+    ensures { λ r. ⌜ (now (out .exit) ≡ emit (now (out .entry)) 0 (circuitOf n (now (couplers .entry)) (now (gates .entry)))) × (r .laid ≡ On (emitAt (now (out .entry)) 0 (circuitOf n (now (couplers .entry)) (now (gates .entry))))) × (r .phase ≡ phaseOf (gatesOf n (now (gates .entry)))) ⌝ }
 {
     let near = couplers::near(couplers, n);
     let all = islands::islands(near);
@@ -44,6 +53,7 @@ fn lay_islands(n: usize, couplers: &[u32], gates: &[u32], out: &mut [u32]) -> La
     let sums = meaning.sums;
     let wires = meaning.wires;
     let asked = wires.parity;
+    let flip = wires.flip;
     let mirror = mirror::mirrored(gates, n);
     let mut at = 0;
     for q in 0..n {
@@ -51,25 +61,32 @@ fn lay_islands(n: usize, couplers: &[u32], gates: &[u32], out: &mut [u32]) -> La
         if sets::lowest(set) == q {
             match island::lay_island(own::handed(set, near, sums, asked, mirror), out, at) {
                 Laid::On(next) => {
-                    at = next;
+                    at = flips::put_xs(set, flip, out, next);
                 }
                 Laid::Stuck(_) => {
-                    return Laid::Stuck(at);
+                    return Outcome {
+                        laid: Laid::Stuck(at),
+                        phase: 0,
+                    };
                 }
             }
         }
     }
-    Laid::On(at)
+    Outcome {
+        laid: Laid::On(at),
+        phase: meaning.phase,
+    }
 }
 
-fn counted(laid: &[u32], n: usize) -> Answer
-    ensures { λ r. ⌜ r ≡ countsOf (gatesOf n (now (laid .entry))) ⌝ }
+fn counted(laid: &[u32], n: usize, phase: u32) -> Answer
+    ensures { λ r. ⌜ r ≡ countsOf (gatesOf n (now (laid .entry))) phase ⌝ }
 {
     Answer::Laid {
         records: laid.len(),
         cnots: tally::cnots(laid, n),
         rotations: tally::rotations(laid, n),
         depth: depth::depth(laid, n),
+        phase,
     }
 }
 
@@ -82,10 +99,12 @@ pub fn lay(n: usize, couplers: &[u32], gates: &[u32], out: &mut [u32]) -> Answer
         return Answer::Refused { verdict };
     }
     let mut laid = [0u32; tally::LARGEST];
-    match lay_islands(n, couplers, gates, &mut laid) {
+    let outcome = lay_islands(n, couplers, gates, &mut laid);
+    let went = outcome.laid;
+    match went {
         Laid::On(k) => {
             island::replay(&laid[..k], out, 0);
-            counted(&laid[..k], n)
+            counted(&laid[..k], n, outcome.phase)
         }
         Laid::Stuck(_) => Answer::Refused {
             verdict: Verdict::Stuck,

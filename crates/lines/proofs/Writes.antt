@@ -8,9 +8,10 @@ use native.Mathlib.Omega.{arith}
 use lib.ListN.{length, getD, take, drop, length-append, take-append-drop}
 use lib.Seq.{sets, sets-eq, take-suc, take-all, length-take-le}
 use lib.Dec.{leb, ltb}
-use borrow.Author.Tests.{ltb-true, ltb-false, leb-true, le-leb, lt-leb}
+use borrow.Author.Tests.{ltb-true, ltb-false, lt-ltb, le-ltb, leb-true, le-leb, lt-leb}
 use Rattle.sets.specs.Pick.{pick}
-use Rattle.lines.specs.Lines.{digits, fieldsText, lineText, letter, recordText, recordsText, textOf}
+use Rattle.gates.specs.Layout.{kindIn, aIn, bIn}
+use Rattle.lines.specs.Lines.{digits, fieldsText, lineText, letter, fieldsIn, recordText, recordsText, textOf}
 use Rattle.lines.specs.Lent.{onto, lineEnd, lineAt, lineLength, lineAfter}
 use Rattle.lines.specs.Room.{roomAfter}
 use Rattle.lines.specs.declared.room.Room.{Room}
@@ -147,13 +148,33 @@ module _ (room at letter : ℕ) (vs : List ℕ) {r s : Room} (p : r ≡ roomAfte
   pub line-left : {x : ℕ} → s ≡ Left x → at + length (lineText letter vs) ≤ room
   line-left e = is-left room (at + length (lineText letter vs)) (sym e ∙ behind-line)
 
--- a record's line, from the numbers that the code takes out of it
-pub record-line : (x : ℕ) {l : ℕ} → l ≡ letter (x / 16777216) → lineText l (x / 65536 % 256 ∷ x % 65536 ∷ []) ≡ recordText x
-unfolding recordText
-record-line x e = rw (e, kind-is x, a-is x, b-is x)
+-- ---- a record's line
 
-pub record-length : (x : ℕ) → length (recordText x) ≡ 2 + length (fieldsText (x / 65536 % 256 ∷ x % 65536 ∷ []))
-record-length x = sym (ap length (record-line x refl)) ∙ line-length _ _
+-- it has at most two numbers
+pub fields-most : (kind : ℕ) {k : ℕ} → k ≡ fieldsIn kind → k ≤ 2
+unfolding fieldsIn
+fields-most kind e = go (ltb kind 3) e
+  where
+    go : (t : Bool) {k : ℕ} → k ≡ pick t 2 1 → k ≤ 2
+    go true e = omega (arith, e)
+    go false e = omega (arith, e)
+
+-- a kind below 3 has two, and any other one
+pub record-two : (x : ℕ) → kindIn x < 3 → recordText x ≡ lineText (letter (kindIn x)) (aIn x ∷ bIn x ∷ [])
+unfolding recordText fieldsIn
+record-two x h = rw (lt-ltb (kindIn x) 3 h)
+
+pub record-one : (x : ℕ) → 3 ≤ kindIn x → recordText x ≡ lineText (letter (kindIn x)) (aIn x ∷ [])
+unfolding recordText fieldsIn
+record-one x h = rw (le-ltb (kindIn x) 3 h)
+
+-- from the numbers that the code takes out of the record
+pub record-line : (x : ℕ) {l k : ℕ} → l ≡ letter (x / 16777216) → k ≡ fieldsIn (x / 16777216) → lineText l (take k (x / 65536 % 256 ∷ x % 65536 ∷ [])) ≡ recordText x
+unfolding recordText
+record-line x e f = rw (e, f, kind-is x, a-is x, b-is x)
+
+pub record-length : (x : ℕ) {k : ℕ} → k ≡ fieldsIn (x / 16777216) → length (recordText x) ≡ 2 + length (fieldsText (take k (x / 65536 % 256 ∷ x % 65536 ∷ [])))
+record-length x f = sym (ap length (record-line x refl f)) ∙ line-length _ _
 
 pub text-length : (n : ℕ) (es gs : List ℕ) → length (textOf n es gs) ≡ length (lineText 113 (n ∷ [])) + length (recordsText es) + length (recordsText gs)
 unfolding textOf

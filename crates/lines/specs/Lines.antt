@@ -2,6 +2,7 @@
 use Prim.Native.Nat.{ℕ, zero, suc, _+_, _/_, _%_}
 use mathlib.Core.List.{List, [], _∷_, _++_}
 use lib.Dec.{ltb}
+use lib.ListN.{take}
 use Rattle.sets.specs.Pick.{pick}
 use Rattle.gates.specs.Layout.{kindIn, aIn, bIn}
 
@@ -23,15 +24,20 @@ fieldsText (v ∷ vs) = (9 ∷ digits v) ++ fieldsText vs
 unfoldable pub lineText : ℕ → List ℕ → List ℕ
 lineText letter vs = letter ∷ (fieldsText vs ++ (10 ∷ []))
 
--- the letter of a record of the kind: `e`, `c` or `r`
+-- the letter of a record of the kind: `e`, `c`, `r` or `n`
 unfoldable pub letter : ℕ → ℕ
 letter zero = 101
 letter (suc zero) = 99
-letter (suc (suc kind)) = 114
+letter (suc (suc zero)) = 114
+letter (suc (suc (suc kind))) = 110
 
--- "`e` lines, two ends each", "`c` control target or `r` qubit angle"
+-- how many numbers its line has: two, and of an X one: "text line `n` and a qubit"
+unfoldable pub fieldsIn : ℕ → ℕ
+fieldsIn kind = pick (ltb kind 3) 2 1
+
+-- "`e` lines, two ends each", "`c` control target or `r` qubit angle", "`n` and a qubit"
 unfoldable pub recordText : ℕ → List ℕ
-recordText x = lineText (letter (kindIn x)) (aIn x ∷ bIn x ∷ [])
+recordText x = lineText (letter (kindIn x)) (take (fieldsIn (kindIn x)) (aIn x ∷ bIn x ∷ []))
 
 unfoldable pub recordsText : List ℕ → List ℕ
 recordsText [] = []

@@ -1,6 +1,6 @@
-// The letter that a record's line begins with.
+// The letter that a record's line begins with, and how many numbers follow it.
 ghost use mathlib.Core.Path.{_≡_};
-ghost use Rattle.lines.specs.Lines.{letter};
+ghost use Rattle.lines.specs.Lines.{letter, fieldsIn};
 
 pub fn letter_of(kind: u32) -> u8
     ensures { λ r. ⌜ r ≡ letter kind ⌝ }
@@ -11,5 +11,15 @@ pub fn letter_of(kind: u32) -> u8
     if kind == 1 {
         return b'c';
     }
-    b'r'
+    if kind == 2 {
+        return b'r';
+    }
+    b'n'
+}
+
+// An X has its qubit alone.
+pub fn fields_of(kind: u32) -> usize
+    ensures { λ r. ⌜ r ≡ fieldsIn kind ⌝ }
+{
+    if kind < 3 { 2 } else { 1 }
 }

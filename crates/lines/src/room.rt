@@ -1,4 +1,5 @@
 // Whether a text fits a room. Each line is taken off the room, since a sum of lengths need not be a number that the machine holds.
+use crate::letter;
 ghost use mathlib.Core.Path.{_≡_};
 ghost use Prim.Native.Nat.{_+_};
 ghost use lib.ListN.{length};
@@ -55,7 +56,8 @@ pub fn after_records(room: Room, records: &[u32]) -> Room
     while i < records.len() {
         let x = records[i];
         let numbers = [(x / 65536 % 256) as usize, (x % 65536) as usize];
-        left = after_line(left, &numbers);
+        let count = letter::fields_of(x / 16777216);
+        left = after_line(left, &numbers[..count]);
         i += 1;
     }
     left

@@ -1,5 +1,5 @@
 -- The parities that bear a rotation: how they grow with the gates, and that no other has an angle. Assumes nothing.
-use mathlib.Core.Path.{_≡_, refl, sym, ap, _∙_, subst}
+use mathlib.Core.Path.{_≡_, refl, sym, ap, ap₂, _∙_, subst}
 use mathlib.Core.Logic.{_≢_, _⊎_, inl, inr, ⊎-elim}
 use mathlib.Core.Bool.{Bool, true, false}
 use mathlib.Core.List.{List, [], _∷_, _++_}
@@ -10,13 +10,15 @@ use lib.Dec.{eqb, ltb}
 use lib.ListN.{length, getD, take, drop, take-append-drop}
 use Rattle.sets.specs.Pick.{pick}
 use Rattle.gates.specs.declared.gate.Gate.{Gate}
-use Rattle.gates.specs.declared.gate.Gate.the-variants.{Cnot, Rotation, Bad}
+use Rattle.gates.specs.declared.gate.Gate.the-variants.{Cnot, Rotation, X, Bad}
 use Rattle.circuit.specs.Circuit.{step, run, start, gives, given, sumOf, Term}
+use Rattle.circuit.specs.Flips.{flipStep, noFlips}
 use Rattle.meaning.specs.Borne.{insert, bears, borneFrom, borne, Meets, sumsOf, terms, Ascending, Among}
 use Rattle.gates.specs.Layout.{Good}
 use Rattle.gates.specs.All.{All}
-use Rattle.circuit.proofs.Steps.{gives-cnot, gives-bad, gives-other, step-length}
+use Rattle.circuit.proofs.Steps.{gives-cnot, gives-x, gives-bad, gives-other, step-length}
 use Rattle.circuit.proofs.Circuits.{start-length}
+use Rattle.circuit.proofs.Straight.{straightened, straight, step-straight, sum-straight}
 use Rattle.circuit.proofs.Wiring.{Below, below-step, below-start, Apart, apart-step, apart-start, apart-not-empty}
 use Rattle.meaning.proofs.Lists.{Up, up-none, up-ascending, up-insert, up-kept, insert-has, insert-keeps, insert-back, kept-has, kept-back, among-none}
 use Rattle.table.proofs.Keeping.{kept-le}
@@ -40,6 +42,10 @@ pub borne-cnot : (gs : List Gate) (c t : ℕ) → borne (gs ++ Cnot c t ∷ []) 
 unfolding bears
 borne-cnot gs c t = borne-snoc gs (Cnot c t)
 
+pub borne-x : (gs : List Gate) (q : ℕ) → borne (gs ++ X q ∷ []) ≡ borne gs
+unfolding bears
+borne-x gs q = borne-snoc gs (X q)
+
 pub borne-bad : (gs : List Gate) → borne (gs ++ Bad ∷ []) ≡ borne gs
 unfolding bears
 borne-bad gs = borne-snoc gs Bad
@@ -50,6 +56,7 @@ bears-up : (g : Gate) (W ps : List ℕ) → Up 0 ps → Up 0 (bears g W ps)
 unfolding bears
 bears-up (Cnot c t) W ps u = u
 bears-up (Rotation q a) W ps u = up-insert 0 (getD W q 0) ps u zero-le
+bears-up (X q) W ps u = u
 bears-up Bad W ps u = u
 
 borne-from-up : (gs : List Gate) (W ps : List ℕ) → Up 0 ps → Up 0 (borneFrom gs W ps)
@@ -70,6 +77,7 @@ bears-keeps : (g : Gate) (W ps : List ℕ) (p : ℕ) → Among p ps → Among p 
 unfolding bears
 bears-keeps (Cnot c t) W ps p h = h
 bears-keeps (Rotation q a) W ps p h = insert-keeps (getD W q 0) p ps h
+bears-keeps (X q) W ps p h = h
 bears-keeps Bad W ps p h = h
 
 borne-from-keeps : (gs : List Gate) (W ps : List ℕ) (p : ℕ) → Among p ps → Among p (borneFrom gs W ps)
@@ -108,6 +116,7 @@ unfolding bears run
 bears-meets p (Cnot c t) gs W ps h = inl h
 bears-meets p (Rotation q a) gs W ps h =
     ⊎-elim (λ e. inr (record { before = []; qubit = q; angle = a; behind = gs; stands = refl; bearing = e })) (λ k. inl k) (insert-back (getD W q 0) p ps h)
+bears-meets p (X q) gs W ps h = inl h
 bears-meets p Bad gs W ps h = inl h
 
 borne-from-meets : (p : ℕ) (gs : List Gate) (W ps : List ℕ) → Among p (borneFrom gs W ps) → Among p ps ⊎ Meets p gs W
@@ -127,6 +136,7 @@ bears-given (Rotation q a) W ps p n = go (ℕ-discrete (getD W q 0) p)
     go : Dec (getD W q 0 ≡ p) → Among p (insert (getD W q 0) ps)
     go (yes e) = subst (λ (r : ℕ). Among r (insert (getD W q 0) ps)) e (insert-has (getD W q 0) ps)
     go (no ne) = absurd (n (gives-other p q a W ne))
+bears-given (X q) W ps p n = absurd (n (gives-x p q W))
 bears-given Bad W ps p n = absurd (n (gives-bad p W))
 
 borne-from-given : (gs : List Gate) (W ps : List ℕ) (p : ℕ) → given p gs W ≢ 0 → Among p (borneFrom gs W ps)
@@ -138,21 +148,40 @@ borne-from-given (g ∷ gs) W ps p n = go (ℕ-discrete (gives p g W) 0) (borne-
     go (yes z) ih = ih (λ (e : given p gs (step g W) ≡ 0). n (omega arith))
     go (no ne) ih = borne-from-keeps gs (step g W) (bears g W ps) p (bears-given g W ps p ne)
 
--- "sums only of parities that were borne"
-pub given-borne : (p : ℕ) (gs : List Gate) → given p gs start ≢ 0 → Among p (borne gs)
+given-borne : (p : ℕ) (gs : List Gate) → given p gs start ≢ 0 → Among p (borne gs)
 unfolding borne
 given-borne p gs n = borne-from-given gs start [] p n
 
-pub sum-borne : (p : ℕ) (gs : List Gate) → sumOf p gs ≢ 0 → Among p (borne gs)
-unfolding sumOf
-sum-borne p gs n = given-borne p gs (λ (e : given p gs start ≡ 0). n (omega (arith, ap (λ (k : ℕ). k % 65536) e)))
+-- flips change angles, and no parity that bears one
+bears-straight : (g : Gate) (F W ps : List ℕ) → bears (straightened g F) W ps ≡ bears g W ps
+unfolding bears straightened
+bears-straight (Cnot c t) F W ps = refl
+bears-straight (Rotation q a) F W ps = refl
+bears-straight (X q) F W ps = refl
+bears-straight Bad F W ps = refl
 
-pub not-borne : (p : ℕ) (gs : List Gate) → (Among p (borne gs) → ⊥) → given p gs start ≡ 0
-not-borne p gs n = go (ℕ-discrete (given p gs start) 0)
+borne-from-straight : (gs : List Gate) (F W ps : List ℕ) → borneFrom (straight gs F) W ps ≡ borneFrom gs W ps
+unfolding borneFrom straight
+borne-from-straight [] F W ps = refl
+borne-from-straight (g ∷ gs) F W ps =
+    ap₂ (borneFrom (straight gs (flipStep g F))) (step-straight g F W) (bears-straight g F W ps) ∙ borne-from-straight gs (flipStep g F) (step g W) (bears g W ps)
+
+borne-straight : (gs : List Gate) → borne (straight gs noFlips) ≡ borne gs
+unfolding borne
+borne-straight gs = borne-from-straight gs noFlips start []
+
+-- "sums only of parities that were borne"
+pub sum-borne : (p : ℕ) (gs : List Gate) → sumOf p gs ≢ 0 → Among p (borne gs)
+sum-borne p gs n =
+    subst (Among p) (borne-straight gs)
+    (given-borne p (straight gs noFlips) (λ (e : given p (straight gs noFlips) start ≡ 0). n (sum-straight p gs ∙ ap (λ (k : ℕ). k % 65536) e)))
+
+pub not-borne : (p : ℕ) (gs : List Gate) → (Among p (borne gs) → ⊥) → sumOf p gs ≡ 0
+not-borne p gs n = go (ℕ-discrete (sumOf p gs) 0)
   where
-    go : Dec (given p gs start ≡ 0) → given p gs start ≡ 0
+    go : Dec (sumOf p gs ≡ 0) → sumOf p gs ≡ 0
     go (yes e) = e
-    go (no ne) = absurd (n (given-borne p gs ne))
+    go (no ne) = absurd (n (sum-borne p gs ne))
 
 -- ---- more gates, no fewer parities
 
@@ -170,6 +199,7 @@ bears-grows : (g : Gate) (W ps : List ℕ) → length ps ≤ length (bears g W p
 unfolding bears
 bears-grows (Cnot c t) W ps = omega arith
 bears-grows (Rotation q a) W ps = insert-grows (getD W q 0) ps
+bears-grows (X q) W ps = omega arith
 bears-grows Bad W ps = omega arith
 
 borne-from-grows : (gs : List Gate) (W ps : List ℕ) → length ps ≤ length (borneFrom gs W ps)
@@ -220,6 +250,7 @@ module _ (n : ℕ) (few : n ≤ 20) (P : ℕ → Type 0) (parity : (W : List ℕ
   unfolding bears Good
   bears-only (Cnot c t) W ps g a b h p k = h p k
   bears-only (Rotation q x) W ps g a b h p k = ⊎-elim (λ e. subst P e (parity W a b q (g .0))) (λ j. h p j) (insert-back (getD W q 0) p ps k)
+  bears-only (X q) W ps g a b h p k = h p k
   bears-only Bad W ps g a b h p k = absurd g
 
   borne-only-from : (gs : List Gate) (W ps : List ℕ) → length W ≡ 20 → All (Good n) gs → Apart W → Below n W → ((p : ℕ) → Among p ps → P p)

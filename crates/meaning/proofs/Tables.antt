@@ -16,12 +16,13 @@ use Rattle.sets.proofs.Finding.{sub-suc, first-true, first-before}
 use Rattle.gates.specs.declared.gate.Gate.{Gate}
 use Rattle.gates.specs.declared.gate.Gate.the-variants.{Rotation}
 use Rattle.table.specs.declared.sums.Sums.{Sums}
-use Rattle.circuit.specs.Circuit.{run, start, given, sumOf}
+use Rattle.circuit.specs.Circuit.{run, start, gives, takes, sumOf}
+use Rattle.circuit.specs.Flips.{flipRun, noFlips}
 use Rattle.meaning.specs.Borne.{insert, borne, sumsOf, Ascending}
 use Rattle.table.specs.Table.{padded, Added, stopsAt, rankOf, putIn, movedIn, heldAt, grownAt, newAt, addedTo}
 use Rattle.meaning.specs.Told.{tableOf}
 use Rattle.circuit.proofs.Steps.{gives-borne, gives-other}
-use Rattle.circuit.proofs.Circuits.{given-snoc}
+use Rattle.circuit.proofs.Straight.{straight-rotation, sum-snoc, sum-small}
 use Rattle.table.proofs.Ranks.{rank-le, held-there, held-not-past, held-not-other, add-held, add-new, add-full}
 use Rattle.meaning.proofs.Lists.{insert-held, insert-new, at-among}
 use Rattle.meaning.proofs.Bearing.{borne-snoc, bears-rotation, borne-ascending, not-borne}
@@ -125,7 +126,11 @@ module _ (xs : List ℕ) (n p : ℕ) where
 
 -- ---- one rotation more
 
-module _ (gs : List Gate) (q a : ℕ) (few : length (borne gs) ≤ 256) where
+module _ (gs : List Gate) (q v : ℕ) (few : length (borne gs) ≤ 256) where
+  -- what the angle v comes to there
+  abbrev a : ℕ
+  a = takes (getD (flipRun gs noFlips) q 0) v
+
   abbrev ps : List ℕ
   ps = borne gs
 
@@ -133,7 +138,7 @@ module _ (gs : List Gate) (q a : ℕ) (few : length (borne gs) ≤ 256) where
   p = getD (run gs start) q 0
 
   abbrev more : List Gate
-  more = gs ++ Rotation q a ∷ []
+  more = gs ++ Rotation q v ∷ []
 
   abbrev k : ℕ
   k = rankOf (padded 256 ps) (length ps) p
@@ -148,15 +153,17 @@ module _ (gs : List Gate) (q a : ℕ) (few : length (borne gs) ≤ 256) where
   high h = rw (padded-at 256 ps k h) at (rank-above (padded 256 ps) (length ps) p few h)
 
   borne-more : borne more ≡ insert p ps
-  borne-more = borne-snoc gs (Rotation q a) ∙ bears-rotation q a (run gs start) ps
+  borne-more = borne-snoc gs (Rotation q v) ∙ bears-rotation q v (run gs start) ps
 
   sum-same : (r : ℕ) → p ≢ r → sumOf r gs ≡ sumOf r more
-  unfolding sumOf
-  sum-same r ne = ap (λ (m : ℕ). m % 65536) (sym (given-snoc r gs (Rotation q a) start ∙ omega (arith, gives-other r q a (run gs start) ne)))
+  sum-same r ne =
+      let s : sumOf r more ≡ (sumOf r gs + gives r (Rotation q a) (run gs start)) % 65536 = sum-snoc r gs (Rotation q v) ∙ ap (λ (g : Gate). (sumOf r gs + gives r g (run gs start)) % 65536) (straight-rotation q v (flipRun gs noFlips)) in
+      omega (arith, gives-other r q a (run gs start) ne, sum-small r gs)
 
   sum-more : sumOf p more ≡ (sumOf p gs % 65536 + a % 65536) % 65536
-  unfolding sumOf
-  sum-more = ap (λ (m : ℕ). m % 65536) (given-snoc p gs (Rotation q a) start ∙ ap (λ (m : ℕ). given p gs start + m) (gives-borne p q a (run gs start) refl)) ∙ omega arith
+  sum-more =
+      sum-snoc p gs (Rotation q v) ∙ ap (λ (g : Gate). (sumOf p gs + gives p g (run gs start)) % 65536) (straight-rotation q v (flipRun gs noFlips))
+      ∙ ap (λ (m : ℕ). (sumOf p gs + m) % 65536) (gives-borne p q a (run gs start) refl) ∙ omega arith
 
   -- p has its place: it is at k, and nowhere else
   module _ (l : k < length ps) (e : getD ps k 0 ≡ p) where
@@ -210,9 +217,8 @@ module _ (gs : List Gate) (q a : ℕ) (few : length (borne gs) ≤ 256) where
     inserted = borne-more ∙ insert-new p k ps low k-le above
 
     first-sum : sumOf p more ≡ a % 65536
-    unfolding sumOf
     first-sum =
-        let z : given p gs start ≡ 0 = not-borne p gs (λ h. let r = at-among p ps h in nowhere (r .0) (r .1) (sym (r .2))) in
+        let z : sumOf p gs ≡ 0 = not-borne p gs (λ h. let r = at-among p ps h in nowhere (r .0) (r .1) (sym (r .2))) in
         sum-more ∙ omega arith
 
     new-sums : movedIn (padded 256 (sumsOf gs ps)) k (length ps) (a % 65536) ≡ movedIn (padded 256 (sumsOf more ps)) k (length (sumsOf more ps)) (sumOf p more)

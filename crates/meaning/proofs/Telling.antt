@@ -2,7 +2,7 @@
 use mathlib.Core.Path.{_≡_, refl, sym, ap, ap₂, _∙_}
 use mathlib.Core.Bool.{Bool, true, false}
 use mathlib.Core.List.{List, [], _∷_, _++_}
-use Prim.Native.Nat.{ℕ, zero, suc, _+_, _-_, _%_, _≤_, _<_}
+use Prim.Native.Nat.{ℕ, zero, suc, _+_, _-_, _≤_, _<_}
 use native.Mathlib.Nat.{not-suc-le-zero, le-of-suc-le-suc}
 use native.Mathlib.Omega.{arith}
 use native.Mathlib.Numerals.{add-one}
@@ -14,20 +14,25 @@ use Rattle.sets.specs.Pick.{pick}
 use Rattle.sets.specs.Search.{firstOf}
 use Rattle.sets.proofs.Finding.{first-all, first-here, first-next, first-end}
 use Rattle.gates.specs.declared.gate.Gate.{Gate}
-use Rattle.gates.specs.declared.gate.Gate.the-variants.{Cnot, Rotation, Bad}
+use Rattle.gates.specs.declared.gate.Gate.the-variants.{Cnot, Rotation, X, Bad}
 use Rattle.table.specs.declared.sums.Sums.{Sums}
 use Rattle.circuit.specs.declared.wires.Wires.{Wires}
 use Rattle.meaning.specs.declared.told.Meaning.{Meaning}
 use Rattle.meaning.specs.declared.told.Told.{Told}
 use Rattle.gates.specs.Layout.{gateOf, gatesOf}
-use Rattle.circuit.specs.Circuit.{step, run, start, given, sumOf}
+use Rattle.circuit.specs.Circuit.{step, run, start, gives, takes, sumOf}
+use Rattle.circuit.specs.Flips.{flipStep, flipRun, noFlips}
+use Rattle.circuit.specs.Phase.{shifts, shiftsOn, phases, phaseOf}
 use Rattle.meaning.specs.Borne.{borne, borneFrom, sumsOf, overAt}
 use Rattle.table.specs.Table.{padded, Added, tabled, addedTo}
 use Rattle.meaning.specs.Told.{tableOf, meaningOf, toldOf}
 use Rattle.circuit.specs.State.{fedWires, wiresOf}
-use Rattle.circuit.proofs.Steps.{gives-cnot, gives-bad}
-use Rattle.circuit.proofs.Circuits.{run-snoc, given-snoc}
-use Rattle.meaning.proofs.Bearing.{borne-cnot, borne-bad}
+use Rattle.circuit.proofs.Steps.{gives-cnot, gives-x, gives-bad}
+use Rattle.circuit.proofs.Circuits.{run-snoc}
+use Rattle.circuit.proofs.Flips.{flip-snoc}
+use Rattle.circuit.proofs.Straight.{straightened, sum-snoc, sum-small}
+use Rattle.circuit.proofs.Phases.{phase-snoc, phase-small, phase-zero}
+use Rattle.meaning.proofs.Bearing.{borne-cnot, borne-x, borne-bad}
 use Rattle.meaning.proofs.Feeding.{Fed, fedMeaning, fed-same}
 use Rattle.meaning.proofs.Tables.{added-fits, added-full}
 
@@ -35,55 +40,82 @@ use Rattle.meaning.proofs.Tables.{added-fits, added-full}
 
 wires-more : (gs : List Gate) (g : Gate) → fedWires (wiresOf gs) g ≡ wiresOf (gs ++ g ∷ [])
 unfolding fedWires wiresOf
-wires-more gs g = ap (λ (W : List ℕ). record { parity = W }) (sym (run-snoc gs g start))
+wires-more gs g = ap₂ (λ (W F : List ℕ). record { parity = W; flip = F }) (sym (run-snoc gs g start)) (sym (flip-snoc gs g noFlips))
 
 -- a gate that gives no angle leaves the table
-sums-same : (gs : List Gate) (g : Gate) (ps : List ℕ) → ((p : ℕ) → given p (gs ++ g ∷ []) start ≡ given p gs start) → sumsOf (gs ++ g ∷ []) ps ≡ sumsOf gs ps
-unfolding sumOf
+sums-same : (gs : List Gate) (g : Gate) (ps : List ℕ) → ((p : ℕ) → sumOf p (gs ++ g ∷ []) ≡ sumOf p gs) → sumsOf (gs ++ g ∷ []) ps ≡ sumsOf gs ps
 sums-same gs g [] h = refl
-sums-same gs g (p ∷ ps) h = ap₂ (λ (a : ℕ) (as′ : List ℕ). a ∷ as′) (ap (λ (m : ℕ). m % 65536) (h p)) (sums-same gs g ps h)
+sums-same gs g (p ∷ ps) h = ap₂ (λ (a : ℕ) (as′ : List ℕ). a ∷ as′) (h p) (sums-same gs g ps h)
 
-table-same : (gs : List Gate) (g : Gate) → borne (gs ++ g ∷ []) ≡ borne gs → ((p : ℕ) → given p (gs ++ g ∷ []) start ≡ given p gs start) → tableOf (gs ++ g ∷ []) ≡ tableOf gs
+table-same : (gs : List Gate) (g : Gate) → borne (gs ++ g ∷ []) ≡ borne gs → ((p : ℕ) → gives p (straightened g (flipRun gs noFlips)) (run gs start) ≡ 0) → tableOf (gs ++ g ∷ []) ≡ tableOf gs
 unfolding tableOf
-table-same gs g b h = rw (b, sums-same gs g (borne gs) h)
+table-same gs g b h = rw (b, sums-same gs g (borne gs) (λ p. sum-snoc p gs g ∙ omega (arith, h p, sum-small p gs)))
 
 pub table-cnot : (gs : List Gate) (c t : ℕ) → tableOf (gs ++ Cnot c t ∷ []) ≡ tableOf gs
-table-cnot gs c t = table-same gs (Cnot c t) (borne-cnot gs c t) (λ p. given-snoc p gs (Cnot c t) start ∙ omega (arith, gives-cnot p c t (run gs start)))
+unfolding straightened
+table-cnot gs c t = table-same gs (Cnot c t) (borne-cnot gs c t) (λ p. gives-cnot p c t (run gs start))
+
+pub table-x : (gs : List Gate) (q : ℕ) → tableOf (gs ++ X q ∷ []) ≡ tableOf gs
+unfolding straightened
+table-x gs q = table-same gs (X q) (borne-x gs q) (λ p. gives-x p q (run gs start))
 
 pub table-bad : (gs : List Gate) → tableOf (gs ++ Bad ∷ []) ≡ tableOf gs
-table-bad gs = table-same gs Bad (borne-bad gs) (λ p. given-snoc p gs Bad start ∙ omega (arith, gives-bad p (run gs start)))
+unfolding straightened
+table-bad gs = table-same gs Bad (borne-bad gs) (λ p. gives-bad p (run gs start))
+
+-- and the phase
+phase-same : (gs : List Gate) (g : Gate) → shiftsOn g (flipRun gs noFlips) ≡ 0 → phaseOf gs ≡ phaseOf (gs ++ g ∷ [])
+phase-same gs g z = sym (phase-snoc gs g ∙ omega (arith, phase-small gs))
+
+phase-more : (gs : List Gate) (q a : ℕ) → phases (phaseOf gs) (shifts (getD (flipRun gs noFlips) q 0) a) ≡ phaseOf (gs ++ Rotation q a ∷ [])
+unfolding phases shiftsOn
+phase-more gs q a = sym (phase-snoc gs (Rotation q a))
 
 borne-by : (gs : List Gate) → wiresOf gs .parity ≡ run gs start
 unfolding wiresOf
 borne-by gs = refl
 
+flipped-by : (gs : List Gate) → wiresOf gs .flip ≡ flipRun gs noFlips
+unfolding wiresOf
+flipped-by gs = refl
+
 wires-rotation : (gs : List Gate) (q a : ℕ) → wiresOf gs ≡ wiresOf (gs ++ Rotation q a ∷ [])
-unfolding wiresOf step
-wires-rotation gs q a = ap (λ (W : List ℕ). record { parity = W }) (sym (run-snoc gs (Rotation q a) start))
+unfolding fedWires step flipStep
+wires-rotation gs q a = wires-more gs (Rotation q a)
 
 wires-bad : (gs : List Gate) → wiresOf gs ≡ wiresOf (gs ++ Bad ∷ [])
-unfolding wiresOf step
-wires-bad gs = ap (λ (W : List ℕ). record { parity = W }) (sym (run-snoc gs Bad start))
+unfolding fedWires step flipStep
+wires-bad gs = wires-more gs Bad
 
-abbrev fed : Wires → Sums → Bool → Fed
-fed w s b = record { meaning = record { wires = w; sums = s }; full = b }
+abbrev fed : Wires → Sums → ℕ → Bool → Fed
+fed w s f b = record { meaning = record { wires = w; sums = s; phase = f }; full = b }
 
 module _ (gs : List Gate) (few : length (borne gs) ≤ 256) where
   -- it fits: the meaning of one gate more
   pub feed-fits : (g : Gate) → length (borne (gs ++ g ∷ [])) ≤ 256 → fedMeaning (meaningOf gs) g ≡ record { meaning = meaningOf (gs ++ g ∷ []); full = false }
   unfolding fedMeaning meaningOf
-  feed-fits (Cnot c t) h = ap₂ (λ (w : Wires) (s : Sums). fed w s false) (wires-more gs (Cnot c t)) (sym (table-cnot gs c t))
+  feed-fits (Cnot c t) h =
+      ap₂ (λ (w : Wires) (s : Sums). fed w s (phaseOf gs) false) (wires-more gs (Cnot c t)) (sym (table-cnot gs c t))
+      ∙ ap (λ (f : ℕ). fed (wiresOf (gs ++ Cnot c t ∷ [])) (tableOf (gs ++ Cnot c t ∷ [])) f false) (phase-same gs (Cnot c t) (unfold shiftsOn in refl))
   feed-fits (Rotation q a) h =
-      ap₂ (λ (w : Wires) (s : Added). fed w (s .sums) (s .full)) (wires-rotation gs q a)
-      (ap (λ (W : List ℕ). addedTo (tableOf gs) (getD W q 0) a) (borne-by gs) ∙ added-fits gs q a few h)
-  feed-fits Bad h = ap₂ (λ (w : Wires) (s : Sums). fed w s false) (wires-bad gs) (sym (table-bad gs))
+      ap (λ (s : Added). fed (wiresOf gs) (s .sums) (pick (s .full) (phaseOf gs) (phases (phaseOf gs) (shifts (getD (wiresOf gs .flip) q 0) a))) (s .full))
+      (ap₂ (λ (W F : List ℕ). addedTo (tableOf gs) (getD W q 0) (takes (getD F q 0) a)) (borne-by gs) (flipped-by gs) ∙ added-fits gs q a few h)
+      ∙ ap₂ (λ (w : Wires) (f : ℕ). fed w (tableOf (gs ++ Rotation q a ∷ [])) f false) (wires-rotation gs q a)
+      (ap (λ (F : List ℕ). phases (phaseOf gs) (shifts (getD F q 0) a)) (flipped-by gs) ∙ phase-more gs q a)
+  feed-fits (X q) h =
+      ap₂ (λ (w : Wires) (s : Sums). fed w s (phaseOf gs) false) (wires-more gs (X q)) (sym (table-x gs q))
+      ∙ ap (λ (f : ℕ). fed (wiresOf (gs ++ X q ∷ [])) (tableOf (gs ++ X q ∷ [])) f false) (phase-same gs (X q) (unfold shiftsOn in refl))
+  feed-fits Bad h =
+      ap₂ (λ (w : Wires) (s : Sums). fed w s (phaseOf gs) false) (wires-bad gs) (sym (table-bad gs))
+      ∙ ap (λ (f : ℕ). fed (wiresOf (gs ++ Bad ∷ [])) (tableOf (gs ++ Bad ∷ [])) f false) (phase-same gs Bad (unfold shiftsOn in refl))
 
   -- it does not: the gate brings the 257th
   pub feed-full : (g : Gate) → 256 < length (borne (gs ++ g ∷ [])) → fedMeaning (meaningOf gs) g .full ≡ true
   unfolding fedMeaning meaningOf
   feed-full (Cnot c t) h = absurd (omega (arith, ap length (borne-cnot gs c t)))
   feed-full (Rotation q a) h =
-      ap (λ (W : List ℕ). addedTo (tableOf gs) (getD W q 0) a .full) (borne-by gs) ∙ added-full gs q a few h
+      ap₂ (λ (W F : List ℕ). addedTo (tableOf gs) (getD W q 0) (takes (getD F q 0) a) .full) (borne-by gs) (flipped-by gs) ∙ added-full gs q a few h
+  feed-full (X q) h = absurd (omega (arith, ap length (borne-x gs q)))
   feed-full Bad h = absurd (omega (arith, ap length (borne-bad gs)))
 
 -- ---- the whole list
@@ -99,11 +131,11 @@ pub record Telling (gs : List Gate) (m : Meaning) (i : ℕ) : Type 0 where
   pub still : firstOf (overTest gs) (length gs - i) i ≡ overAt gs
 
 -- no gate: each wire bears its own qubit, and the table is empty
-pub telling-none : (gs : List Gate) (w : Wires) → w ≡ wiresOf [] → Telling gs (record { wires = w; sums = tabled (replicate 256 0) (replicate 256 0) 0 }) 0
+pub telling-none : (gs : List Gate) (w : Wires) → w ≡ wiresOf [] → Telling gs (record { wires = w; sums = tabled (replicate 256 0) (replicate 256 0) 0; phase = 0 }) 0
 unfolding meaningOf tableOf overAt borne borneFrom padded
 telling-none gs w e = record {
   within = omega arith;
-  told = ap (λ (v : Wires). record { wires = v; sums = tableOf [] }) e;
+  told = ap₂ (λ (v : Wires) (f : ℕ). record { wires = v; sums = tableOf []; phase = f }) e (sym phase-zero);
   few = omega arith;
   still = first-all (overTest gs) (length gs);
 }

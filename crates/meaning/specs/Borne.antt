@@ -9,7 +9,7 @@ use Rattle.sets.specs.Pick.{pick}
 use Rattle.sets.specs.Search.{firstOf}
 use Rattle.gates.specs.Limits.{mostParities}
 use Rattle.gates.specs.declared.gate.Gate.{Gate}
-use Rattle.gates.specs.declared.gate.Gate.the-variants.{Cnot, Rotation, Bad}
+use Rattle.gates.specs.declared.gate.Gate.the-variants.{Cnot, Rotation, X, Bad}
 use Rattle.table.specs.Table.{kept}
 use Rattle.circuit.specs.Circuit.{step, run, start, sumOf}
 
@@ -22,6 +22,7 @@ insert p (x ∷ xs) = pick (ltb x p) (x ∷ insert p xs) (pick (eqb x p) (x ∷ 
 unfoldable pub bears : Gate → List ℕ → List ℕ → List ℕ
 bears (Cnot c t) W ps = ps
 bears (Rotation q a) W ps = insert (getD W q 0) ps
+bears (X q) W ps = ps
 bears Bad W ps = ps
 
 unfoldable pub borneFrom : List Gate → List ℕ → List ℕ → List ℕ

@@ -6,6 +6,8 @@ use Rattle.gates.specs.declared.gate.Gate.{Gate}
 use Rattle.gates.specs.Example.{Example}
 use Rattle.gates.specs.Layout.{packed, gatesOf}
 use Rattle.circuit.specs.Circuit.{finalOf, sumOf}
+use Rattle.circuit.specs.Flips.{flipOf}
+use Rattle.circuit.specs.Phase.{phaseOf}
 use Rattle.meaning.specs.Borne.{terms}
 use Rattle.tallies.specs.Tally.{depthOf, boundOf}
 
@@ -40,6 +42,23 @@ records6 = cnotRecord 0 2 ∷ rotationRecord 2 40 ∷ rotationRecord 2 65496 ∷
 abbrev pub gates10 : List Gate
 gates10 = gatesOf 2 (cnotRecord 0 1 ∷ rotationRecord 1 1 ∷ cnotRecord 0 1 ∷ [])
 
+-- of request E3: X gates, kind 3 with b = 0
+
+abbrev pub xRecord : ℕ → ℕ
+xRecord q = packed 3 q 0
+
+-- 12. "X, rotation 5, X on one wire": the angle is taken from the sum and goes to the common phase
+abbrev pub gates12 : List Gate
+gates12 = gatesOf 1 (xRecord 0 ∷ rotationRecord 0 5 ∷ xRecord 0 ∷ [])
+
+-- 13. "A CNOT adds its control's flip to its target's", on two qubits
+abbrev pub gates13 : List Gate
+gates13 = gatesOf 2 (xRecord 0 ∷ cnotRecord 0 1 ∷ [])
+
+-- 14. two X gates on one wire are none
+abbrev pub gates14 : List Gate
+gates14 = gatesOf 1 (xRecord 0 ∷ xRecord 0 ∷ [])
+
 -- what the examples say of meaning, sums, depth and B
 unfoldable pub meaningExamples : List Example
 meaningExamples =
@@ -48,6 +67,9 @@ meaningExamples =
     ∷ record { number = 3; says = terms gates3 ≡ [] }
     ∷ record { number = 5; says = (sumOf 5 (gatesOf 3 records5) ≡ 40) × (terms (gatesOf 3 records5) ≡ 5 ∷ []) }
     ∷ record { number = 6; says = terms (gatesOf 3 records6) ≡ [] }
-    ∷ record { number = 9; says = (boundOf 2 1 ≡ 7) × (boundOf 1 1 ≡ 1) × (boundOf 4 3 ≡ 45) × (boundOf 16 10 ≡ 790) × (boundOf 20 256 ≡ 10744) }
+    ∷ record { number = 9; says = (boundOf 2 1 ≡ 9) × (boundOf 1 1 ≡ 2) × (boundOf 4 3 ≡ 49) × (boundOf 16 10 ≡ 806) × (boundOf 20 256 ≡ 10764) }
     ∷ record { number = 10; says = depthOf gates10 ≡ 3 }
+    ∷ record { number = 12; says = (sumOf 1 gates12 ≡ 65531) × (phaseOf gates12 ≡ 5) × (flipOf gates12 0 ≡ 0) × (depthOf gates12 ≡ 1) }
+    ∷ record { number = 13; says = (flipOf gates13 0 ≡ 1) × (flipOf gates13 1 ≡ 1) × (finalOf gates13 1 ≡ 3) }
+    ∷ record { number = 14; says = (flipOf gates14 0 ≡ 0) × (terms gates14 ≡ []) × (phaseOf gates14 ≡ 0) × (depthOf gates14 ≡ 0) }
     ∷ []

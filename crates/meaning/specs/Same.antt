@@ -7,15 +7,23 @@ use Rattle.gates.specs.Layout.{Good}
 use Rattle.gates.specs.All.{All}
 use Rattle.gates.specs.Listed.{OnCoupler}
 use Rattle.circuit.specs.Circuit.{finalOf, sumOf}
+use Rattle.circuit.specs.Flips.{flipOf}
+use Rattle.circuit.specs.Phase.{phaseOf, phases}
 
--- "The meaning is the n final parities and the sums of all parities. Two circuits are equal in meaning when all of these are equal."
-pub record SameMeaning (n : ℕ) (g h : List Gate) : Type 0 where
+-- "The meaning is the n final parities and the sums of all parities", and the final flips: two circuits have the same, their common phases aside
+pub record Alike (n : ℕ) (g h : List Gate) : Type 0 where
   pub finals : (i : ℕ) → i < n → finalOf g i ≡ finalOf h i
+  pub flips : (i : ℕ) → i < n → flipOf g i ≡ flipOf h i
   pub sums : (p : ℕ) → sumOf p g ≡ sumOf p h
 
--- "some circuit of coupler CNOTs and rotations, of any length, has it"
+-- "Two circuits are equal in meaning when all of these are equal": with the common phase of h plus `extra`
+pub record SameMeaning (n extra : ℕ) (g h : List Gate) : Type 0 where
+  pub alike : Alike n g h
+  pub phase : phaseOf g ≡ phases (phaseOf h) extra
+
+-- "some circuit of coupler CNOTs and rotations, of any length, has it", X's among them, the common phase aside
 pub record Reachable (n : ℕ) (couplers : List ℕ) (gates : List Gate) : Type 0 where
   pub circuit : List Gate
   pub good : All (Good n) circuit
   pub coupled : All (OnCoupler couplers) circuit
-  pub same : SameMeaning n gates circuit
+  pub same : Alike n gates circuit

@@ -14,7 +14,7 @@ use Rattle.sets.proofs.Members.{in-lt}
 use Rattle.sets.proofs.Turn.{turn-sub, turn-off}
 use Rattle.sets.proofs.Words.{single-pow}
 use Rattle.gates.specs.declared.gate.Gate.{Gate}
-use Rattle.gates.specs.declared.gate.Gate.the-variants.{Cnot, Rotation, Bad}
+use Rattle.gates.specs.declared.gate.Gate.the-variants.{Cnot, Rotation, X, Bad}
 use Rattle.tallies.specs.Tally.{cnotsOf}
 use Rattle.columns.specs.Pieces.{Piece, piece, idle, after, andThen}
 use Rattle.columns.specs.Turning.{turnAll}
@@ -146,6 +146,7 @@ module _ (near : List ℕ) (Q : ℕ) (angles : List ℕ) (low : Q < 2 ^ 20) wher
       one-more : (n : ℕ) → 1 + n ≡ suc n
       one-more n = omega arith
   moves-moved (Rotation q a ∷ gs) h xs r = absurd h
+  moves-moved (X q ∷ gs) h xs r = absurd h
   moves-moved (Bad ∷ gs) h xs r = absurd h
 
   -- column k is x unless it is struck off; moves that bring x to one qubit strike it off
@@ -171,4 +172,5 @@ module _ (near : List ℕ) (Q : ℕ) (angles : List ℕ) (low : Q < 2 ^ 20) wher
       go (inr i) (inl z) = inl z
       go (inr i) (inr j) = inr (j ∙ ap (λ (y : ℕ). turn y c t) i)
   moves-gone (Rotation q a ∷ gs) h xs r k v x s e = absurd h
+  moves-gone (X q ∷ gs) h xs r k v x s e = absurd h
   moves-gone (Bad ∷ gs) h xs r k v x s e = absurd h

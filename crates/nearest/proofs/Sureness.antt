@@ -19,7 +19,7 @@ use Rattle.sets.proofs.Ones.{ones-pow, ones-put, ones-drop}
 use Rattle.sets.proofs.Turn.{turn-on, turn-off}
 use Rattle.sets.proofs.Words.{has-true, has-false}
 use Rattle.gates.specs.declared.gate.Gate.{Gate}
-use Rattle.gates.specs.declared.gate.Gate.the-variants.{Cnot, Rotation, Bad}
+use Rattle.gates.specs.declared.gate.Gate.the-variants.{Cnot, Rotation, X, Bad}
 use Rattle.chip.specs.Graph.{Near, Symm}
 use Rattle.spares.specs.Spare.{connectedOf}
 use Rattle.spares.proofs.Spares.{connected-joined}
@@ -44,6 +44,7 @@ pub turns-lose : (L : List Gate) (x : ℕ) → ones x ≤ length L + ones (turns
 turns-lose [] x = omega arith
 turns-lose (Cnot c t ∷ gs) x = omega (arith, turn-loses x c t, turns-lose gs (turn x c t))
 turns-lose (Rotation q a ∷ gs) x = omega (arith, turns-lose gs x)
+turns-lose (X q ∷ gs) x = omega (arith, turns-lose gs x)
 turns-lose (Bad ∷ gs) x = omega (arith, turns-lose gs x)
 
 -- ---- so a column with more qubits than the nearest so far has moves is no nearer

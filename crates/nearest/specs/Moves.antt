@@ -2,7 +2,7 @@
 use mathlib.Core.List.{List, [], _∷_}
 use Prim.Native.Nat.{ℕ}
 use Rattle.gates.specs.declared.gate.Gate.{Gate}
-use Rattle.gates.specs.declared.gate.Gate.the-variants.{Cnot, Rotation, Bad}
+use Rattle.gates.specs.declared.gate.Gate.the-variants.{Cnot, Rotation, X, Bad}
 use Rattle.columns.specs.Pieces.{Piece, idle, andThen}
 use Rattle.columns.specs.Turning.{layCnot}
 use Rattle.columns.specs.Striking.{strikeOff}
@@ -16,4 +16,5 @@ unfoldable pub layMoves : List ℕ → List Gate → List ℕ → Piece
 layMoves angles [] xs = idle xs
 layMoves angles (Cnot c t ∷ gs) xs = andThen (layMove angles c t xs) (λ ys. layMoves angles gs ys)
 layMoves angles (Rotation q a ∷ gs) xs = layMoves angles gs xs
+layMoves angles (X q ∷ gs) xs = layMoves angles gs xs
 layMoves angles (Bad ∷ gs) xs = layMoves angles gs xs

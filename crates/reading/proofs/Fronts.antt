@@ -11,7 +11,7 @@ use lib.Seq.{take-all}
 use borrow.Author.Tests.{ne-eqb, ltb-true, ltb-false}
 use Rattle.sets.specs.Pick.{pick}
 use Rattle.gates.specs.Layout.{kindIn, aIn, bIn}
-use Rattle.lines.specs.Lines.{digits, fieldsText, lineText, letter, recordText, recordsText, textOf}
+use Rattle.lines.specs.Lines.{digits, fieldsText, lineText, letter, fieldsIn, recordText, recordsText, textOf}
 use Rattle.reading.specs.Misfit.{AllFit, JobText, front, NoLf}
 use Rattle.reading.specs.Parsing.{oneOf, headOf}
 use Rattle.reading.proofs.Numbers.{never}
@@ -64,11 +64,12 @@ letter-plain : (k : ℕ) → letter k ≡ 10 → ⊥
 unfolding letter
 letter-plain zero e = let z : _≡_ {A = ℕ} 101 10 = e in omega arith
 letter-plain (suc zero) e = let z : _≡_ {A = ℕ} 99 10 = e in omega arith
-letter-plain (suc (suc k)) e = let z : _≡_ {A = ℕ} 114 10 = e in omega arith
+letter-plain (suc (suc zero)) e = let z : _≡_ {A = ℕ} 114 10 = e in omega arith
+letter-plain (suc (suc (suc k))) e = let z : _≡_ {A = ℕ} 110 10 = e in omega arith
 
 record-front : (k x : ℕ) (t : List ℕ) → front (suc k) (recordText x ++ t) ≡ recordText x ++ front k t
 unfolding recordText
-record-front k x t = line-front k (letter (kindIn x)) (aIn x ∷ bIn x ∷ []) t (letter-plain (kindIn x))
+record-front k x t = line-front k (letter (kindIn x)) (take (fieldsIn (kindIn x)) (aIn x ∷ bIn x ∷ [])) t (letter-plain (kindIn x))
 
 front-zero : (t : List ℕ) → front 0 t ≡ []
 unfolding front

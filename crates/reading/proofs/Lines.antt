@@ -13,9 +13,10 @@ use Rattle.gates.proofs.Records.{kind-packed, a-packed, b-packed, packed-back}
 use Rattle.reading.specs.Limits.{mostFirst, mostSecond}
 use Rattle.lines.specs.Lines.{digits, fieldsText, lineText, letter, recordText}
 use Rattle.reading.specs.Misfit.{Fit}
-use Rattle.reading.specs.Parsing.{Got, skipped, digitOf, readNumber, lineOf, orElse, oneOf, headOf}
+use Rattle.reading.specs.Parsing.{Got, skipped, digitOf, readNumber, lineOf, shortOf, orElse, otherOf, oneOf, headOf}
 use Rattle.reading.proofs.Numbers.{number-le, skip-back, number-back, skip-forth, number-forth}
 use Rattle.lines.proofs.Layouts.{packed-is, a-lt, b-lt}
+use Rattle.lines.proofs.Writes.{record-two, record-one}
 
 -- ---- what the code's steps come to
 
@@ -26,20 +27,36 @@ unfolding lineOf
 line-chain k s {E = E} {A = A} {B = B} e p0 p1 a p2 b f =
     ap (λ v. record { value = v; rest = E }) (packed-is k (A .value) (B .value)) ∙ rw (f, b, p2, a, p1, p0, e)
 
+pub short-chain : (k : ℕ) (s : List ℕ) {l : ℕ} {P0 P1 E : Option (List ℕ)} {A : Got}
+    → l ≡ letter k → P0 ≡ skipped l (some s) → P1 ≡ skipped 9 P0 → A ≡ readNumber mostFirst P1 → E ≡ skipped 10 (A .rest)
+    → record { value = k * 16777216 + A .value * 65536; rest = E } ≡ shortOf k s
+unfolding shortOf
+short-chain k s {E = E} {A = A} e p0 p1 a f =
+    let z : k * 16777216 + A .value * 65536 ≡ packed k (A .value) 0 = omega (arith, packed-is k (A .value) 0) in
+    ap (λ v. record { value = v; rest = E }) z ∙ rw (f, a, p1, p0, e)
+
 pub head-chain : (s : List ℕ) {P0 P1 E : Option (List ℕ)} {N : Got}
     → P0 ≡ skipped 113 (some s) → P1 ≡ skipped 9 P0 → N ≡ readNumber mostFirst P1 → E ≡ skipped 10 (N .rest) → record { value = N .value; rest = E } ≡ headOf s
 unfolding headOf
 head-chain s p0 p1 n f = rw (f, n, p1, p0)
 
--- ---- the line of a record
+-- ---- lines of two numbers, and of one
 
-pub record-more : (x : ℕ) (t : List ℕ) → recordText x ++ t ≡ letter (kindIn x) ∷ 9 ∷ (digits (aIn x) ++ (9 ∷ (digits (bIn x) ++ (10 ∷ t))))
-unfolding recordText lineText fieldsText
-record-more x t = simp append-assoc
+line-more : (l a b : ℕ) (t : List ℕ) → lineText l (a ∷ b ∷ []) ++ t ≡ l ∷ 9 ∷ (digits a ++ (9 ∷ (digits b ++ (10 ∷ t))))
+unfolding lineText fieldsText
+line-more l a b t = simp append-assoc
 
-module _ (k a b : ℕ) (ha : a < 256) (hb : b < 65536) where
+short-more : (l a : ℕ) (t : List ℕ) → lineText l (a ∷ []) ++ t ≡ l ∷ 9 ∷ (digits a ++ (10 ∷ t))
+unfolding lineText fieldsText
+short-more l a t = simp append-assoc
+
+-- ---- the line of a record of two numbers
+
+module _ (k a b : ℕ) (ha : a < 256) (hb : b < 65536) (hk : k < 3) where
   packed-more : (t : List ℕ) → recordText (packed k a b) ++ t ≡ letter k ∷ 9 ∷ (digits a ++ (9 ∷ (digits b ++ (10 ∷ t))))
-  packed-more t = record-more (packed k a b) t ∙ rw (kind-packed k a b ha hb, a-packed k a b ha hb, b-packed k a b ha hb)
+  packed-more t =
+      ap (λ l. l ++ t) (record-two (packed k a b) (omega (arith, kind-packed k a b ha hb)))
+      ∙ rw (kind-packed k a b ha hb, a-packed k a b ha hb, b-packed k a b ha hb) (line-more (letter k) a b t)
 
   line-forth : (t : List ℕ) → lineOf k (recordText (packed k a b) ++ t) ≡ record { value = packed k a b; rest = some t }
   unfolding lineOf digitOf
@@ -48,18 +65,17 @@ module _ (k a b : ℕ) (ha : a < 256) (hb : b < 65536) where
       let b≤ : b ≤ 65535 = omega arith in
       rw (packed-more t, skip-forth, skip-forth, number-forth 255 a (9 ∷ (digits b ++ (10 ∷ t))) a≤ refl, skip-forth, number-forth 65535 b (10 ∷ t) b≤ refl, skip-forth)
 
-kind-forth : (x : ℕ) (t : List ℕ) → lineOf (kindIn x) (recordText x ++ t) ≡ record { value = x; rest = some t }
-kind-forth x t =
-    subst (λ y. lineOf (kindIn x) (recordText y ++ t) ≡ record { value = y; rest = some t }) (packed-back x)
-    (line-forth (kindIn x) (aIn x) (bIn x) (a-lt x) (b-lt x) t)
+kind-forth : (k x : ℕ) (t : List ℕ) → k < 3 → kindIn x ≡ k → lineOf k (recordText x ++ t) ≡ record { value = x; rest = some t }
+kind-forth k x t hk h =
+    subst (λ y. lineOf k (recordText y ++ t) ≡ record { value = y; rest = some t }) (cc (packed-back x, h)) (line-forth k (aIn x) (bIn x) (a-lt x) (b-lt x) hk t)
 
 record Back (k : ℕ) (s t : List ℕ) : Type 0 where
   same : s ≡ recordText (lineOf k s .value) ++ t
   kind : kindIn (lineOf k s .value) ≡ k
 
-line-back : (k : ℕ) (s t : List ℕ) → lineOf k s .rest ≡ some t → Back k s t
+line-back : (k : ℕ) → k < 3 → (s t : List ℕ) → lineOf k s .rest ≡ some t → Back k s t
 unfolding lineOf
-line-back k s t e =
+line-back k hk s t e =
     let A = readNumber 255 (skipped 9 (skipped (letter k) (some s))) in
     let B = readNumber 65535 (skipped 9 (A .rest)) in
     let b1 : B .rest ≡ some (10 ∷ t) = skip-back 10 (B .rest) t e in
@@ -70,15 +86,57 @@ line-back k s t e =
     let d : s ≡ letter k ∷ 9 ∷ (digits (A .value) ++ (9 ∷ (digits (B .value) ++ (10 ∷ t)))) = cc c in
     let ha : A .value < 256 = omega (arith, number-le 255 (skipped 9 (skipped (letter k) (some s)))) in
     let hb : B .value < 65536 = omega (arith, number-le 65535 (skipped 9 (A .rest))) in
-    record { same = d ∙ sym (packed-more k (A .value) (B .value) ha hb t); kind = kind-packed k (A .value) (B .value) ha hb }
+    record { same = d ∙ sym (packed-more k (A .value) (B .value) ha hb hk t); kind = kind-packed k (A .value) (B .value) ha hb }
+
+-- ---- the line of an X
+
+module _ (a : ℕ) (ha : a < 256) where
+  abbrev none-b : 0 < 65536
+  none-b = omega arith
+
+  x-more : (t : List ℕ) → recordText (packed 3 a 0) ++ t ≡ letter 3 ∷ 9 ∷ (digits a ++ (10 ∷ t))
+  x-more t =
+      ap (λ l. l ++ t) (record-one (packed 3 a 0) (omega (arith, kind-packed 3 a 0 ha none-b)))
+      ∙ rw (kind-packed 3 a 0 ha none-b, a-packed 3 a 0 ha none-b) (short-more (letter 3) a t)
+
+  x-kind : Fit true (packed 3 a 0)
+  x-kind = inr (inr (kind-packed 3 a 0 ha none-b, b-packed 3 a 0 ha none-b))
+
+  short-forth : (t : List ℕ) → shortOf 3 (recordText (packed 3 a 0) ++ t) ≡ record { value = packed 3 a 0; rest = some t }
+  unfolding shortOf digitOf
+  short-forth t =
+      let a≤ : a ≤ 255 = omega arith in
+      rw (x-more t, skip-forth, skip-forth, number-forth 255 a (10 ∷ t) a≤ refl, skip-forth)
+
+x-forth : (x : ℕ) (t : List ℕ) → kindIn x ≡ 3 → bIn x ≡ 0 → shortOf 3 (recordText x ++ t) ≡ record { value = x; rest = some t }
+x-forth x t h z = subst (λ y. shortOf 3 (recordText y ++ t) ≡ record { value = y; rest = some t }) (cc (packed-back x, h, z)) (short-forth (aIn x) (a-lt x) t)
+
+x-back : (s t : List ℕ) → shortOf 3 s .rest ≡ some t → (s ≡ recordText (shortOf 3 s .value) ++ t) × Fit true (shortOf 3 s .value)
+unfolding shortOf
+x-back s t e =
+    let A = readNumber 255 (skipped 9 (skipped (letter 3) (some s))) in
+    let a1 : A .rest ≡ some (10 ∷ t) = skip-back 10 (A .rest) t e in
+    let a2 : skipped 9 (skipped (letter 3) (some s)) ≡ some (digits (A .value) ++ (10 ∷ t)) = number-back 255 (skipped 9 (skipped (letter 3) (some s))) _ a1 in
+    let c : some s ≡ some (letter 3 ∷ 9 ∷ (digits (A .value) ++ (10 ∷ t))) = skip-back (letter 3) (some s) _ (skip-back 9 (skipped (letter 3) (some s)) _ a2) in
+    let d : s ≡ letter 3 ∷ 9 ∷ (digits (A .value) ++ (10 ∷ t)) = cc c in
+    let ha : A .value < 256 = omega (arith, number-le 255 (skipped 9 (skipped (letter 3) (some s)))) in
+    (d ∙ sym (x-more (A .value) ha t), x-kind (A .value) ha)
 
 -- ---- the line of a coupler, or of a gate
+
+pub other-first : (s : List ℕ) {t : List ℕ} → lineOf 2 s .rest ≡ some t → lineOf 2 s ≡ otherOf s
+unfolding otherOf orElse
+other-first s e = rw e
+
+pub other-second : (s : List ℕ) → lineOf 2 s .rest ≡ none → shortOf 3 s ≡ otherOf s
+unfolding otherOf orElse
+other-second s e = rw e
 
 pub one-first : (g : Bool) (s : List ℕ) {t : List ℕ} → g ≡ true → lineOf 1 s .rest ≡ some t → lineOf 1 s ≡ oneOf g s
 unfolding oneOf orElse
 one-first g s p e = rw (p, e)
 
-pub one-second : (g : Bool) (s : List ℕ) → g ≡ true → lineOf 1 s .rest ≡ none → lineOf 2 s ≡ oneOf g s
+pub one-second : (g : Bool) (s : List ℕ) → g ≡ true → lineOf 1 s .rest ≡ none → otherOf s ≡ oneOf g s
 unfolding oneOf orElse
 one-second g s p e = rw (p, e)
 
@@ -86,40 +144,53 @@ pub one-coupler : (g : Bool) (s : List ℕ) → g ≡ false → lineOf 0 s ≡ o
 unfolding oneOf
 one-coupler g s p = rw p
 
+other-back : (s t : List ℕ) → otherOf s .rest ≡ some t → (s ≡ recordText (otherOf s .value) ++ t) × Fit true (otherOf s .value)
+unfolding otherOf orElse
+other-back s t e = go (lineOf 2 s .rest) refl e
+  where
+    go : (o : Option (List ℕ)) → lineOf 2 s .rest ≡ o → orElse o (lineOf 2 s) (shortOf 3 s) .rest ≡ some t
+        → (s ≡ recordText (orElse o (lineOf 2 s) (shortOf 3 s) .value) ++ t) × Fit true (orElse o (lineOf 2 s) (shortOf 3 s) .value)
+    go none p e = x-back s t e
+    go (some u) p e = let b = line-back 2 (omega arith) s t e in (b .same, inr (inl (b .kind)))
+
 pub one-back : (g : Bool) (s t : List ℕ) → oneOf g s .rest ≡ some t → (s ≡ recordText (oneOf g s .value) ++ t) × Fit g (oneOf g s .value)
 unfolding oneOf orElse
-one-back false s t e = let b = line-back 0 s t e in (b .same, b .kind)
+one-back false s t e = let b = line-back 0 (omega arith) s t e in (b .same, b .kind)
 one-back true s t e = go (lineOf 1 s .rest) refl e
   where
-    go : (o : Option (List ℕ)) → lineOf 1 s .rest ≡ o → orElse o (lineOf 1 s) (lineOf 2 s) .rest ≡ some t
-        → (s ≡ recordText (orElse o (lineOf 1 s) (lineOf 2 s) .value) ++ t) × Fit true (orElse o (lineOf 1 s) (lineOf 2 s) .value)
-    go none p e = let b = line-back 2 s t e in (b .same, inr (b .kind))
-    go (some u) p e = let b = line-back 1 s t e in (b .same, inl (b .kind))
+    go : (o : Option (List ℕ)) → lineOf 1 s .rest ≡ o → orElse o (lineOf 1 s) (otherOf s) .rest ≡ some t
+        → (s ≡ recordText (orElse o (lineOf 1 s) (otherOf s) .value) ++ t) × Fit true (orElse o (lineOf 1 s) (otherOf s) .value)
+    go none p e = other-back s t e
+    go (some u) p e = let b = line-back 1 (omega arith) s t e in (b .same, inl (b .kind))
 
 pub one-short : (g : Bool) (s t : List ℕ) → oneOf g s .rest ≡ some t → length t < length s
 unfolding recordText lineText
 one-short g s t e = omega (arith, simp length-append at (ap length (one-back g s t e .0)))
 
-letter-other : (k x : ℕ) (t : List ℕ) → (letter (kindIn x) ≡ letter k → ⊥) → lineOf k (recordText x ++ t) .rest ≡ none
+-- a line of another letter is not read
+letter-other : (j k x : ℕ) (t : List ℕ) → kindIn x ≡ j → (letter j ≡ letter k → ⊥) → lineOf k (recordText x ++ t) .rest ≡ none
 unfolding lineOf recordText lineText skipped readNumber
-letter-other k x t n = rw (ne-eqb (letter (kindIn x)) (letter k) n)
+letter-other j k x t h n = rw (ne-eqb (letter (kindIn x)) (letter k) (λ e. n (sym (ap letter h) ∙ e)))
 
 pub one-forth : (g : Bool) (x : ℕ) (t : List ℕ) → Fit g x → oneOf g (recordText x ++ t) ≡ record { value = x; rest = some t }
-unfolding oneOf orElse letter
-one-forth false x t h = subst (λ k. lineOf k (recordText x ++ t) ≡ record { value = x; rest = some t }) h (kind-forth x t)
-one-forth true x t (inl h) =
-    let l : lineOf 1 (recordText x ++ t) ≡ record { value = x; rest = some t }
-    = subst (λ k. lineOf k (recordText x ++ t) ≡ record { value = x; rest = some t }) h (kind-forth x t) in
-    rw l
-one-forth true x t (inr h) =
-    let o : lineOf 1 (recordText x ++ t) .rest ≡ none = letter-other 1 x t (λ e. let q : _≡_ {A = ℕ} 114 99 = sym (ap letter h) ∙ e in omega arith) in
-    rw o (subst (λ k. lineOf k (recordText x ++ t) ≡ record { value = x; rest = some t }) h (kind-forth x t))
+unfolding oneOf otherOf orElse letter
+one-forth false x t h = kind-forth 0 x t (omega arith) h
+one-forth true x t (inl h) = let l : lineOf 1 (recordText x ++ t) ≡ record { value = x; rest = some t } = kind-forth 1 x t (omega arith) h in rw l
+one-forth true x t (inr (inl h)) =
+    let o : lineOf 1 (recordText x ++ t) .rest ≡ none = letter-other 2 1 x t h (λ e. let q : _≡_ {A = ℕ} 114 99 = e in omega arith) in
+    let l : lineOf 2 (recordText x ++ t) ≡ record { value = x; rest = some t } = kind-forth 2 x t (omega arith) h in
+    rw (o, l)
+one-forth true x t (inr (inr (h, z))) =
+    let o : lineOf 1 (recordText x ++ t) .rest ≡ none = letter-other 3 1 x t h (λ e. let q : _≡_ {A = ℕ} 110 99 = e in omega arith) in
+    let p : lineOf 2 (recordText x ++ t) .rest ≡ none = letter-other 3 2 x t h (λ e. let q : _≡_ {A = ℕ} 110 114 = e in omega arith) in
+    rw (o, p) (x-forth x t h z)
 
 -- a gate's line is no coupler's
 pub gate-none : (x : ℕ) (t : List ℕ) → Fit true x → oneOf false (recordText x ++ t) .rest ≡ none
 unfolding oneOf letter
-gate-none x t (inl h) = letter-other 0 x t (λ e. let q : _≡_ {A = ℕ} 99 101 = sym (ap letter h) ∙ e in omega arith)
-gate-none x t (inr h) = letter-other 0 x t (λ e. let q : _≡_ {A = ℕ} 114 101 = sym (ap letter h) ∙ e in omega arith)
+gate-none x t (inl h) = letter-other 1 0 x t h (λ e. let q : _≡_ {A = ℕ} 99 101 = e in omega arith)
+gate-none x t (inr (inl h)) = letter-other 2 0 x t h (λ e. let q : _≡_ {A = ℕ} 114 101 = e in omega arith)
+gate-none x t (inr (inr (h, z))) = letter-other 3 0 x t h (λ e. let q : _≡_ {A = ℕ} 110 101 = e in omega arith)
 
 pub one-nil : (g : Bool) → oneOf g [] .rest ≡ none
 one-nil g = go (oneOf g [] .rest) refl
@@ -130,13 +201,9 @@ one-nil g = go (oneOf g [] .rest) refl
 
 -- ---- the first line
 
-pub head-more : (n : ℕ) (t : List ℕ) → lineText 113 (n ∷ []) ++ t ≡ 113 ∷ 9 ∷ (digits n ++ (10 ∷ t))
-unfolding lineText fieldsText
-head-more n t = simp append-assoc
-
 pub head-forth : (n : ℕ) (t : List ℕ) → n ≤ mostFirst → headOf (lineText 113 (n ∷ []) ++ t) ≡ record { value = n; rest = some t }
 unfolding headOf digitOf
-head-forth n t h = rw (head-more n t, skip-forth, skip-forth, number-forth 255 n (10 ∷ t) h refl, skip-forth)
+head-forth n t h = rw (short-more 113 n t, skip-forth, skip-forth, number-forth 255 n (10 ∷ t) h refl, skip-forth)
 
 pub head-back : (s t : List ℕ) → headOf s .rest ≡ some t → (s ≡ lineText 113 (headOf s .value ∷ []) ++ t) × (headOf s .value ≤ mostFirst)
 unfolding headOf
@@ -146,4 +213,4 @@ head-back s t e =
     let b : skipped 9 (skipped 113 (some s)) ≡ some (digits (N .value) ++ (10 ∷ t)) = number-back 255 (skipped 9 (skipped 113 (some s))) (10 ∷ t) a in
     let c : some s ≡ some (113 ∷ 9 ∷ (digits (N .value) ++ (10 ∷ t))) = skip-back 113 (some s) _ (skip-back 9 (skipped 113 (some s)) _ b) in
     let d : s ≡ 113 ∷ 9 ∷ (digits (N .value) ++ (10 ∷ t)) = cc c in
-    (d ∙ sym (head-more (N .value) t), number-le 255 (skipped 9 (skipped 113 (some s))))
+    (d ∙ sym (short-more 113 (N .value) t), number-le 255 (skipped 9 (skipped 113 (some s))))

@@ -1,5 +1,5 @@
 -- How many bytes a number, a line and a text have, at least and at most; and how large the place of a refusal can be. Assumes nothing.
-use mathlib.Core.Path.{_≡_, refl, ap}
+use mathlib.Core.Path.{_≡_, refl, ap, _∙_}
 use mathlib.Core.Bool.{Bool, true, false}
 use mathlib.Core.List.{List, [], _∷_}
 use mathlib.Core.Option.{Option, none, some}
@@ -15,8 +15,9 @@ use Rattle.verdicts.specs.Verdicts.{placeOf}
 use Rattle.verdicts.specs.InOrder.{andThen}
 use Rattle.lines.specs.Lines.{digits, fieldsText, lineText, letter, recordText, recordsText, textOf}
 use Rattle.lines.proofs.Layouts.{a-lt, b-lt}
-use Rattle.lines.proofs.Writes.{width-small, width-big, line-length, text-length}
+use Rattle.lines.proofs.Writes.{width-small, width-big, line-length, record-two, record-one, text-length}
 use Rattle.reading.specs.Limits.{mostBytes, mostFirst}
+use Rattle.reading.specs.Misfit.{Fit, AllFit}
 use Rattle.reading.specs.Parsing.{headOf, Parsed, misfit, job, endOf, bodyOf, parsed}
 use Rattle.reading.specs.Readings.{judgedLines, judgedLists, judgedReading}
 use Rattle.reading.proofs.Runs.{Taken, taken}
@@ -59,29 +60,53 @@ line-two l a b = omega (arith, line-length l (a ∷ b ∷ []), fields-more a (b 
 pub line-three : (l a b c : ℕ) → length (lineText l (a ∷ b ∷ c ∷ [])) ≡ 5 + length (digits a) + length (digits b) + length (digits c)
 line-three l a b c = omega (arith, line-length l (a ∷ b ∷ c ∷ []), fields-more a (b ∷ c ∷ []), fields-more b (c ∷ []), fields-more c [], fields-none)
 
-record-width : (x : ℕ) → length (recordText x) ≡ 4 + length (digits (aIn x)) + length (digits (bIn x))
-unfolding recordText
-record-width x = line-two (letter (kindIn x)) (aIn x) (bIn x)
+-- ---- the line of a record
+
+module _ (x : ℕ) where
+  width-two : kindIn x < 3 → length (recordText x) ≡ 4 + length (digits (aIn x)) + length (digits (bIn x))
+  width-two h = ap length (record-two x h) ∙ line-two (letter (kindIn x)) (aIn x) (bIn x)
+
+  width-one : 3 ≤ kindIn x → length (recordText x) ≡ 3 + length (digits (aIn x))
+  width-one h = ap length (record-one x h) ∙ line-one (letter (kindIn x)) (aIn x)
+
+  -- as in `e 0 1`
+  coupler-least : Fit false x → 6 ≤ length (recordText x)
+  coupler-least h = omega (arith, width-two (omega (arith, h)), width-least (aIn x), width-least (bIn x))
+
+  -- as in `n 0`, and in `r 255 65535`
+  record-sizes : (4 ≤ length (recordText x)) × (length (recordText x) ≤ 12)
+  record-sizes = go (ltb (kindIn x) 3) refl
+    where
+      a : length (digits (aIn x)) ≤ 3
+      a = width-most 2 (aIn x) (omega (arith, a-lt x))
+
+      b : length (digits (bIn x)) ≤ 5
+      b = width-most 4 (bIn x) (omega (arith, b-lt x))
+
+      go : (t : Bool) → ltb (kindIn x) 3 ≡ t → (4 ≤ length (recordText x)) × (length (recordText x) ≤ 12)
+      go true e = let w = width-two (ltb-true (kindIn x) 3 e) in (omega (arith, w, width-least (aIn x)), omega (arith, w, a, b))
+      go false e = let w = width-one (ltb-false (kindIn x) 3 e) in (omega (arith, w, width-least (aIn x)), omega (arith, w, a))
 
 -- ---- a text
 
-records-least : (xs : List ℕ) → 6 * length xs ≤ length (recordsText xs)
+couplers-least : (xs : List ℕ) → AllFit false xs → 6 * length xs ≤ length (recordsText xs)
+unfolding recordsText AllFit
+couplers-least [] h = omega arith
+couplers-least (x ∷ xs) h = omega (arith, length-append (recordText x) (recordsText xs), coupler-least x (h .0), couplers-least xs (h .1))
+
+records-least : (xs : List ℕ) → 4 * length xs ≤ length (recordsText xs)
 unfolding recordsText
 records-least [] = omega arith
-records-least (x ∷ xs) =
-    omega (arith, length-append (recordText x) (recordsText xs), record-width x, width-least (aIn x), width-least (bIn x), records-least xs)
+records-least (x ∷ xs) = omega (arith, length-append (recordText x) (recordsText xs), record-sizes x .0, records-least xs)
 
 records-most : (xs : List ℕ) → length (recordsText xs) ≤ 12 * length xs
 unfolding recordsText
 records-most [] = omega arith
-records-most (x ∷ xs) =
-    let a : aIn x < 1000 = omega (arith, a-lt x) in
-    let b : bIn x < 100000 = omega (arith, b-lt x) in
-    omega (arith, length-append (recordText x) (recordsText xs), record-width x, width-most 2 (aIn x) a, width-most 4 (bIn x) b, records-most xs)
+records-most (x ∷ xs) = omega (arith, length-append (recordText x) (recordsText xs), record-sizes x .1, records-most xs)
 
--- 4 bytes for the `q` line and 6 for each other line, as in `q 1` and `e 0 1`
-pub text-least : (n : ℕ) (es gs : List ℕ) → 4 + 6 * length es + 6 * length gs ≤ length (textOf n es gs)
-text-least n es gs = omega (arith, text-length n es gs, line-one 113 n, width-least n, records-least es, records-least gs)
+-- 4 bytes for the `q` line, 6 for each coupler and 4 for each gate, as in `q 1`, `e 0 1` and `n 0`
+pub text-least : (n : ℕ) (es gs : List ℕ) → AllFit false es → 4 + 6 * length es + 4 * length gs ≤ length (textOf n es gs)
+text-least n es gs h = omega (arith, text-length n es gs, line-one 113 n, width-least n, couplers-least es h, records-least gs)
 
 -- 6 bytes for the `q` line and 12 for each other line, as in `q 255` and `r 255 65535`
 pub text-most : (n : ℕ) (es gs : List ℕ) → n ≤ mostFirst → length (textOf n es gs) ≤ 6 + 12 * length es + 12 * length gs
@@ -100,7 +125,7 @@ misfit-most s k e = go (headOf s .rest) refl e
     end n es gs [] t e = let z : _≡_ {A = ℕ} 0 1 = cc e in absurd (omega arith)
     end n es gs (x ∷ l) t e =
         let z : 2 + length es + length gs ≡ k = cc e in
-        omega (arith, ap length (t .same), length-append (textOf n es gs) (x ∷ l), text-least n es gs)
+        omega (arith, ap length (t .same), length-append (textOf n es gs) (x ∷ l), text-least n es gs (t .couplers))
 
     go : (o : Option (List ℕ)) → headOf s .rest ≡ o → bodyOf (headOf s .value) o ≡ misfit k → k ≤ length s + 1
     go none d e = let z : 1 ≡ k = cc e in omega arith

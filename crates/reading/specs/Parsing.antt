@@ -46,21 +46,31 @@ unfoldable pub readNumber : ℕ → Option (List ℕ) → Got
 readNumber most none = lost
 readNumber most (some s) = numberIn most (digitOf (getD s 0 0)) s
 
--- the line of a record of the kind
+-- the line of a record of a kind whose line has two numbers
 unfoldable pub lineOf : ℕ → List ℕ → Got
 lineOf kind s =
     let a = readNumber mostFirst (skipped 9 (skipped (letter kind) (some s))) in
     let b = readNumber mostSecond (skipped 9 (a .rest)) in
     record { value = packed kind (a .value) (b .value); rest = skipped 10 (b .rest) }
 
+-- .. and of one whose line has one: "text line `n` and a qubit"
+unfoldable pub shortOf : ℕ → List ℕ → Got
+shortOf kind s =
+    let a = readNumber mostFirst (skipped 9 (skipped (letter kind) (some s))) in
+    record { value = packed kind (a .value) 0; rest = skipped 10 (a .rest) }
+
 -- g where it was read, else h
 unfoldable pub orElse : Option (List ℕ) → Got → Got → Got
 orElse none g h = h
 orElse (some t) g h = g
 
+-- the line of a rotation, or of an X
+unfoldable pub otherOf : List ℕ → Got
+otherOf s = orElse (lineOf 2 s .rest) (lineOf 2 s) (shortOf 3 s)
+
 -- a gate's line, or a coupler's
 unfoldable pub oneOf : Bool → List ℕ → Got
-oneOf true s = orElse (lineOf 1 s .rest) (lineOf 1 s) (lineOf 2 s)
+oneOf true s = orElse (lineOf 1 s .rest) (lineOf 1 s) (otherOf s)
 oneOf false s = lineOf 0 s
 
 -- the longest run of such lines, at most f, and what is left behind it

@@ -6,14 +6,14 @@ use lines::letter;
 ghost use mathlib.Core.Path.{_≡_};
 ghost use Prim.Native.Nat.{_≤_};
 ghost use lib.ListN.{drop};
-ghost use Rattle.reading.specs.Parsing.{lineOf, oneOf, headOf};
+ghost use Rattle.reading.specs.Parsing.{lineOf, shortOf, otherOf, oneOf, headOf};
 ghost use Rattle.reading.specs.Places.{gotOf};
 
 pub(crate) const MOST_FIRST: u32 = 255;
 
 pub(crate) const MOST_SECOND: u32 = 65535;
 
-// The line of a record of the kind.
+// The line of a record of a kind whose line has two numbers.
 fn line(text: &[u8], at: usize, kind: u32) -> Part
     requires { ⌜ kind ≤ 2 ⌝ }
     ensures { λ r. ⌜ gotOf (now (text .entry)) r ≡ lineOf kind (drop at (now (text .entry))) ⌝ }
@@ -33,6 +33,35 @@ fn line(text: &[u8], at: usize, kind: u32) -> Part
     }
 }
 
+// The line of a record of a kind whose line has one number.
+fn short(text: &[u8], at: usize, kind: u32) -> Part
+    requires { ⌜ kind ≤ 3 ⌝ }
+    ensures { λ r. ⌜ gotOf (now (text .entry)) r ≡ shortOf kind (drop at (now (text .entry))) ⌝ }
+{
+    let letter = letter::letter_of(kind);
+    let p0 = spot::skip(text, Spot::At(at), letter);
+    let p1 = spot::skip(text, p0, b'\t');
+    let a = spot::number(text, p1, MOST_FIRST);
+    let a_next = a.next;
+    let end = spot::skip(text, a_next, b'\n');
+    Part {
+        value: kind * 16777216 + a.value * 65536,
+        next: end,
+    }
+}
+
+// The line of a rotation, or of an X.
+fn other(text: &[u8], at: usize) -> Part
+    ensures { λ r. ⌜ gotOf (now (text .entry)) r ≡ otherOf (drop at (now (text .entry))) ⌝ }
+{
+    let r = line(text, at, 2);
+    let next = r.next;
+    match next {
+        Spot::Lost => short(text, at, 3),
+        Spot::At(_) => r,
+    }
+}
+
 // A gate's line, or a coupler's.
 pub(crate) fn one(text: &[u8], at: usize, gates: bool) -> Part
     ensures { λ r. ⌜ gotOf (now (text .entry)) r ≡ oneOf gates (drop at (now (text .entry))) ⌝ }
@@ -41,7 +70,7 @@ pub(crate) fn one(text: &[u8], at: usize, gates: bool) -> Part
         let c = line(text, at, 1);
         let next = c.next;
         match next {
-            Spot::Lost => line(text, at, 2),
+            Spot::Lost => other(text, at),
             Spot::At(_) => c,
         }
     } else {

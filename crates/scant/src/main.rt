@@ -1,5 +1,6 @@
 // Too little lent: for each text of the bundle on standard input, what reading, laying and writing answer, an `x` line each. An acceptance is number 0 at place 0.
-use console::LINES;
+use console::COUPLER_LINES;
+use console::GATE_LINES;
 use laying::lay;
 use laying::lay::Answer;
 use libc::STDIN_FILENO;
@@ -23,8 +24,8 @@ const COUPLERS: usize = 3;
 // Lent to reading for the gates.
 const GATES: usize = 4;
 
-// Lent to laying: B for n = 3, t = 0. For n = 2, t = 3 it is one record too few.
-const RECORDS: usize = 12;
+// Lent to laying: B for n = 4, t = 3. For n = 3, t = 7 it is one record too few.
+const RECORDS: usize = 49;
 
 // Lent to writing, in bytes.
 const ROOM: usize = 29;
@@ -55,6 +56,7 @@ fn lay_scant(n: usize, couplers: &[u32], gates: &[u32]) {
             cnots: _,
             rotations: _,
             depth: _,
+            phase: _,
         } => say(Verdict::Accepted),
         Answer::Refused { verdict } => say(verdict),
     }
@@ -76,8 +78,8 @@ fn lay_and_write(n: usize, couplers: &[u32], gates: &[u32]) {
 // Laying and writing get the lists as the text has them, good or bad: for that reading is lent enough.
 fn turn(text: &[u8]) {
     read_scant(text);
-    let mut couplers = [0u32; LINES];
-    let mut gates = [0u32; LINES];
+    let mut couplers = [0u32; COUPLER_LINES];
+    let mut gates = [0u32; GATE_LINES];
     match read::read(text, &mut couplers, &mut gates) {
         Reading::Read { job } => {
             let c = job.couplers;

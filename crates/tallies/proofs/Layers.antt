@@ -7,7 +7,7 @@ use native.Mathlib.Numerals.{add-one}
 use lib.ListN.{length, getD, set, drop, replicate, drop-of-length-le}
 use lib.Seq.{drop-cons}
 use Rattle.gates.specs.declared.gate.Gate.{Gate}
-use Rattle.gates.specs.declared.gate.Gate.the-variants.{Cnot, Rotation, Bad}
+use Rattle.gates.specs.declared.gate.Gate.the-variants.{Cnot, Rotation, X, Bad}
 use Rattle.gates.specs.Layout.{gateOf, gatesOf}
 use Rattle.tallies.specs.Tally.{raised, layered, layersFrom, highest}
 
@@ -36,6 +36,7 @@ pub highest-layered : (g : Gate) (L : List ℕ) → highest (layered g L) ≤ su
 unfolding layered
 highest-layered (Cnot c t) L = highest-raised c t L
 highest-layered (Rotation q a) L = highest-raised q q L
+highest-layered (X q) L = omega arith
 highest-layered Bad L = omega arith
 
 pub highest-none : (n : ℕ) → highest (replicate n 0) ≡ 0

@@ -9,7 +9,7 @@ use lib.ListN.{length, getD, drop, length-map, drop-of-length-le}
 use lib.Seq.{drop-cons}
 use Rattle.gates.specs.Limits.{mostQubits, mostParities}
 use Rattle.gates.specs.declared.gate.Gate.{Gate}
-use Rattle.gates.specs.declared.gate.Gate.the-variants.{Cnot, Rotation, Bad}
+use Rattle.gates.specs.declared.gate.Gate.the-variants.{Cnot, Rotation, X, Bad}
 use Rattle.gates.specs.Layout.{gateOf, gatesOf}
 use Rattle.tallies.specs.Tally.{tally, oneCnot, oneRotation, cnotsOf, rotationsOf, boundOf, largest}
 
@@ -60,11 +60,13 @@ tally-bounded f one (g ∷ gs) = omega (arith, one g, tally-bounded f one gs)
 pub one-cnot : (g : Gate) → oneCnot g ≤ 1
 one-cnot (Cnot c t) = omega arith
 one-cnot (Rotation q a) = omega arith
+one-cnot (X q) = omega arith
 one-cnot Bad = omega arith
 
 pub one-rotation : (g : Gate) → oneRotation g ≤ 1
 one-rotation (Cnot c t) = omega arith
 one-rotation (Rotation q a) = omega arith
+one-rotation (X q) = omega arith
 one-rotation Bad = omega arith
 
 -- ---- as a loop counts: what is counted, and what is left

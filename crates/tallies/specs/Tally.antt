@@ -4,7 +4,7 @@ use Prim.Native.Nat.{ℕ, suc, _+_, _-_, _*_, max}
 use lib.ListN.{getD, set, replicate}
 use Rattle.gates.specs.Limits.{mostQubits, mostParities}
 use Rattle.gates.specs.declared.gate.Gate.{Gate}
-use Rattle.gates.specs.declared.gate.Gate.the-variants.{Cnot, Rotation, Bad}
+use Rattle.gates.specs.declared.gate.Gate.the-variants.{Cnot, Rotation, X, Bad}
 
 -- the sum of a weight over the gates
 unfoldable pub tally : (Gate → ℕ) → List Gate → ℕ
@@ -14,12 +14,20 @@ tally f (g ∷ gs) = f g + tally f gs
 abbrev pub oneCnot : Gate → ℕ
 oneCnot (Cnot c t) = 1
 oneCnot (Rotation q a) = 0
+oneCnot (X q) = 0
 oneCnot Bad = 0
 
 abbrev pub oneRotation : Gate → ℕ
 oneRotation (Cnot c t) = 0
 oneRotation (Rotation q a) = 1
+oneRotation (X q) = 0
 oneRotation Bad = 0
+
+abbrev pub oneX : Gate → ℕ
+oneX (Cnot c t) = 0
+oneX (Rotation q a) = 0
+oneX (X q) = 1
+oneX Bad = 0
 
 unfoldable pub cnotsOf : List Gate → ℕ
 cnotsOf gs = tally oneCnot gs
@@ -27,14 +35,18 @@ cnotsOf gs = tally oneCnot gs
 unfoldable pub rotationsOf : List Gate → ℕ
 rotationsOf gs = tally oneRotation gs
 
+unfoldable pub xsOf : List Gate → ℕ
+xsOf gs = tally oneX gs
+
 -- L is the layer of the last gate on each wire, 0 where it has none. A gate on the wires c and t goes one layer later than both
 unfoldable pub raised : ℕ → ℕ → List ℕ → List ℕ
 raised c t L = set (set L c (suc (max (getD L c 0) (getD L t 0)))) t (suc (max (getD L c 0) (getD L t 0)))
 
--- "put each gate, in order, in the earliest layer later than every earlier gate that shares a qubit with it"
+-- "put each gate, in order, in the earliest layer later than every earlier gate that shares a qubit with it"; "the depth passes [an X] over"
 unfoldable pub layered : Gate → List ℕ → List ℕ
 layered (Cnot c t) L = raised c t L
 layered (Rotation q a) L = raised q q L
+layered (X q) L = L
 layered Bad L = L
 
 unfoldable pub layersFrom : List Gate → List ℕ → List ℕ
@@ -49,10 +61,10 @@ highest (x ∷ xs) = max x (highest xs)
 unfoldable pub depthOf : List Gate → ℕ
 depthOf gs = highest (layersFrom gs (replicate mostQubits 0))
 
--- "With t terms, laying needs B = 2(n-1)t + t + 2n(n-1) output records"
+-- "With t terms, laying needs B = 2(n-1)t + t + 2n(n-1) output records", and for X gates "B grows by n"
 unfoldable pub boundOf : ℕ → ℕ → ℕ
-boundOf n t = 2 * (n - 1) * t + t + 2 * n * (n - 1)
+boundOf n t = 2 * (n - 1) * t + t + 2 * n * (n - 1) + n
 
--- "For n = 20, t = 256, B is 10,744": the largest B of a job
+-- "For n = 20, t = 256, B is" 10,764: the largest B of a job
 abbrev pub largest : ℕ
 largest = boundOf mostQubits mostParities

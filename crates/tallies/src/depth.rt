@@ -57,6 +57,7 @@ impl Layers {
             Gate::Rotation { qubit, angle: _ } => Layers {
                 last: raise(last, qubit, qubit),
             },
+            Gate::X { qubit: _ } => self,
             Gate::Bad => self,
         }
     }

@@ -15,6 +15,7 @@ fn one_cnot(g: Gate) -> usize
             target: _,
         } => 1,
         Gate::Rotation { qubit: _, angle: _ } => 0,
+        Gate::X { qubit: _ } => 0,
         Gate::Bad => 0,
     }
 }
@@ -28,6 +29,7 @@ fn one_rotation(g: Gate) -> usize
             target: _,
         } => 0,
         Gate::Rotation { qubit: _, angle: _ } => 1,
+        Gate::X { qubit: _ } => 0,
         Gate::Bad => 0,
     }
 }
@@ -55,7 +57,8 @@ pub fn rotations(records: &[u32], n: usize) -> usize
 // The largest B of a job.
 pub const LARGEST: usize = 2 * (Job::QUBITS - 1) * Job::PARITIES
     + Job::PARITIES
-    + 2 * Job::QUBITS * (Job::QUBITS - 1);
+    + 2 * Job::QUBITS * (Job::QUBITS - 1)
+    + Job::QUBITS;
 
 // How many output records the laying of t terms on n qubits may need.
 pub fn bound(n: u8, t: u16) -> usize
@@ -66,5 +69,5 @@ pub fn bound(n: u8, t: u16) -> usize
     if n == 0 {
         return t;
     }
-    2 * (n - 1) * t + t + 2 * n * (n - 1)
+    2 * (n - 1) * t + t + 2 * n * (n - 1) + n
 }

@@ -1,6 +1,6 @@
 -- What the writer accepts fits a text: laws of the tests of a job. Assumes nothing.
 use mathlib.Core.Path.{_≡_, refl}
-use mathlib.Core.Logic.{_⊎_, inl, inr}
+use mathlib.Core.Logic.{inl, inr}
 use mathlib.Core.Bool.{Bool, true, false}
 use mathlib.Core.List.{List, [], _∷_}
 use Prim.Native.Nat.{ℕ, suc, _≤_, _<_}
@@ -11,8 +11,8 @@ use borrow.Author.Tests.{ltb-false, leb-true, eqb-true}
 use Rattle.sets.specs.Pick.{pick, both}
 use Rattle.sets.proofs.Finding.{first-before}
 use Rattle.gates.specs.Limits.{mostQubits, mostCouplers}
-use Rattle.gates.specs.Layout.{kindIn, aIn, bIn, gateOf, isBad, cnotOf, rotationOf, couplerOf, isWrong}
-use Rattle.gates.specs.declared.gate.Gate.the-variants.{Bad}
+use Rattle.gates.specs.Layout.{kindIn, aIn, bIn, gateOf, isBad, cnotOf, rotationOf, xOf, couplerOf, isWrong}
+use Rattle.gates.specs.declared.gate.Gate.the-variants.{X, Bad}
 use Rattle.gates.specs.declared.coupler.Coupler.{Coupler}
 use Rattle.gates.specs.declared.coupler.Coupler.the-variants.{Wrong}
 use Rattle.verdicts.specs.Verdicts.{numberOf, firstFailing, judgedQubits, wrongAt, judgedCouplers, badAt, judgedGates}
@@ -46,15 +46,26 @@ coupler-kind n x e = go (eqb (kindIn x) 0) _ refl e
     go true c q e = eqb-true (kindIn x) 0 q
     go false c q e = two e
 
-gate-kind : (n x : ℕ) → isBad (gateOf n x) ≡ false → (kindIn x ≡ 1) ⊎ (kindIn x ≡ 2)
-unfolding gateOf
-gate-kind n x e = go (eqb (kindIn x) 1) (eqb (kindIn x) 2) refl refl e
+-- "5 covers an X with a bad qubit or b not 0": its line says all of it
+x-kind : (n a b : ℕ) → isBad (xOf n a b) ≡ false → b ≡ 0
+unfolding xOf
+x-kind n a b e = go (ltb a n) (eqb b 0) refl e
   where
-    go : (t u : Bool) → eqb (kindIn x) 1 ≡ t → eqb (kindIn x) 2 ≡ u
-        → isBad (pick t (cnotOf n (aIn x) (bIn x)) (pick u (rotationOf n (aIn x) (bIn x)) Bad)) ≡ false → (kindIn x ≡ 1) ⊎ (kindIn x ≡ 2)
-    go true u p q e = inl (eqb-true (kindIn x) 1 p)
-    go false true p q e = inr (eqb-true (kindIn x) 2 q)
-    go false false p q e = two e
+    go : (t u : Bool) → eqb b 0 ≡ u → isBad (pick t (pick u (X a) Bad) Bad) ≡ false → b ≡ 0
+    go true true p e = eqb-true b 0 p
+    go true false p e = two e
+    go false u p e = two e
+
+gate-kind : (n x : ℕ) → isBad (gateOf n x) ≡ false → Fit true x
+unfolding gateOf
+gate-kind n x e = go (eqb (kindIn x) 1) (eqb (kindIn x) 2) (eqb (kindIn x) 3) refl refl refl e
+  where
+    go : (t u v : Bool) → eqb (kindIn x) 1 ≡ t → eqb (kindIn x) 2 ≡ u → eqb (kindIn x) 3 ≡ v
+        → isBad (pick t (cnotOf n (aIn x) (bIn x)) (pick u (rotationOf n (aIn x) (bIn x)) (pick v (xOf n (aIn x) (bIn x)) Bad))) ≡ false → Fit true x
+    go true u v p q r e = inl (eqb-true (kindIn x) 1 p)
+    go false true v p q r e = inr (inl (eqb-true (kindIn x) 2 q))
+    go false false true p q r e = inr (inr (eqb-true (kindIn x) 3 r, x-kind n (aIn x) (bIn x) e))
+    go false false false p q r e = two e
 
 pub couplers-fit : (n : ℕ) (xs : List ℕ) → numberOf (judgedCouplers n xs) ≡ 0 → AllFit false xs
 unfolding judgedCouplers wrongAt firstFailing

@@ -23,8 +23,9 @@ fn put_record(text: &mut [u8], at: usize, x: u32) -> usize
     ensures { λ r. ⌜ (r ≡ lineEnd (recordText x) at (length (now (text .entry)))) × (now (text .exit) ≡ lineAt (recordText x) at (now (text .entry))) ⌝ }
 {
     let letter = letter::letter_of(x / 16777216);
+    let count = letter::fields_of(x / 16777216);
     let numbers = [(x / 65536 % 256) as usize, (x % 65536) as usize];
-    put::put_line(text, at, letter, &numbers)
+    put::put_line(text, at, letter, &numbers[..count])
 }
 
 fn put_records(text: &mut [u8], from: usize, records: &[u32]) -> usize

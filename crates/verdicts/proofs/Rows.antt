@@ -12,8 +12,9 @@ use Rattle.sets.specs.Pick.{pick, both}
 use Rattle.sets.proofs.Finding.{first-true, first-before}
 use Rattle.sets.proofs.Deciding.{never}
 use Rattle.gates.specs.Limits.{mostQubits, mostCouplers}
-use Rattle.gates.specs.Layout.{kindIn, aIn, bIn, gateOf, cnotOf, rotationOf, isBad, couplerOf, isWrong}
-use Rattle.gates.specs.declared.gate.Gate.the-variants.{Cnot, Rotation, Bad}
+use Rattle.gates.specs.Layout.{kindIn, aIn, bIn, gateOf, cnotOf, rotationOf, xOf, isBad, couplerOf, isWrong}
+use Rattle.gates.specs.declared.gate.Gate.{Gate}
+use Rattle.gates.specs.declared.gate.Gate.the-variants.{Cnot, Rotation, X, Bad}
 use Rattle.gates.specs.declared.coupler.Coupler.the-variants.{Ends, Wrong}
 use Rattle.verdicts.specs.declared.verdict.Verdict.{Verdict}
 use Rattle.verdicts.specs.declared.verdict.Verdict.the-variants.{Accepted, Qubits, ManyCouplers, WrongCoupler, BadGate}
@@ -195,38 +196,54 @@ module _ (n x : ℕ) where
       go true true true false p q r t e (inr (inr (inl w))) = omega (arith, w, ltb-true (bIn x) n r)
       go true true true false p q r t e (inr (inr (inr w))) = eqb-false (aIn x) (bIn x) t w
 
+  -- the gate of the record, by what its tests say
+  abbrev decided : Bool → Bool → Bool → Bool → Bool → Bool → Bool → Gate
+  decided k l m a b s z =
+      pick k (pick a (pick b (pick s Bad (Cnot (aIn x) (bIn x))) Bad) Bad) (pick l (pick a (Rotation (aIn x) (bIn x)) Bad) (pick m (pick a (pick z (X (aIn x)) Bad) Bad) Bad))
+
   bad-said : isBad (gateOf n x) ≡ true → BadRecord n x
-  unfolding gateOf cnotOf rotationOf
-  bad-said = go (eqb (kindIn x) 1) (eqb (kindIn x) 2) (ltb (aIn x) n) (ltb (bIn x) n) (eqb (aIn x) (bIn x)) refl refl refl refl refl
+  unfolding gateOf cnotOf rotationOf xOf
+  bad-said = go (eqb (kindIn x) 1) (eqb (kindIn x) 2) (eqb (kindIn x) 3) (ltb (aIn x) n) (ltb (bIn x) n) (eqb (aIn x) (bIn x)) (eqb (bIn x) 0) refl refl refl refl refl refl refl
     where
-      go : (k l a b s : Bool) → eqb (kindIn x) 1 ≡ k → eqb (kindIn x) 2 ≡ l → ltb (aIn x) n ≡ a → ltb (bIn x) n ≡ b → eqb (aIn x) (bIn x) ≡ s
-          → isBad (pick k (pick a (pick b (pick s Bad (Cnot (aIn x) (bIn x))) Bad) Bad) (pick l (pick a (Rotation (aIn x) (bIn x)) Bad) Bad)) ≡ true → BadRecord n x
-      go false false a b s p l q r t e = inl (eqb-false (kindIn x) 1 p, eqb-false (kindIn x) 2 l)
-      go false true false b s p l q r t e = inr (inl (ltb-false (aIn x) n q))
-      go false true true b s p l q r t e = absurd (never e refl)
-      go true l false b s p m q r t e = inr (inl (ltb-false (aIn x) n q))
-      go true l true false s p m q r t e = inr (inr (eqb-true (kindIn x) 1 p, inl (ltb-false (bIn x) n r)))
-      go true l true true true p m q r t e = inr (inr (eqb-true (kindIn x) 1 p, inr (eqb-true (aIn x) (bIn x) t)))
-      go true l true true false p m q r t e = absurd (never e refl)
+      go : (k l m a b s z : Bool) → eqb (kindIn x) 1 ≡ k → eqb (kindIn x) 2 ≡ l → eqb (kindIn x) 3 ≡ m → ltb (aIn x) n ≡ a → ltb (bIn x) n ≡ b → eqb (aIn x) (bIn x) ≡ s → eqb (bIn x) 0 ≡ z
+          → isBad (decided k l m a b s z) ≡ true → BadRecord n x
+      go false false false a b s z k l m q r t o e = inl (eqb-false (kindIn x) 1 k, eqb-false (kindIn x) 2 l, eqb-false (kindIn x) 3 m)
+      go false false true false b s z k l m q r t o e = inr (inl (ltb-false (aIn x) n q))
+      go false false true true b s false k l m q r t o e = inr (inr (inr (eqb-true (kindIn x) 3 m, eqb-false (bIn x) 0 o)))
+      go false false true true b s true k l m q r t o e = absurd (never e refl)
+      go false true m′ false b s z k l m q r t o e = inr (inl (ltb-false (aIn x) n q))
+      go false true m′ true b s z k l m q r t o e = absurd (never e refl)
+      go true l′ m′ false b s z k l m q r t o e = inr (inl (ltb-false (aIn x) n q))
+      go true l′ m′ true false s z k l m q r t o e = inr (inr (inl (eqb-true (kindIn x) 1 k, inl (ltb-false (bIn x) n r))))
+      go true l′ m′ true true true z k l m q r t o e = inr (inr (inl (eqb-true (kindIn x) 1 k, inr (eqb-true (aIn x) (bIn x) t))))
+      go true l′ m′ true true false z k l m q r t o e = absurd (never e refl)
 
   good-said : isBad (gateOf n x) ≡ false → BadRecord n x → ⊥
-  unfolding gateOf cnotOf rotationOf
-  good-said = go (eqb (kindIn x) 1) (eqb (kindIn x) 2) (ltb (aIn x) n) (ltb (bIn x) n) (eqb (aIn x) (bIn x)) refl refl refl refl refl
+  unfolding gateOf cnotOf rotationOf xOf
+  good-said = go (eqb (kindIn x) 1) (eqb (kindIn x) 2) (eqb (kindIn x) 3) (ltb (aIn x) n) (ltb (bIn x) n) (eqb (aIn x) (bIn x)) (eqb (bIn x) 0) refl refl refl refl refl refl refl
     where
-      go : (k l a b s : Bool) → eqb (kindIn x) 1 ≡ k → eqb (kindIn x) 2 ≡ l → ltb (aIn x) n ≡ a → ltb (bIn x) n ≡ b → eqb (aIn x) (bIn x) ≡ s
-          → isBad (pick k (pick a (pick b (pick s Bad (Cnot (aIn x) (bIn x))) Bad) Bad) (pick l (pick a (Rotation (aIn x) (bIn x)) Bad) Bad)) ≡ false → BadRecord n x → ⊥
-      go false false a b s p l q r t e w = never refl e
-      go false true false b s p l q r t e w = never refl e
-      go false true true b s p l q r t e (inl w) = w .1 (eqb-true (kindIn x) 2 l)
-      go false true true b s p l q r t e (inr (inl w)) = omega (arith, w, ltb-true (aIn x) n q)
-      go false true true b s p l q r t e (inr (inr w)) = eqb-false (kindIn x) 1 p (w .0)
-      go true l false b s p m q r t e w = never refl e
-      go true l true false s p m q r t e w = never refl e
-      go true l true true true p m q r t e w = never refl e
-      go true l true true false p m q r t e (inl w) = w .0 (eqb-true (kindIn x) 1 p)
-      go true l true true false p m q r t e (inr (inl w)) = omega (arith, w, ltb-true (aIn x) n q)
-      go true l true true false p m q r t e (inr (inr (o, inl w))) = omega (arith, w, ltb-true (bIn x) n r)
-      go true l true true false p m q r t e (inr (inr (o, inr w))) = eqb-false (aIn x) (bIn x) t w
+      go : (k l m a b s z : Bool) → eqb (kindIn x) 1 ≡ k → eqb (kindIn x) 2 ≡ l → eqb (kindIn x) 3 ≡ m → ltb (aIn x) n ≡ a → ltb (bIn x) n ≡ b → eqb (aIn x) (bIn x) ≡ s → eqb (bIn x) 0 ≡ z
+          → isBad (decided k l m a b s z) ≡ false → BadRecord n x → ⊥
+      go false false false a b s z k l m q r t o e w = never refl e
+      go false false true false b s z k l m q r t o e w = never refl e
+      go false false true true b s false k l m q r t o e w = never refl e
+      go false false true true b s true k l m q r t o e (inl w) = w .2 (eqb-true (kindIn x) 3 m)
+      go false false true true b s true k l m q r t o e (inr (inl w)) = omega (arith, w, ltb-true (aIn x) n q)
+      go false false true true b s true k l m q r t o e (inr (inr (inl w))) = eqb-false (kindIn x) 1 k (w .0)
+      go false false true true b s true k l m q r t o e (inr (inr (inr w))) = w .1 (eqb-true (bIn x) 0 o)
+      go false true m′ false b s z k l m q r t o e w = never refl e
+      go false true m′ true b s z k l m q r t o e (inl w) = w .1 (eqb-true (kindIn x) 2 l)
+      go false true m′ true b s z k l m q r t o e (inr (inl w)) = omega (arith, w, ltb-true (aIn x) n q)
+      go false true m′ true b s z k l m q r t o e (inr (inr (inl w))) = eqb-false (kindIn x) 1 k (w .0)
+      go false true m′ true b s z k l m q r t o e (inr (inr (inr w))) = omega (arith, w .0, eqb-true (kindIn x) 2 l)
+      go true l′ m′ false b s z k l m q r t o e w = never refl e
+      go true l′ m′ true false s z k l m q r t o e w = never refl e
+      go true l′ m′ true true true z k l m q r t o e w = never refl e
+      go true l′ m′ true true false z k l m q r t o e (inl w) = w .0 (eqb-true (kindIn x) 1 k)
+      go true l′ m′ true true false z k l m q r t o e (inr (inl w)) = omega (arith, w, ltb-true (aIn x) n q)
+      go true l′ m′ true true false z k l m q r t o e (inr (inr (inl (c, inl w)))) = omega (arith, w, ltb-true (bIn x) n r)
+      go true l′ m′ true true false z k l m q r t o e (inr (inr (inl (c, inr w)))) = eqb-false (aIn x) (bIn x) t w
+      go true l′ m′ true true false z k l m q r t o e (inr (inr (inr w))) = omega (arith, w .0, eqb-true (kindIn x) 1 k)
 
 -- 2 and 3 apart
 

@@ -48,9 +48,11 @@ WrongRecord n x = (kindIn x ≢ 0) ⊎ ((n ≤ aIn x) ⊎ ((n ≤ bIn x) ⊎ (aI
 abbrev pub Passes3 : ℕ → List ℕ → Type 0
 Passes3 n couplers = None (WrongRecord n) couplers
 
--- 5: "a gate not of kind 1 or 2, a qubit n or more, or control = target"
+-- 5: "a gate not of kind 1 or 2", nor of kind 3, "a qubit n or more, or control = target"; "5 covers an X with a bad qubit or b not 0"
 abbrev pub BadRecord : ℕ → ℕ → Type 0
-BadRecord n x = ((kindIn x ≢ 1) × (kindIn x ≢ 2)) ⊎ ((n ≤ aIn x) ⊎ ((kindIn x ≡ 1) × ((n ≤ bIn x) ⊎ (aIn x ≡ bIn x))))
+BadRecord n x =
+    ((kindIn x ≢ 1) × (kindIn x ≢ 2) × (kindIn x ≢ 3))
+    ⊎ ((n ≤ aIn x) ⊎ (((kindIn x ≡ 1) × ((n ≤ bIn x) ⊎ (aIn x ≡ bIn x))) ⊎ ((kindIn x ≡ 3) × (bIn x ≢ 0))))
 
 abbrev pub Passes5 : ℕ → List ℕ → Type 0
 Passes5 n gates = None (BadRecord n) gates

@@ -58,7 +58,7 @@ unfoldable pub judgedCouplers : ℕ → List ℕ → Verdict
 judgedCouplers n xs =
     pick (ltb mostCouplers (length xs)) ManyCouplers (pick (ltb (wrongAt n xs) (length xs)) (WrongCoupler (wrongAt n xs)) Accepted)
 
--- 5: "a gate not of kind 1 or 2, a qubit n or more, or control = target", "first such"
+-- 5: "a gate not of kind 1 or 2" or 3, "a qubit n or more, or control = target", an X's "b not 0"; "first such"
 unfoldable pub badAt : ℕ → List ℕ → ℕ
 badAt n xs = firstFailing (λ x. isBad (gateOf n x)) xs
 

@@ -29,7 +29,7 @@ print-refusal-requires c κs = search needs
 
 returns : tie.Need-returns
 unfolding boundOf
-returns c = prints-same (counted-job _ _ _ _ _ (length-replicate {A = ℕ} largest 0) (c .before .before .before .before .before .before .lay .ensures .0) _ _ _ _ (c .before .before .before .cnots .given .1)) (line-whole (c .before .before .before .before .before .before .before .before .before .before .args .out .now) _ _ (c .before .counts-arg .given .0 .1) _ (counted-fits _ _ _ _ _ (length-replicate {A = ℕ} largest 0) (c .before .before .before .before .before .before .lay .ensures .0) _ _ _ _ (c .before .before .before .cnots .given .1)) (c .counts .ensures))
+returns c = prints-same (counted-job _ _ _ _ _ (length-replicate {A = ℕ} largest 0) (c .before .before .before .before .before .before .lay .ensures .0) _ _ _ _ _ (c .before .before .before .cnots .given .1)) (line-whole (c .before .before .before .before .before .before .before .before .before .before .args .out .now) _ _ (c .before .counts-arg .given .0 .1) _ (counted-fits _ _ _ _ _ (length-replicate {A = ℕ} largest 0) (c .before .before .before .before .before .before .lay .ensures .0) _ _ _ _ _ (c .before .before .before .cnots .given .1)) (c .counts .ensures))
 
 returns-2 : tie.Need-returns-2
 unfolding boundOf

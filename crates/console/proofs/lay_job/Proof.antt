@@ -19,15 +19,15 @@ enum-known-records c = search needs
 
 array-share-prefix-laid : tie.Need-array-share-prefix-laid
 unfolding boundOf
-array-share-prefix-laid c = laid-fits _ _ _ _ _ _ _ _ _ _ (length-replicate {A = ℕ} largest 0) (c .before .before .before .before .lay .ensures .0) (c .before .records .given .1) (c .before .before .before .before .lay .ensures .1)
+array-share-prefix-laid c = laid-fits _ _ _ _ _ _ _ _ _ _ _ (length-replicate {A = ℕ} largest 0) (c .before .before .before .before .lay .ensures .0) (c .before .records .given .1) (c .before .before .before .before .lay .ensures .1)
 
 slice-aggregate-print-job : tie.Need-slice-aggregate-print-job
 unfolding boundOf
-slice-aggregate-print-job c = laid-long _ _ _ _ _ _ _ _ _ _ (length-replicate {A = ℕ} largest 0) (c .before .before .before .before .before .lay .ensures .0) (c .before .before .records .given .1) (c .before .before .before .before .before .lay .ensures .1)
+slice-aggregate-print-job c = laid-long _ _ _ _ _ _ _ _ _ _ _ (length-replicate {A = ℕ} largest 0) (c .before .before .before .before .before .lay .ensures .0) (c .before .before .records .given .1) (c .before .before .before .before .before .lay .ensures .1)
 
 print-job-requires : tie.Need-print-job-requires
 unfolding boundOf
-print-job-requires c κs = laid-accepted _ _ _ _ _ _ _ _ _ _ (length-replicate {A = ℕ} largest 0) (c .before .before .before .before .before .before .lay .ensures .0) (c .before .before .before .records .given .1) (c .before .before .before .before .before .before .lay .ensures .1)
+print-job-requires c κs = laid-accepted _ _ _ _ _ _ _ _ _ _ _ (length-replicate {A = ℕ} largest 0) (c .before .before .before .before .before .before .lay .ensures .0) (c .before .before .before .records .given .1) (c .before .before .before .before .before .before .lay .ensures .1)
 
 enum-known-verdict : tie.Need-enum-known-verdict
 enum-known-verdict c = search needs
@@ -37,7 +37,7 @@ print-refusal-requires c κs = search needs
 
 returns : tie.Need-returns
 unfolding boundOf
-returns c = prints-same (laid-job _ _ _ _ _ _ _ _ _ _ (length-replicate {A = ℕ} largest 0) (c .before .before .before .before .before .before .before .lay .ensures .0) (c .before .before .before .before .records .given .1) (c .before .before .before .before .before .before .before .lay .ensures .1)) (c .print-job .ensures)
+returns c = prints-same (laid-job _ _ _ _ _ _ _ _ _ _ _ (length-replicate {A = ℕ} largest 0) (c .before .before .before .before .before .before .before .lay .ensures .0) (c .before .before .before .before .records .given .1) (c .before .before .before .before .before .before .before .lay .ensures .1)) (c .print-job .ensures)
 
 returns-2 : tie.Need-returns-2
 unfolding boundOf

@@ -24,6 +24,12 @@ slice-aggregate-count c = sym (length-take-le _ _ (omega arith))
 count-requires : tie.Need-count-requires
 count-requires c κs = search needs
 
+slice-aggregate-phase : tie.Need-slice-aggregate-phase
+slice-aggregate-phase c = sym (length-take-le _ _ (omega arith))
+
+phase-requires : tie.Need-phase-requires
+phase-requires c κs = search needs
+
 returns-2 : tie.Need-returns-2
 returns-2 c = search needs
 
@@ -40,5 +46,7 @@ turn-spec =
     lay-requires
     slice-aggregate-count
     count-requires
+    slice-aggregate-phase
+    phase-requires
     returns-2
     returns-3)

@@ -21,6 +21,9 @@ enum-told c = search needs
 enum-told-2 : tie.Need-enum-told-2
 enum-told-2 c = search needs
 
+enum-told-3 : tie.Need-enum-told-3
+enum-told-3 c = search needs
+
 same-length : tie.Need-same-length
 same-length c = search needs
 
@@ -37,6 +40,9 @@ returns-2 c = written-none _ _ _ (ap (λ (g : Gate). backOf (g ∷ [])) (c .enum
 returns-3 : tie.Need-returns-3
 returns-3 c = written-none _ _ _ (ap (λ (g : Gate). backOf (g ∷ [])) (c .enum-told2 .given .1))
 
+returns-4 : tie.Need-returns-4
+returns-4 c = written-none _ _ _ (ap (λ (g : Gate). backOf (g ∷ [])) (c .enum-told3 .given .1))
+
 pub put-cnot-of-spec : {M : Type 1} → statement M
 put-cnot-of-spec =
     tie.close
@@ -45,7 +51,9 @@ put-cnot-of-spec =
     put-cnot-requires
     enum-told
     enum-told-2
+    enum-told-3
     same-length
     returns
     returns-2
-    returns-3)
+    returns-3
+    returns-4)

@@ -24,27 +24,27 @@ slice-aggregate-lay-islands c = search needs
 lay-islands-requires : tie.Need-lay-islands-requires
 lay-islands-requires c κs = job-layable (c .before .before .before .before .before .before .before .args .n) (c .before .before .before .before .before .before .before .args .couplers .now) (c .before .before .before .before .before .before .before .args .gates .now) _ (ap numberOf (sym (c .before .before .before .judge .ensures)) ∙ sym (c .before .before .number .ensures) ∙ c .before .if1 .left)
 
-enum-known-k : tie.Need-enum-known-k
-enum-known-k c = search needs
+enum-known-went : tie.Need-enum-known-went
+enum-known-went c = search needs
 
 array-share-prefix-laid : tie.Need-array-share-prefix-laid
 unfolding boundOf
-array-share-prefix-laid c = part-fits _ _ _ (c .before .before .before .before .lay-islands .ensures .0) (on-same _ _ _ (c .before .k .given .1) (c .before .before .before .before .lay-islands .ensures .1))
+array-share-prefix-laid c = part-fits _ _ _ (c .before .before .before .before .lay-islands .ensures .0) (on-same _ _ _ (c .before .went .given .1) (c .before .before .before .before .lay-islands .ensures .1))
 
 slice-aggregate-replay : tie.Need-slice-aggregate-replay
 unfolding boundOf
-slice-aggregate-replay c = part-long _ _ _ (c .before .before .before .before .before .lay-islands .ensures .0) (on-same _ _ _ (c .before .before .k .given .1) (c .before .before .before .before .before .lay-islands .ensures .1))
+slice-aggregate-replay c = part-long _ _ _ (c .before .before .before .before .before .lay-islands .ensures .0) (on-same _ _ _ (c .before .before .went .given .1) (c .before .before .before .before .before .lay-islands .ensures .1))
 
 replay-requires : tie.Need-replay-requires
 replay-requires c κs = search needs
 
 array-share-prefix-laid-2 : tie.Need-array-share-prefix-laid-2
 unfolding boundOf
-array-share-prefix-laid-2 c = part-fits _ _ _ (c .before .before .before .before .before .before .before .before .before .lay-islands .ensures .0) (on-same _ _ _ (c .before .before .before .before .before .before .k .given .1) (c .before .before .before .before .before .before .before .before .before .lay-islands .ensures .1))
+array-share-prefix-laid-2 c = part-fits _ _ _ (c .before .before .before .before .before .before .before .before .before .lay-islands .ensures .0) (on-same _ _ _ (c .before .before .before .before .before .before .went .given .1) (c .before .before .before .before .before .before .before .before .before .lay-islands .ensures .1))
 
 slice-aggregate-counted : tie.Need-slice-aggregate-counted
 unfolding boundOf
-slice-aggregate-counted c = part-long _ _ _ (c .before .before .before .before .before .before .before .before .before .before .lay-islands .ensures .0) (on-same _ _ _ (c .before .before .before .before .before .before .before .k .given .1) (c .before .before .before .before .before .before .before .before .before .before .lay-islands .ensures .1))
+slice-aggregate-counted c = part-long _ _ _ (c .before .before .before .before .before .before .before .before .before .before .lay-islands .ensures .0) (on-same _ _ _ (c .before .before .before .before .before .before .before .went .given .1) (c .before .before .before .before .before .before .before .before .before .before .lay-islands .ensures .1))
 
 counted-requires : tie.Need-counted-requires
 counted-requires c κs = search needs
@@ -57,7 +57,7 @@ same-length c = search needs
 
 returns-2 : tie.Need-returns-2
 unfolding boundOf
-returns-2 c = copied (c .before .before .before .before .before .before .before .before .before .before .before .before .before .before .before .before .before .before .before .args .n) (c .before .before .before .before .before .before .before .before .before .before .before .before .before .before .before .before .before .before .before .args .couplers .now) (c .before .before .before .before .before .before .before .before .before .before .before .before .before .before .before .before .before .before .before .args .gates .now) (c .before .before .before .before .before .before .before .before .before .before .before .before .before .before .before .before .before .before .before .args .out .now) (ap numberOf (sym (c .before .before .before .before .before .before .before .before .before .before .before .before .before .before .before .judge .ensures)) ∙ sym (c .before .before .before .before .before .before .before .before .before .before .before .before .before .before .number .ensures) ∙ c .before .before .before .before .before .before .before .before .before .before .before .before .before .if1 .left) _ _ (c .before .before .before .before .before .before .before .before .before .before .before .lay-islands .ensures .0) (on-same _ _ _ (c .before .before .before .before .before .before .before .before .k .given .1) (c .before .before .before .before .before .before .before .before .before .before .before .lay-islands .ensures .1)) _ _ (c .counted .ensures) (c .before .before .before .before .replay .ensures .0)
+returns-2 c = copied (c .before .before .before .before .before .before .before .before .before .before .before .before .before .before .before .before .before .before .before .args .n) (c .before .before .before .before .before .before .before .before .before .before .before .before .before .before .before .before .before .before .before .args .couplers .now) (c .before .before .before .before .before .before .before .before .before .before .before .before .before .before .before .before .before .before .before .args .gates .now) (c .before .before .before .before .before .before .before .before .before .before .before .before .before .before .before .before .before .before .before .args .out .now) (ap numberOf (sym (c .before .before .before .before .before .before .before .before .before .before .before .before .before .before .before .judge .ensures)) ∙ sym (c .before .before .before .before .before .before .before .before .before .before .before .before .before .before .number .ensures) ∙ c .before .before .before .before .before .before .before .before .before .before .before .before .before .if1 .left) _ _ (c .before .before .before .before .before .before .before .before .before .before .before .lay-islands .ensures .0) (on-same _ _ _ (c .before .before .before .before .before .before .before .before .went .given .1) (c .before .before .before .before .before .before .before .before .before .before .before .lay-islands .ensures .1)) _ _ _ (c .before .before .before .before .before .before .before .before .before .before .before .lay-islands .ensures .2) (c .counted .ensures) (c .before .before .before .before .replay .ensures .0)
 
 returns-3 : tie.Need-returns-3
 returns-3 c = absurd (on-not-stuck _ _ _ (c .before .before .before .lay-islands .ensures .1) (c .enum-told .given .1))
@@ -71,7 +71,7 @@ lay-spec =
     returns
     slice-aggregate-lay-islands
     lay-islands-requires
-    enum-known-k
+    enum-known-went
     array-share-prefix-laid
     slice-aggregate-replay
     replay-requires

@@ -5,11 +5,12 @@ use Rattle.lines.specs.Lines.{letter}
 use Rattle.lines.proofs.letter.letter_of.Statement.{statement}
 use Rattle.lines.proofs.letter.letter_of.Tie as tie
 
-last : (k : ℕ) → (k ≡ 0 → ⊥) → (k ≡ 1 → ⊥) → 114 ≡ letter k
+last : (k : ℕ) → (k ≡ 0 → ⊥) → (k ≡ 1 → ⊥) → (k ≡ 2 → ⊥) → 110 ≡ letter k
 unfolding letter
-last zero a b = absurd (a refl)
-last (suc zero) a b = absurd (b refl)
-last (suc (suc k)) a b = refl
+last zero a b c = absurd (a refl)
+last (suc zero) a b c = absurd (b refl)
+last (suc (suc zero)) a b c = absurd (c refl)
+last (suc (suc (suc k))) a b c = refl
 
 returns : tie.Need-returns
 unfolding letter
@@ -20,7 +21,11 @@ unfolding letter
 returns-2 c = sym (ap letter (c .if2 .taken))
 
 returns-3 : tie.Need-returns-3
-returns-3 c = last (c .before .before .args .kind) (c .before .if1 .left) (c .if2 .left)
+unfolding letter
+returns-3 c = sym (ap letter (c .if3 .taken))
+
+returns-4 : tie.Need-returns-4
+returns-4 c = last (c .before .before .before .args .kind) (c .before .before .if1 .left) (c .before .if2 .left) (c .if3 .left)
 
 pub letter-of-spec : {M : Type 1} → statement M
-letter-of-spec = tie.close (tie.spec returns returns-2 returns-3)
+letter-of-spec = tie.close (tie.spec returns returns-2 returns-3 returns-4)

@@ -14,21 +14,21 @@ line-requires c κs = search needs
 enum-told : tie.Need-enum-told
 enum-told c = search needs
 
-line-requires-2 : tie.Need-line-requires-2
-line-requires-2 c κs = search needs
+other-requires : tie.Need-other-requires
+other-requires c κs = search needs
 
 enum-told-2 : tie.Need-enum-told-2
 enum-told-2 c = search needs
 
-line-requires-3 : tie.Need-line-requires-3
-line-requires-3 c κs = search needs
+line-requires-2 : tie.Need-line-requires-2
+line-requires-2 c κs = search needs
 
 returns : tie.Need-returns
 returns c =
     let b = c .before .before .before in
     let a = b .before .before .before .args in
     let e = b .line .ensures in
-    c .line2 .ensures ∙ one-second (a .gates) (drop (a .at) (now (a .text))) (b .before .if1 .taken) (sym (ap (λ g. g .rest) e) ∙ ap (restAt (now (a .text))) (c .before .enum-told .given .1))
+    c .other .ensures ∙ one-second (a .gates) (drop (a .at) (now (a .text))) (b .before .if1 .taken) (sym (ap (λ g. g .rest) e) ∙ ap (restAt (now (a .text))) (c .before .enum-told .given .1))
 
 returns-2 : tie.Need-returns-2
 returns-2 c =
@@ -40,7 +40,7 @@ returns-2 c =
 returns-3 : tie.Need-returns-3
 returns-3 c =
     let a = c .before .before .before .args in
-    c .line3 .ensures ∙ one-coupler (a .gates) (drop (a .at) (now (a .text))) (c .before .if1 .left)
+    c .line2 .ensures ∙ one-coupler (a .gates) (drop (a .at) (now (a .text))) (c .before .if1 .left)
 
 pub one-spec : {M : Type 1} → statement M
 one-spec =
@@ -48,9 +48,9 @@ one-spec =
     (tie.spec
     line-requires
     enum-told
-    line-requires-2
+    other-requires
     enum-told-2
-    line-requires-3
+    line-requires-2
     returns
     returns-2
     returns-3)

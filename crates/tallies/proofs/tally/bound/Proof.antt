@@ -34,6 +34,9 @@ mul-result-4 c = let a = c .before .args in omega (arith, product-le (2 * a .n) 
 add-result-2 : tie.Need-add-result-2
 add-result-2 c = let a = c .before .args in omega (arith, product-le (2 * (a .n - 1)) (a .t) 508 65535 (search needs) (search needs), product-le (2 * a .n) (a .n - 1) 510 254 (search needs) (search needs))
 
+add-result-3 : tie.Need-add-result-3
+add-result-3 c = let a = c .before .args in omega (arith, product-le (2 * (a .n - 1)) (a .t) 508 65535 (search needs) (search needs), product-le (2 * a .n) (a .n - 1) 510 254 (search needs) (search needs))
+
 returns-2 : tie.Need-returns-2
 unfolding boundOf
 returns-2 c = search needs
@@ -51,4 +54,5 @@ bound-spec =
     sub-result-2
     mul-result-4
     add-result-2
+    add-result-3
     returns-2)

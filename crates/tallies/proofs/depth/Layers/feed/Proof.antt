@@ -21,6 +21,9 @@ raise-requires-2 c κs = search needs
 enum-told : tie.Need-enum-told
 enum-told c = search needs
 
+enum-told-2 : tie.Need-enum-told-2
+enum-told-2 c = search needs
+
 returns : tie.Need-returns
 unfolding layered
 returns c = c .raise .ensures ∙ ap (λ (g : Gate). layered g (c .before .before .before .before .before .args .self .last)) (sym (c .before .before .g .given .1))
@@ -33,6 +36,10 @@ returns-3 : tie.Need-returns-3
 unfolding layered
 returns-3 c = ap (λ (g : Gate). layered g (c .before .before .before .args .self .last)) (sym (c .enum-told .given .1))
 
+returns-4 : tie.Need-returns-4
+unfolding layered
+returns-4 c = ap (λ (g : Gate). layered g (c .before .before .before .args .self .last)) (sym (c .enum-told2 .given .1))
+
 pub feed-spec : {M : Type 1} → statement M
 feed-spec =
     tie.close
@@ -42,6 +49,8 @@ feed-spec =
     enum-known-g-2
     raise-requires-2
     enum-told
+    enum-told-2
     returns
     returns-2
-    returns-3)
+    returns-3
+    returns-4)

@@ -1,0 +1,25 @@
+-- The common phase of a list of gates. Assumes nothing.
+use mathlib.Core.Path.{_≡_, refl, ap, _∙_}
+use mathlib.Core.List.{List, [], _∷_, _++_}
+use Prim.Native.Nat.{ℕ, _+_, _%_, _<_}
+use native.Mathlib.Omega.{arith}
+use Rattle.gates.specs.declared.gate.Gate.{Gate}
+use Rattle.circuit.specs.Flips.{flipStep, flipRun, noFlips}
+use Rattle.circuit.specs.Phase.{shiftsOn, shifted, phaseOf}
+
+shifted-append : (g h : List Gate) (F : List ℕ) → shifted (g ++ h) F ≡ shifted g F + shifted h (flipRun g F)
+unfolding shifted flipRun
+shifted-append [] h F = omega arith
+shifted-append (x ∷ g) h F = ap (λ (m : ℕ). shiftsOn x F + m) (shifted-append g h (flipStep x F)) ∙ omega arith
+
+pub phase-snoc : (gs : List Gate) (g : Gate) → phaseOf (gs ++ g ∷ []) ≡ (phaseOf gs + shiftsOn g (flipRun gs noFlips)) % 65536
+unfolding phaseOf shifted
+phase-snoc gs g = ap (λ (m : ℕ). m % 65536) (shifted-append gs (g ∷ []) noFlips) ∙ omega arith
+
+pub phase-small : (gs : List Gate) → phaseOf gs < 65536
+unfolding phaseOf
+phase-small gs = omega arith
+
+pub phase-zero : phaseOf [] ≡ 0
+unfolding phaseOf shifted
+phase-zero = refl

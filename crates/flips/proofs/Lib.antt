@@ -1,0 +1,2 @@
+pub mod Xs
+pub mod Putting
