@@ -1,6 +1,7 @@
 pub mod Steps
 pub mod Circuits
 pub mod Flips
+pub mod Sums
 pub mod Straight
 pub mod Phases
 pub mod Quiet

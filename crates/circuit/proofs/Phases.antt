@@ -12,9 +12,13 @@ unfolding shifted flipRun
 shifted-append [] h F = omega arith
 shifted-append (x ∷ g) h F = ap (λ (m : ℕ). shiftsOn x F + m) (shifted-append g h (flipStep x F)) ∙ omega arith
 
+pub phase-append : (g h : List Gate) → phaseOf (g ++ h) ≡ (phaseOf g + shifted h (flipRun g noFlips)) % 65536
+unfolding phaseOf
+phase-append g h = ap (λ (m : ℕ). m % 65536) (shifted-append g h noFlips) ∙ omega arith
+
 pub phase-snoc : (gs : List Gate) (g : Gate) → phaseOf (gs ++ g ∷ []) ≡ (phaseOf gs + shiftsOn g (flipRun gs noFlips)) % 65536
-unfolding phaseOf shifted
-phase-snoc gs g = ap (λ (m : ℕ). m % 65536) (shifted-append gs (g ∷ []) noFlips) ∙ omega arith
+unfolding shifted
+phase-snoc gs g = phase-append gs (g ∷ []) ∙ omega arith
 
 pub phase-small : (gs : List Gate) → phaseOf gs < 65536
 unfolding phaseOf

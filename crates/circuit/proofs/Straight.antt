@@ -58,10 +58,6 @@ pub sum-straight : (p : ℕ) (gs : List Gate) → sumOf p gs ≡ given p (straig
 unfolding sumOf
 sum-straight p gs = ap (λ (m : ℕ). m % 65536) (given-straight p gs start noFlips)
 
-pub sum-small : (p : ℕ) (gs : List Gate) → sumOf p gs < 65536
-unfolding sumOf
-sum-small p gs = omega arith
-
 straight-snoc : (gs : List Gate) (g : Gate) (F : List ℕ) → straight (gs ++ g ∷ []) F ≡ straight gs F ++ straightened g (flipRun gs F) ∷ []
 unfolding straight flipRun
 straight-snoc [] g F = refl

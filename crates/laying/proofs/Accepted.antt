@@ -27,7 +27,7 @@ use Rattle.circuit.specs.Phase.{phaseOf, phases}
 use Rattle.circuit.proofs.Circuits.{final-is}
 use Rattle.circuit.proofs.Wiring.{good-up}
 use Rattle.circuit.proofs.Flips.{flip-is, Flips, flips-run, flips-none}
-use Rattle.circuit.proofs.Straight.{sum-small}
+use Rattle.circuit.proofs.Sums.{sum-small}
 use Rattle.circuit.proofs.Phases.{phase-small}
 use Rattle.circuit.proofs.Quiet.{Quiet, sum-is, phase-none}
 use Rattle.flips.specs.Xs.{xsOn}

@@ -37,7 +37,7 @@ pub on-flips : Action flipRun noFlips
 on-flips = record { none = flip-none; append = flip-append; long = flip-length; start = none-length }
 
 -- gates on an island Q: its wires come to F, the others stay
-pub record Brings (act : List Gate → List ℕ → List ℕ) (from : List ℕ) (Q : ℕ) (F : ℕ → ℕ) (gs : List Gate) : Type 0 where
+pub record Settles (act : List Gate → List ℕ → List ℕ) (from : List ℕ) (Q : ℕ) (F : ℕ → ℕ) (gs : List Gate) : Type 0 where
   pub right : (W : List ℕ) → length W ≡ 20 → ((i : ℕ) → In i Q → getD W i 0 ≡ getD from i 0) → (i : ℕ) → In i Q → getD (act gs W) i 0 ≡ F i
   pub others : (W : List ℕ) → length W ≡ 20 → ((i : ℕ) → In i Q → getD W i 0 ≡ getD from i 0) → (i : ℕ) → bit Q i ≡ 0 → getD (act gs W) i 0 ≡ getD W i 0
 
@@ -70,7 +70,7 @@ module _ (n : ℕ) (isl : ℕ → ℕ) (few : n ≤ 20) (parts : Parts n isl) (o
   laid-all P h = of-laid (All P) (all-none P) (λ k l e a. all-append P (laidTo isl on k) (on k) a (h k l e))
 
   module _ (act : List Gate → List ℕ → List ℕ) (from : List ℕ) (action : Action act from) (F : ℕ → ℕ)
-      (brings : (q : ℕ) → q < n → leads isl q ≡ true → Brings act from (isl q) F (on q)) where
+      (settles : (q : ℕ) → q < n → leads isl q ≡ true → Settles act from (isl q) F (on q)) where
     -- the wires when the islands led below k are laid
     pub record Wired (k : ℕ) (W : List ℕ) : Type 0 where
       pub long : length W ≡ 20
@@ -92,8 +92,8 @@ module _ (n : ℕ) (isl : ℕ → ℕ) (few : n ≤ 20) (parts : Parts n isl) (o
       }
         where
           done-at : (i : ℕ) → i < n → lowestOf (isl i) < suc k → (bit (isl k) i ≡ 0) ⊎ (bit (isl k) i ≡ 1) → getD (act (on k) W) i 0 ≡ F i
-          done-at i h b (inr m) = brings k l e .right W (w .long) (fresh e) i m
-          done-at i h b (inl z) = brings k l e .others W (w .long) (fresh e) i z ∙ w .done i h (lower (ℕ-discrete (lowestOf (isl i)) k))
+          done-at i h b (inr m) = settles k l e .right W (w .long) (fresh e) i m
+          done-at i h b (inl z) = settles k l e .others W (w .long) (fresh e) i z ∙ w .done i h (lower (ℕ-discrete (lowestOf (isl i)) k))
             where
               lower : Dec (lowestOf (isl i) ≡ k) → lowestOf (isl i) < k
               lower (yes d) = absurd (omega (arith, z, led-on n isl few parts k i h d))
@@ -101,7 +101,7 @@ module _ (n : ℕ) (isl : ℕ → ℕ) (few : n ≤ 20) (parts : Parts n isl) (o
 
           rest-at : (i : ℕ) → i < n → suc k ≤ lowestOf (isl i) → (bit (isl k) i ≡ 0) ⊎ (bit (isl k) i ≡ 1) → getD (act (on k) W) i 0 ≡ getD from i 0
           rest-at i h b (inr m) = absurd (omega (arith, on-led n isl few parts k i l e m))
-          rest-at i h b (inl z) = brings k l e .others W (w .long) (fresh e) i z ∙ w .rest i h (omega arith)
+          rest-at i h b (inl z) = settles k l e .others W (w .long) (fresh e) i z ∙ w .rest i h (omega arith)
 
       wired-not : leads isl k ≡ false → Wired (suc k) W
       wired-not e = record { long = w .long; done = λ i h b. w .done i h (lower i h b (ℕ-discrete (lowestOf (isl i)) k)); rest = λ i h b. w .rest i h (omega arith) }
@@ -129,8 +129,8 @@ module _ (n : ℕ) (isl : ℕ → ℕ) (few : n ≤ 20) (parts : Parts n isl) (o
     starts : (q i : ℕ) → q < n → In i (isl q) → getD start i 0 ≡ 2 ^ i
     starts q i l m = start-at i (omega (arith, parts .small q i l m))
 
-    pub parities-brought : (q : ℕ) → q < n → leads isl q ≡ true → Brings run start (isl q) F (on q)
-    parities-brought q l e = record { right = λ W size own. lays q l e .right W size (λ i m. own i m ∙ starts q i l m); others = λ W size own. lays q l e .others W }
+    pub parities-settle : (q : ℕ) → q < n → leads isl q ≡ true → Settles run start (isl q) F (on q)
+    parities-settle q l e = record { right = λ W size own. lays q l e .right W size (λ i m. own i m ∙ starts q i l m); others = λ W size own. lays q l e .others W }
 
     -- the angles
     pub given-laid : (p k : ℕ) → k ≤ n → given p (laidTo isl on k) start ≡ sumTo k (λ q. pick (leads isl q) (T q p) 0)
@@ -142,5 +142,5 @@ module _ (n : ℕ) (isl : ℕ → ℕ) (few : n ≤ 20) (parts : Parts n isl) (o
             → given p (laidTo isl on (suc k)) start ≡ sumTo k (λ q. pick (leads isl q) (T q p) 0) + pick b (T k p) 0
         go true e g =
             ap (λ (L : List Gate). given p L start) (laid-led k e) ∙ given-append p (laidTo isl on k) (on k) start
-            ∙ ap₂ (λ (a b : ℕ). a + b) g (lays k l e .gives (run (laidTo isl on k) start) (run-length (laidTo isl on k) start ∙ start-length) (λ i m. fresh-laid run start on-parities F parities-brought k l e i m ∙ starts k i l m) p)
+            ∙ ap₂ (λ (a b : ℕ). a + b) g (lays k l e .gives (run (laidTo isl on k) start) (run-length (laidTo isl on k) start ∙ start-length) (λ i m. fresh-laid run start on-parities F parities-settle k l e i m ∙ starts k i l m) p)
         go false e g = ap (λ (L : List Gate). given p L start) (laid-not k e) ∙ omega arith

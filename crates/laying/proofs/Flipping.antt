@@ -22,7 +22,7 @@ use Rattle.flips.proofs.Xs.{xs-run, xs-given, xs-tally, xs-quiet, xs-right, xs-
 use Rattle.columns.specs.Terms.{Inside}
 use Rattle.laying.specs.Islands.{leads, laidTo}
 use Rattle.laying.proofs.Parting.{Parts, leader-below}
-use Rattle.laying.proofs.Composing.{laid-led, laid-not, of-laid, on-flips, Brings, wired, fresh-laid}
+use Rattle.laying.proofs.Composing.{laid-led, laid-not, of-laid, on-flips, Settles, wired, fresh-laid}
 
 -- ---- the gates of one island, and X gates behind them
 
@@ -89,18 +89,18 @@ module _ (n : ℕ) (isl : ℕ → ℕ) (few : n ≤ 20) (parts : Parts n isl) (p
       unfolding xsOn
       quiet = quiet-append (plain q) (xsOn (isl q) F) G (calm-quiet G (plain q) calm) (xs-quiet (flippedTo (isl q) F 20) (flipRun (plain q) G))
 
-    flips-brought : (q : ℕ) → q < n → leads isl q ≡ true → Brings flipRun noFlips (isl q) (λ i. getD F i 0) (on q)
-    flips-brought q l e = record {
+    flips-settle : (q : ℕ) → q < n → leads isl q ≡ true → Settles flipRun noFlips (isl q) (λ i. getD F i 0) (on q)
+    flips-settle q l e = record {
       right = λ G size own i m. ap (λ (H : List ℕ). getD H i 0) (after q l G own) ∙ xs-right (isl q) F flips G size i (omega (arith, parts .small q i l m)) m (own i m ∙ none-flipped i);
       others = λ G size own i z. ap (λ (H : List ℕ). getD H i 0) (after q l G own) ∙ xs-others (isl q) F flips G size i z;
     }
 
     pub laid-flips : (i : ℕ) → i < n → getD (flipRun (laidTo isl on n) noFlips) i 0 ≡ getD F i 0
-    laid-flips i h = wired n isl few parts on flipRun noFlips on-flips (λ i. getD F i 0) flips-brought n (omega arith) .done i h (leader-below n isl few parts i h)
+    laid-flips i h = wired n isl few parts on flipRun noFlips on-flips (λ i. getD F i 0) flips-settle n (omega arith) .done i h (leader-below n isl few parts i h)
 
     -- no angle is on a flipped wire
     pub laid-quiet : Quiet (laidTo isl on n) noFlips
     laid-quiet =
         of-laid n isl few parts on (λ L. Quiet L noFlips) (unfold Quiet in tt)
-        (λ k l e h. quiet-append (laidTo isl on k) (on k) noFlips h (quiet k l (flipRun (laidTo isl on k) noFlips) (fresh-laid n isl few parts on flipRun noFlips on-flips (λ i. getD F i 0) flips-brought k l e)))
+        (λ k l e h. quiet-append (laidTo isl on k) (on k) noFlips h (quiet k l (flipRun (laidTo isl on k) noFlips) (fresh-laid n isl few parts on flipRun noFlips on-flips (λ i. getD F i 0) flips-settle k l e)))
         n (omega arith)

@@ -46,7 +46,7 @@ use Rattle.laying.proofs.Parting.{Parts, leader-below, leader-leads, le
 use Rattle.laying.proofs.Restricting.{own-whole, own-symm, own-joined, own-near}
 use Rattle.laying.proofs.Owning.{own-up, own-has, own-back, own-few, total-own, total-none}
 use Rattle.laying.proofs.Islanding.{Placed, closed-lays, closed-placed, inside-good}
-use Rattle.laying.proofs.Composing.{Lays, on-parities, wired, parities-brought, given-laid}
+use Rattle.laying.proofs.Composing.{Lays, on-parities, wired, parities-settle, given-laid}
 use Rattle.laying.proofs.Counting.{Fits, fits-by, over-ext, over-one, over-none, tally-laid, terms-counted, cnots-bounded, overIslands}
 use Rattle.laying.proofs.Reaching.{reachable-within}
 
@@ -212,7 +212,7 @@ module _ (n : ℕ) (xs : List ℕ) (gs : List Gate) (few : n ≤ 20) (good : All
 
     pub finals-same : (i : ℕ) → i < n → finalOf gs i ≡ finalOf laid i
     finals-same i h =
-        sym (final-is laid i ∙ wired n Q few P lists run start on-parities (λ i. finalOf gs i) (parities-brought n Q few P lists (λ i. finalOf gs i) T (λ q l e. lays q l)) n (omega arith) .done i h (leader-below n Q few P i h))
+        sym (final-is laid i ∙ wired n Q few P lists run start on-parities (λ i. finalOf gs i) (parities-settle n Q few P lists (λ i. finalOf gs i) T (λ q l e. lays q l)) n (omega arith) .done i h (leader-below n Q few P i h))
 
     term-given : (p : ℕ) → Term gs p → overIslands n Q few P (λ q. T q p) ≡ sumOf p gs
     term-given p t =

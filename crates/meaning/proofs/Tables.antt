@@ -22,7 +22,8 @@ use Rattle.meaning.specs.Borne.{insert, borne, sumsOf, Ascending}
 use Rattle.table.specs.Table.{padded, Added, stopsAt, rankOf, putIn, movedIn, heldAt, grownAt, newAt, addedTo}
 use Rattle.meaning.specs.Told.{tableOf}
 use Rattle.circuit.proofs.Steps.{gives-borne, gives-other}
-use Rattle.circuit.proofs.Straight.{straight-rotation, sum-snoc, sum-small}
+use Rattle.circuit.proofs.Sums.{sum-small}
+use Rattle.circuit.proofs.Straight.{straight-rotation, sum-snoc}
 use Rattle.table.proofs.Ranks.{rank-le, held-there, held-not-past, held-not-other, add-held, add-new, add-full}
 use Rattle.meaning.proofs.Lists.{insert-held, insert-new, at-among}
 use Rattle.meaning.proofs.Bearing.{borne-snoc, bears-rotation, borne-ascending, not-borne}

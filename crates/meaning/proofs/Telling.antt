@@ -30,7 +30,8 @@ use Rattle.circuit.specs.State.{fedWires, wiresOf}
 use Rattle.circuit.proofs.Steps.{gives-cnot, gives-x, gives-bad}
 use Rattle.circuit.proofs.Circuits.{run-snoc}
 use Rattle.circuit.proofs.Flips.{flip-snoc}
-use Rattle.circuit.proofs.Straight.{straightened, sum-snoc, sum-small}
+use Rattle.circuit.proofs.Sums.{sum-small}
+use Rattle.circuit.proofs.Straight.{straightened, sum-snoc}
 use Rattle.circuit.proofs.Phases.{phase-snoc, phase-small, phase-zero}
 use Rattle.meaning.proofs.Bearing.{borne-cnot, borne-x, borne-bad}
 use Rattle.meaning.proofs.Feeding.{Fed, fedMeaning, fed-same}
