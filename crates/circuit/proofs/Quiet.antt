@@ -17,7 +17,7 @@ use Rattle.circuit.specs.Circuit.{step, start, gives, given, takes, give
 use Rattle.circuit.specs.Flips.{flipStep, flipRun, noFlips}
 use Rattle.circuit.specs.Phase.{shifts, shiftsOn, shifted, phaseOf}
 
--- "Flips asked for at the end are laid as X .. after its island's ending"
+-- from the flips F on
 unfoldable pub Quiet : List Gate → List ℕ → Type 0
 Quiet [] F = Unit {0}
 Quiet (Cnot c t ∷ gs) F = Quiet gs (flipStep (Cnot c t) F)

@@ -72,9 +72,9 @@ module _ (n : ℕ) (xs ys : List ℕ) (out : List ℕ) where
     accepted = eq-eqb (numberOf (verdictOf n xs ys room)) 0 (ap numberOf (job-accepted n xs ys room e))
 
     module _ (laid : List ℕ) (k : ℕ) (a : laid ≡ emit zeros 0 C) (b : k ≡ emitAt zeros 0 C) where
-      counts-are : (r : Answer) (f : ℕ) → f ≡ phaseOf (gatesOf n ys) → r ≡ countsOf (gatesOf n (take k laid)) f → r ≡ answered n xs ys room
+      counts-are : (r : Answer) (phase : ℕ) → phase ≡ phaseOf (gatesOf n ys) → r ≡ countsOf (gatesOf n (take k laid)) phase → r ≡ answered n xs ys room
       unfolding answered
-      counts-are r f d h =
+      counts-are r phase d h =
           let f = job .few in
           h ∙ ap₂ countsOf (ap₂ (λ (i : ℕ) (l : List ℕ). gatesOf n (take i l)) b a ∙ gates-read C (circuit-fine n xs ys job) n (omega arith) (circuit-good n xs ys job)) d
           ∙ sym (ap (λ (t : Bool). pick t (countsOf C (phaseOf (gatesOf n ys))) (Refused (verdictOf n xs ys room))) accepted)
@@ -87,6 +87,6 @@ module _ (n : ℕ) (xs ys : List ℕ) (out : List ℕ) where
           ∙ ap (λ (j : ℕ). map recordOf C ++ drop j out) (let z : 0 + length C ≡ length C = omega arith in z)
           ∙ sym (ap (λ (t : Bool). pick t (map recordOf C ++ drop (length C) out) out) accepted)
 
-      pub copied : (r : Answer) (f : ℕ) (out′ : List ℕ) → f ≡ phaseOf (gatesOf n ys) → r ≡ countsOf (gatesOf n (take k laid)) f → out′ ≡ emit out 0 (gatesOf 20 (take k laid))
+      pub copied : (r : Answer) (phase : ℕ) (out′ : List ℕ) → phase ≡ phaseOf (gatesOf n ys) → r ≡ countsOf (gatesOf n (take k laid)) phase → out′ ≡ emit out 0 (gatesOf 20 (take k laid))
           → (r ≡ answered n xs ys room) × (out′ ≡ outputOf n xs ys out)
-      copied r f out′ d g h = (counts-are r f d g, output-is out′ h)
+      copied r phase out′ d g h = (counts-are r phase d g, output-is out′ h)
