@@ -2,6 +2,7 @@
 //!
 //!     bench LAY COUNT SECOND_LAY SECOND_COUNT GENERATE SVG
 //!
+//! CNOTs and CNOT depth are the numbers that COUNT prints.
 //! All times are of whole processes, from start to end, unless "inside" stands with them: there
 //! the time of the same program on an empty job of one qubit is taken off.
 
@@ -111,32 +112,14 @@ fn millis(time: Duration) -> f64 {
 struct Figures {
     cnots: f64,
     cnot_depth: f64,
-    depth: f64,
 }
 
-/// Counts a laid text. In the CNOT depth rotations take no layer.
-fn figures(laid: &str) -> Figures {
-    let (mut cnots, mut with_all, mut with_cnots) = (0, [0u32; 20], [0u32; 20]);
-    for line in laid.lines() {
-        let fields: Vec<&str> = line.split('\t').collect();
-        let number = |i: usize| fields[i].parse::<usize>().unwrap();
-        let put = |layers: &mut [u32; 20], a: usize, b: usize| {
-            let layer = layers[a].max(layers[b]) + 1;
-            (layers[a], layers[b]) = (layer, layer);
-        };
-        match fields[0] {
-            "c" => {
-                cnots += 1;
-                put(&mut with_all, number(1), number(2));
-                put(&mut with_cnots, number(1), number(2));
-            }
-            "r" => put(&mut with_all, number(1), number(1)),
-            "x" => panic!("a job for measuring was refused: {line}"),
-            _ => {}
-        }
-    }
-    let deepest = |layers: [u32; 20]| f64::from(layers.into_iter().max().unwrap_or(0));
-    Figures { cnots: f64::from(cnots), cnot_depth: deepest(with_cnots), depth: deepest(with_all) }
+/// The numbers of the counting program's line; it says `x` where the job was refused.
+fn figures(counted: &str) -> Figures {
+    let fields: Vec<&str> = counted.trim_end().split('\t').collect();
+    let ["s", cnots, _, depth] = fields[..] else { panic!("a job for measuring was refused: {counted}") };
+    let number = |field: &str| f64::from(field.parse::<u32>().unwrap());
+    Figures { cnots: number(cnots), cnot_depth: number(depth) }
 }
 
 /// A mean and its standard error.
@@ -162,15 +145,14 @@ fn verdict(good: bool) -> &'static str {
 fn table_beside_document(bench: &Bench, coupling: &str, published: &[Published]) -> Vec<(f64, f64)> {
     println!("\n{coupling}: means of {TABLE_JOBS} jobs, identity asked; beside them document 000, Table 1");
     println!("(goal: no more CNOTs and CNOT depth than document 000's own)");
-    println!("terms   CNOTs  CNOT depth  depth |   000: CNOTs   depth |    Staq:        | t|ket>:         | goal");
+    println!("terms   CNOTs  CNOT depth |   000: CNOTs   depth |    Staq:        | t|ket>:         | goal");
     let mut points = vec![];
     for &(terms, [ket, staq, own]) in published {
-        let all = figures_of(&bench.lay, &bench.jobs(coupling, terms, TABLE_JOBS));
+        let all = figures_of(&bench.count, &bench.jobs(coupling, terms, TABLE_JOBS));
         let (cnots, _) = mean(all.iter().map(|one| one.cnots));
         let (cnot_depth, _) = mean(all.iter().map(|one| one.cnot_depth));
-        let (depth, _) = mean(all.iter().map(|one| one.depth));
         println!(
-            "{terms:5} {cnots:7.1} {cnot_depth:11.1} {depth:6.1} | {:12.1} {:7.1} | {:7.1} {:7.1} | {:7.1} {:7.1} | {}",
+            "{terms:5} {cnots:7.1} {cnot_depth:11.1} | {:12.1} {:7.1} | {:7.1} {:7.1} | {:7.1} {:7.1} | {}",
             own.0, own.1, staq.0, staq.1, ket.0, ket.1,
             verdict(cnots <= own.0 && cnot_depth <= own.1)
         );
@@ -194,7 +176,7 @@ fn table_of_means(bench: &Bench) {
     println!("\nsingapore: means of {MEAN_JOBS} jobs with their standard error (goal: ratio at most {ALLOWANCE})");
     println!("terms  what           mean           goal   ratio");
     for (terms, cnots, depth) in MEANS {
-        let all = figures_of(&bench.lay, &bench.jobs("singapore", terms, MEAN_JOBS));
+        let all = figures_of(&bench.count, &bench.jobs("singapore", terms, MEAN_JOBS));
         goal_line(terms, "CNOTs", mean(all.iter().map(|one| one.cnots)), cnots);
         if let Some(depth) = depth {
             goal_line(terms, "CNOT depth", mean(all.iter().map(|one| one.cnot_depth)), depth);

@@ -1078,7 +1078,7 @@ const FLIPPED: &[&str] = &[
     // The X gates stand behind the ending.
     "q 3;e 0 1;e 1 2;n 0;c 0 2;r 2 9;c 2 1;n 1;",
     "q 4;e 0 1;e 1 2;e 2 3;c 1 3;n 1;c 1 0;r 0 200;r 1 300;n 3;r 3 100;c 1 3;",
-    // The depth passes X over: it is 1 and 2 here.
+    // Neither rotations nor X take a layer: the depth is 0 and 1 here.
     "q 2;e 0 1;n 0;r 0 1;r 1 2;n 1;",
     "q 2;e 0 1;c 0 1;r 0 1;n 0;n 1;",
     // Drawn three times, the X further back each time; the common phase is 0, 0 and 9.
@@ -1148,6 +1148,28 @@ fn flipped() -> Vec<Vec<u8>> {
     texts
 }
 
+/// Jobs whose CNOTs share layers or not, spelled as the rare jobs are. All are laid as they are drawn but
+/// the last, whose CNOTs come in another order.
+const LAYERED: &[&str] = &[
+    // Two CNOTs that share a qubit, in each of the four ways: 2 layers.
+    "q 3;e 0 1;e 0 2;c 0 1;c 0 2;",
+    "q 3;e 0 1;e 0 2;c 1 0;c 2 0;",
+    "q 3;e 0 1;e 1 2;c 0 1;c 1 2;",
+    "q 3;e 0 1;e 1 2;c 1 2;c 0 1;",
+    // Two on one island that share none: 1 layer.
+    "q 4;e 0 1;e 1 2;e 2 3;c 0 1;c 2 3;",
+    // The CNOTs of two islands lie in the same layers: there are 2, not 3, whichever has more.
+    "q 4;e 0 1;e 2 3;c 0 1;c 1 0;c 2 3;",
+    "q 4;e 0 1;e 2 3;c 0 1;c 2 3;c 3 2;",
+    // Rotations in the midst of a chain and behind it: 3 layers.
+    "q 4;e 0 1;e 1 2;e 2 3;c 0 1;r 1 5;c 1 2;r 2 6;c 2 3;r 3 7;",
+    // A CNOT on each coupler of a line: in order they are a chain, 9 layers; every other one first, 2.
+    "q 10;e 0 1;e 1 2;e 2 3;e 3 4;e 4 5;e 5 6;e 6 7;e 7 8;e 8 9;\
+     c 0 1;c 1 2;c 2 3;c 3 4;c 4 5;c 5 6;c 6 7;c 7 8;c 8 9;",
+    "q 10;e 0 1;e 1 2;e 2 3;e 3 4;e 4 5;e 5 6;e 6 7;e 7 8;e 8 9;\
+     c 0 1;c 2 3;c 4 5;c 6 7;c 8 9;c 1 2;c 3 4;c 5 6;c 7 8;",
+];
+
 /// The fixed list can only hold texts that are empty or end with LF.
 fn ends_with_lf(text: &[u8]) -> bool {
     text.is_empty() || text.ends_with(b"\n")
@@ -1168,6 +1190,7 @@ fn vectors() -> Vec<Vec<u8>> {
     texts.extend((0..60).map(|_| damaged(&mut dice)));
     texts.extend((0..30).map(|_| noise(&mut dice)));
     texts.extend(flipped());
+    texts.extend(LAYERED.iter().map(|text| spelled_out(text)));
     texts.retain(|text| ends_with_lf(text));
     texts
 }

@@ -1,5 +1,6 @@
-//! The judge: knows what document 01 means and nothing of how gates are laid. It says whether the
-//! texts that the laying and the counting program printed are right for a job.
+//! The judge: knows what document 01, with document 02's E2 and E3, means and nothing of how gates
+//! are laid. It says whether the texts that the laying and the counting program printed are right for
+//! a job.
 //!
 //!     judge one JOB LAID [COUNTED]   three files
 //!     judge many JOBS PRINTED        a bundle of jobs and what the program `vectors` printed for it:
@@ -16,7 +17,7 @@
 //! A bundle is a row of texts, each closed by a line `--`, or by a line `-.` where the last LF
 //! is not the text's own.
 
-use std::collections::{BTreeMap, BTreeSet, HashMap};
+use std::collections::{BTreeMap, BTreeSet, HashMap, VecDeque};
 use std::fmt::Write as _;
 
 #[derive(Clone, Copy, PartialEq)]
@@ -177,22 +178,41 @@ fn follow_state(mut state: u32, gates: &[Line]) -> (u32, u32) {
     (state, phase)
 }
 
-/// The number of layers. An X is passed over: it takes none and leaves its wire's as it is.
-fn depth(n: u32, gates: &[Line]) -> u32 {
-    let mut last_layer = vec![0; n as usize];
-    let mut deepest = 0;
-    for &gate in gates {
-        let qubits = match gate {
-            Line::Cnot(c, t) => vec![c as usize, t as usize],
-            Line::Rotation(q, _) => vec![q as usize],
-            Line::X(_) => continue,
-            _ => unreachable!("only gates are counted"),
-        };
-        let layer = 1 + qubits.iter().map(|&q| last_layer[q]).max().unwrap();
-        qubits.iter().for_each(|&q| last_layer[q] = layer);
-        deepest = deepest.max(layer);
+// ------------------------------------------------------------ layers, by peeling
+
+/// For each wire the places of its CNOTs.
+fn cnots_by_wire(n: u32, gates: &[Line]) -> Vec<VecDeque<usize>> {
+    let mut wires = vec![VecDeque::new(); n as usize];
+    for (place, &gate) in gates.iter().enumerate() {
+        if let Line::Cnot(c, t) = gate {
+            wires[c as usize].push_back(place);
+            wires[t as usize].push_back(place);
+        }
     }
-    deepest
+    wires
+}
+
+/// Takes a layer off: the CNOTs that come next on both their wires. There always is one, the first of
+/// all that wait.
+fn peel(waiting: &mut [VecDeque<usize>]) {
+    let next: Vec<usize> = waiting.iter().filter_map(|wire| wire.front().copied()).collect();
+    let is_next_on_both = |place: &usize| next.iter().filter(|&other| other == place).count() == 2;
+    for wire in waiting {
+        if wire.front().is_some_and(is_next_on_both) {
+            wire.pop_front();
+        }
+    }
+}
+
+/// The number of layers. Rotations and X gates wait on no wire, so they take none.
+fn depth(n: u32, gates: &[Line]) -> u32 {
+    let mut waiting = cnots_by_wire(n, gates);
+    let mut layers = 0;
+    while waiting.iter().any(|wire| !wire.is_empty()) {
+        peel(&mut waiting);
+        layers += 1;
+    }
+    layers
 }
 
 // ------------------------------------------------------------ islands, by relabelling

@@ -1,5 +1,5 @@
 //! The independent second program of Pikselvuo: it lays the same gates as the first one, from
-//! document 01 and the page on laying alone. Text in, text out.
+//! document 01, document 02's E2 and E3 and the page on laying alone. Text in, text out.
 //!
 //!     second lay     one job in, what the laying program prints out
 //!     second count   one job in, what the counting program prints out
@@ -752,17 +752,13 @@ fn lay(job: &Job, lent: &Lent) -> Result<Laid, Refusal> {
     Ok(Laid { gates, phase: meaning.phase })
 }
 
+/// Only CNOTs take a layer; rotations and X gates are passed over.
 fn depth(gates: &[Gate]) -> usize {
     let mut busy_to = [0; MOST_QUBITS];
-    for &gate in gates {
-        let (a, b) = match gate {
-            Gate::Cnot(c, t) => (c, t),
-            Gate::Rot(q, _) => (q, q),
-            Gate::X(_) => continue,
-        };
-        let layer = busy_to[a].max(busy_to[b]) + 1;
-        busy_to[a] = layer;
-        busy_to[b] = layer;
+    for (c, t) in cnots_of(gates) {
+        let layer = busy_to[c].max(busy_to[t]) + 1;
+        busy_to[c] = layer;
+        busy_to[t] = layer;
     }
     busy_to.into_iter().max().unwrap_or(0)
 }
@@ -941,7 +937,7 @@ mod worked_example {
 
     #[test]
     fn nearest_first_is_taken() {
-        assert_eq!(both_texts(JOB)[1], "s\t7\t3\t7\n");
+        assert_eq!(both_texts(JOB)[1], "s\t7\t3\t6\n");
     }
 }
 
@@ -963,12 +959,42 @@ mod too_little_lent {
 }
 
 #[cfg(test)]
+mod layers {
+    use super::*;
+    use Gate::{Cnot, Rot, X};
+
+    #[test]
+    fn example_10() {
+        assert_eq!(depth(&[Cnot(0, 1), Rot(1, 9), Cnot(0, 1)]), 2);
+    }
+
+    #[test]
+    fn the_sample_line() {
+        let texts = ["q\t2\ne\t0\t1\nr\t0\t7\n", "s\t0\t1\t0\n"];
+        assert_eq!(both_texts(b"q\t2\ne\t1\t0\nr\t1\t500\nr\t0\t7\nr\t1\t65036\n"), texts);
+    }
+
+    #[test]
+    fn none_without_a_cnot() {
+        assert_eq!([depth(&[]), depth(&[Rot(0, 1), Rot(0, 2), X(0), X(1)])], [0, 0]);
+    }
+
+    #[test]
+    fn the_earliest_layer() {
+        // The third CNOT lies beside the first, though the second layer is there already.
+        assert_eq!(depth(&[Cnot(0, 1), Cnot(2, 1), Cnot(3, 4), Cnot(4, 3)]), 2);
+        // Here it shares a qubit with the second.
+        assert_eq!(depth(&[Cnot(0, 1), Cnot(2, 1), Cnot(3, 2), Cnot(4, 3)]), 4);
+    }
+}
+
+#[cfg(test)]
 mod flips {
     use super::*;
 
     #[test]
     fn a_rotation_between_two_flips() {
-        let texts = ["q\t1\nr\t0\t65531\n", "s\t0\t1\t1\n", "p\t5\n"];
+        let texts = ["q\t1\nr\t0\t65531\n", "s\t0\t1\t0\n", "p\t5\n"];
         assert_eq!(all_texts(b"q\t1\nn\t0\nr\t0\t5\nn\t0\n"), texts);
     }
 
@@ -980,7 +1006,7 @@ mod flips {
 
     #[test]
     fn island_by_island() {
-        let texts = ["q\t3\ne\t0\t2\nn\t0\nn\t2\nr\t1\t7\nn\t1\n", "s\t0\t1\t1\n", ""];
+        let texts = ["q\t3\ne\t0\t2\nn\t0\nn\t2\nr\t1\t7\nn\t1\n", "s\t0\t1\t0\n", ""];
         assert_eq!(all_texts(b"q\t3\ne\t2\t0\nr\t1\t7\nn\t2\nn\t1\nn\t0\n"), texts);
     }
 

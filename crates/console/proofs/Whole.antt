@@ -5,7 +5,7 @@ use mathlib.Core.List.{List, [], _∷_, map}
 use Prim.Native.Nat.{ℕ, _+_, _^_, _≤_, _<_}
 use native.Mathlib.Omega.{arith}
 use lib.Dec.{leb}
-use lib.ListN.{length, replicate, length-map}
+use lib.ListN.{length, length-map}
 use borrow.Author.Tests.{le-leb}
 use Rattle.sets.specs.Pick.{pick}
 use Rattle.gates.specs.declared.gate.Gate.{Gate}
@@ -16,9 +16,9 @@ use Rattle.verdicts.specs.declared.verdict.Verdict.the-variants.{Accepted, Qubi
 use Rattle.verdicts.specs.Verdicts.{numberOf, placeOf}
 use Rattle.verdicts.specs.Rows.{Passes1}
 use Rattle.verdicts.proofs.Rows.{test-passed, tests-1}
-use Rattle.tallies.specs.Tally.{oneCnot, oneRotation, cnotsOf, rotationsOf, layered, layersFrom, highest, depthOf, boundOf, largest}
+use Rattle.tallies.specs.Tally.{oneCnot, oneRotation, cnotsOf, rotationsOf, depthOf, boundOf, largest}
 use Rattle.tallies.proofs.Tallies.{tally-bounded, one-cnot, one-rotation}
-use Rattle.tallies.proofs.Layers.{highest-layered, highest-none}
+use Rattle.tallies.proofs.DepthLaws.{depth-few}
 use Rattle.chip.specs.Couplers.{nearOf}
 use Rattle.chip.specs.Ordered.{orderedList}
 use Rattle.chip.proofs.Order.{ordered-few}
@@ -78,15 +78,6 @@ module _ (out out′ : List ℕ) (n : ℕ) (lent : length out ≡ mostPrinted) w
 
 -- ---- no count of a list of gates is larger than the list
 
-layers-most : (gs : List Gate) (L : List ℕ) → highest (layersFrom gs L) ≤ length gs + highest L
-unfolding layersFrom
-layers-most [] L = omega arith
-layers-most (g ∷ gs) L = omega (arith, layers-most gs (layered g L), highest-layered g L)
-
-depth-most : (gs : List Gate) → depthOf gs ≤ length gs
-unfolding depthOf
-depth-most gs = omega (arith, layers-most gs (replicate mostQubits 0), highest-none mostQubits)
-
 cnots-most : (gs : List Gate) → cnotsOf gs ≤ length gs
 unfolding cnotsOf
 cnots-most gs = tally-bounded oneCnot one-cnot gs
@@ -123,7 +114,7 @@ module _ (n : ℕ) (xs ys : List ℕ) (e : numberOf (verdictOf n xs ys largest) 
   unfolding boundOf
   counts-fits =
       counts-fit (cnotsOf circuit) (rotationsOf circuit) (depthOf circuit) (omega (arith, short, cnots-most circuit)) (omega (arith, short, rotations-most circuit))
-      (omega (arith, short, depth-most circuit))
+      (omega (arith, short, cnots-most circuit, depth-few circuit))
 
   pub writer-accepts : numberOf (judgedText n es gs mostPrinted) ≡ 0
   writer-accepts =

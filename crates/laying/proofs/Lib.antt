@@ -26,4 +26,5 @@ pub mod Rows
 pub mod Archive
 pub mod Without
 pub mod Enough
+pub mod Depth
 pub mod Examples

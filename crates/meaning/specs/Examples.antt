@@ -38,7 +38,7 @@ records5 = cnotRecord 0 2 ∷ rotationRecord 2 40 ∷ cnotRecord 0 2 ∷ []
 abbrev pub records6 : List ℕ
 records6 = cnotRecord 0 2 ∷ rotationRecord 2 40 ∷ rotationRecord 2 65496 ∷ cnotRecord 0 2 ∷ []
 
--- 10. "depth of CNOT 0-1, rotation on 1, CNOT 0-1: 3."
+-- 10. "depth of CNOT 0-1, rotation on 1, CNOT 0-1", where only CNOTs take a layer: "the answer is 2"
 abbrev pub gates10 : List Gate
 gates10 = gatesOf 2 (cnotRecord 0 1 ∷ rotationRecord 1 1 ∷ cnotRecord 0 1 ∷ [])
 
@@ -68,8 +68,8 @@ meaningExamples =
     ∷ record { number = 5; says = (sumOf 5 (gatesOf 3 records5) ≡ 40) × (terms (gatesOf 3 records5) ≡ 5 ∷ []) }
     ∷ record { number = 6; says = terms (gatesOf 3 records6) ≡ [] }
     ∷ record { number = 9; says = (boundOf 2 1 ≡ 9) × (boundOf 1 1 ≡ 2) × (boundOf 4 3 ≡ 49) × (boundOf 16 10 ≡ 806) × (boundOf 20 256 ≡ 10764) }
-    ∷ record { number = 10; says = depthOf gates10 ≡ 3 }
-    ∷ record { number = 12; says = (sumOf 1 gates12 ≡ 65531) × (phaseOf gates12 ≡ 5) × (flipOf gates12 0 ≡ 0) × (depthOf gates12 ≡ 1) }
+    ∷ record { number = 10; says = depthOf gates10 ≡ 2 }
+    ∷ record { number = 12; says = (sumOf 1 gates12 ≡ 65531) × (phaseOf gates12 ≡ 5) × (flipOf gates12 0 ≡ 0) × (depthOf gates12 ≡ 0) }
     ∷ record { number = 13; says = (flipOf gates13 0 ≡ 1) × (flipOf gates13 1 ≡ 1) × (finalOf gates13 1 ≡ 3) }
     ∷ record { number = 14; says = (flipOf gates14 0 ≡ 0) × (terms gates14 ≡ []) × (phaseOf gates14 ≡ 0) × (depthOf gates14 ≡ 0) }
     ∷ []

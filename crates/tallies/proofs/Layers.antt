@@ -9,7 +9,7 @@ use lib.Seq.{drop-cons}
 use Rattle.gates.specs.declared.gate.Gate.{Gate}
 use Rattle.gates.specs.declared.gate.Gate.the-variants.{Cnot, Rotation, X, Bad}
 use Rattle.gates.specs.Layout.{gateOf, gatesOf}
-use Rattle.tallies.specs.Tally.{raised, layered, layersFrom, highest}
+use Rattle.tallies.specs.Tally.{oneCnot, raised, layered, layersFrom, highest}
 
 -- ---- the highest layer
 
@@ -31,11 +31,11 @@ highest-raised c t L =
     let k : ℕ = suc (max (getD L c 0) (getD L t 0)) in
     omega (arith, highest-at L c, highest-at L t, highest-set L c k, highest-set (set L c k) t k)
 
--- one gate adds one layer at most
-pub highest-layered : (g : Gate) (L : List ℕ) → highest (layered g L) ≤ suc (highest L)
+-- a CNOT adds one layer at most, any other gate none
+pub highest-layered : (g : Gate) (L : List ℕ) → highest (layered g L) ≤ oneCnot g + highest L
 unfolding layered
-highest-layered (Cnot c t) L = highest-raised c t L
-highest-layered (Rotation q a) L = highest-raised q q L
+highest-layered (Cnot c t) L = omega (arith, highest-raised c t L)
+highest-layered (Rotation q a) L = omega arith
 highest-layered (X q) L = omega arith
 highest-layered Bad L = omega arith
 

@@ -1,2 +1,3 @@
 pub mod Tallies
 pub mod Layers
+pub mod DepthLaws

@@ -38,14 +38,14 @@ rotationsOf gs = tally oneRotation gs
 unfoldable pub xsOf : List Gate → ℕ
 xsOf gs = tally oneX gs
 
--- L is the layer of the last gate on each wire, 0 where it has none. A gate on the wires c and t goes one layer later than both
+-- L is the layer of the last CNOT on each wire, 0 where it has none. A CNOT on the wires c and t goes one layer later than both
 unfoldable pub raised : ℕ → ℕ → List ℕ → List ℕ
 raised c t L = set (set L c (suc (max (getD L c 0) (getD L t 0)))) t (suc (max (getD L c 0) (getD L t 0)))
 
--- "put each gate, in order, in the earliest layer later than every earlier gate that shares a qubit with it"; "the depth passes [an X] over"
+-- "put each gate, in order, in the earliest layer later than every earlier gate that shares a qubit with it", where "only CNOTs take a layer"
 unfoldable pub layered : Gate → List ℕ → List ℕ
 layered (Cnot c t) L = raised c t L
-layered (Rotation q a) L = raised q q L
+layered (Rotation q a) L = L
 layered (X q) L = L
 layered Bad L = L
 

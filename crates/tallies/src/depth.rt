@@ -1,4 +1,4 @@
-// The depth of a list of gates: how many layers its gates take.
+// The depth of a list of gates: how many layers its CNOTs take.
 use gates::gate;
 use gates::gate::Gate;
 use gates::job::Job;
@@ -8,7 +8,7 @@ ghost use lib.ListN.{getD, set};
 ghost use Rattle.gates.specs.Layout.{gatesOf};
 ghost use Rattle.tallies.specs.Tally.{raised, layered, highest, depthOf};
 
-// The layer of the last gate on each wire, 0 where there is none yet.
+// The layer of the last CNOT on each wire, 0 where there is none yet.
 struct Layers {
     last: [usize; Job::QUBITS],
 }
@@ -35,7 +35,7 @@ fn later(a: usize, b: usize) -> usize
     if a < b { b } else { a }
 }
 
-// The layers after a gate on the wires c and t.
+// The layers after a CNOT on the wires c and t.
 fn raise(layers: [usize; Job::QUBITS], c: usize, t: usize) -> [usize; Job::QUBITS]
     requires { ⌜ highest layers < 18446744073709551615 ⌝ }
     ensures { λ r. ⌜ r ≡ raised c t layers ⌝ }
@@ -54,9 +54,7 @@ impl Layers {
             Gate::Cnot { control, target } => Layers {
                 last: raise(last, control, target),
             },
-            Gate::Rotation { qubit, angle: _ } => Layers {
-                last: raise(last, qubit, qubit),
-            },
+            Gate::Rotation { qubit: _, angle: _ } => self,
             Gate::X { qubit: _ } => self,
             Gate::Bad => self,
         }

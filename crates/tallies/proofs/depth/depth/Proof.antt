@@ -8,6 +8,7 @@ use lib.ListN.{length, drop, replicate}
 use Rattle.gates.specs.declared.gate.Gate.{Gate}
 use Rattle.gates.specs.Layout.{gatesOf}
 use Rattle.tallies.specs.Tally.{layered, layersFrom, highest, depthOf}
+use Rattle.tallies.proofs.Tallies.{one-cnot}
 use Rattle.tallies.proofs.Layers.{highest-none, highest-layered, layers-step, layers-end}
 use borrow.Author.Needs.{needs}
 use Rattle.tallies.proofs.depth.depth.Statement.{statement}
@@ -47,7 +48,7 @@ loop-again c =
     let a = c .before .before .before .before .before .before .args in
     let e = c .feed .ensures ∙ ap (λ (g : Gate). layered g (at .layers .last)) (c .before .decode .ensures) in (
       search needs,
-      omega (arith, ap highest (c .feed .ensures), highest-layered (c .before .decode .result) (at .layers .last), at .inv .1),
+      omega (arith, ap highest (c .feed .ensures), highest-layered (c .before .decode .result) (at .layers .last), one-cnot (c .before .decode .result), at .inv .1),
       ap (λ (L : List ℕ). layersFrom (gatesOf (a .n) (drop (at .i + 1) (a .records .now))) L) e
           ∙ sym (layers-step (a .n) (a .records .now) (at .i) (at .layers .last) (search needs)) ∙ at .inv .2,
     )

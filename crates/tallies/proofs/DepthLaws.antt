@@ -1,0 +1,148 @@
+-- The laws of depth: it is 0 exactly where no CNOT is, at most the number of CNOTs, the same with and without any other gate, and no part of a list is deeper than the list. Assumes nothing.
+use mathlib.Core.Path.{_≡_, refl, sym, ap, subst}
+use mathlib.Core.Logic.{_↔_}
+use mathlib.Core.List.{List, [], _∷_, _++_}
+use Prim.Native.Nat.{ℕ, zero, suc, _+_, _≤_, _<_, max}
+use native.Mathlib.Nat.{le-refl}
+use native.Mathlib.Omega.{arith}
+use lib.ListN.{length, getD, set, replicate, length-set}
+use lib.Seq.{getD-set-same, set-getD}
+use Rattle.gates.specs.Limits.{mostQubits}
+use Rattle.gates.specs.declared.gate.Gate.{Gate}
+use Rattle.gates.specs.declared.gate.Gate.the-variants.{Cnot, Rotation, X, Bad}
+use Rattle.gates.specs.Layout.{Good}
+use Rattle.gates.specs.All.{All}
+use Rattle.tallies.specs.Tally.{tally, oneCnot, cnotsOf, raised, layered, layersFrom, highest, depthOf}
+use Rattle.tallies.specs.Part.{Part, none, with, without}
+use Rattle.tallies.proofs.Layers.{highest-at, highest-layered, highest-none}
+
+-- ---- at most the number of CNOTs
+
+layers-few : (gs : List Gate) (L : List ℕ) → highest (layersFrom gs L) ≤ cnotsOf gs + highest L
+unfolding layersFrom cnotsOf tally
+layers-few [] L = omega arith
+layers-few (g ∷ gs) L = omega (arith, layers-few gs (layered g L), highest-layered g L)
+
+pub depth-few : (gs : List Gate) → depthOf gs ≤ cnotsOf gs
+unfolding depthOf
+depth-few gs = omega (arith, layers-few gs (replicate mostQubits 0), highest-none mostQubits)
+
+-- ---- a gate that is no CNOT changes nothing, wherever it stands
+
+layered-passes : (g : Gate) (L : List ℕ) → oneCnot g ≡ 0 → layered g L ≡ L
+unfolding layered
+layered-passes (Cnot c t) L e = absurd (omega (arith, e))
+layered-passes (Rotation q a) L e = refl
+layered-passes (X q) L e = refl
+layered-passes Bad L e = refl
+
+layers-pass : (f : List Gate) (g : Gate) (h : List Gate) (L : List ℕ) → oneCnot g ≡ 0 → layersFrom (f ++ g ∷ h) L ≡ layersFrom (f ++ h) L
+unfolding layersFrom
+layers-pass [] g h L e = ap (layersFrom h) (layered-passes g L e)
+layers-pass (x ∷ f) g h L e = layers-pass f g h (layered x L) e
+
+-- "a Z rotation on this chip takes no time"; an X is passed over too
+pub depth-passes : (f : List Gate) (g : Gate) (h : List Gate) → oneCnot g ≡ 0 → depthOf (f ++ g ∷ h) ≡ depthOf (f ++ h)
+unfolding depthOf
+depth-passes f g h e = ap highest (layers-pass f g h (replicate mostQubits 0) e)
+
+-- ---- what stands between two lists is a part of all three
+
+part-none : (h : List Gate) → Part [] h
+part-none [] = none
+part-none (x ∷ h) = without x (part-none h)
+
+part-front : (g h : List Gate) → Part g (g ++ h)
+part-front [] h = part-none h
+part-front (x ∷ g) h = with x (part-front g h)
+
+pub part-between : (f g h : List Gate) → Part g (f ++ g ++ h)
+part-between [] g h = part-front g h
+part-between (x ∷ f) g h = without x (part-between f g h)
+
+-- ---- no part is deeper than the whole
+
+-- on no wire are the layers L later than the layers M
+data Below : List ℕ → List ℕ → Type 0 where
+  nowhere : Below [] []
+  here : {x y : ℕ} {L M : List ℕ} → x ≤ y → Below L M → Below (x ∷ L) (y ∷ M)
+
+below-same : (L : List ℕ) → Below L L
+below-same [] = nowhere
+below-same (x ∷ L) = here (le-refl x) (below-same L)
+
+below-at : {L M : List ℕ} → Below L M → (k : ℕ) → getD L k 0 ≤ getD M k 0
+below-at nowhere k = omega arith
+below-at (here h b) zero = h
+below-at (here h b) (suc k) = below-at b k
+
+below-highest : {L M : List ℕ} → Below L M → highest L ≤ highest M
+unfolding highest
+below-highest nowhere = omega arith
+below-highest (here h b) = omega (arith, h, below-highest b)
+
+below-set : {L M : List ℕ} (k v w : ℕ) → Below L M → v ≤ w → Below (set L k v) (set M k w)
+below-set k v w nowhere l = nowhere
+below-set zero v w (here h b) l = here l b
+below-set (suc k) v w (here h b) l = here h (below-set k v w b l)
+
+below-put : {L M : List ℕ} (k w : ℕ) → Below L M → getD L k 0 ≤ w → Below L (set M k w)
+below-put {L} {M} k w b l = subst (λ (N : List ℕ). Below N (set M k w)) (set-getD L k 0) (below-set k (getD L k 0) w b l)
+
+-- a gate keeps the order of the layers it finds
+below-layered : {L M : List ℕ} (g : Gate) → Below L M → Below (layered g L) (layered g M)
+unfolding layered raised
+below-layered {L} {M} (Cnot c t) b =
+    let v : ℕ = suc (max (getD L c 0) (getD L t 0)) in
+    let w : ℕ = suc (max (getD M c 0) (getD M t 0)) in
+    let l : v ≤ w = omega (arith, below-at b c, below-at b t) in
+    below-set t v w (below-set c v w b l) l
+below-layered (Rotation q a) b = b
+below-layered (X q) b = b
+below-layered Bad b = b
+
+-- no gate makes a layer earlier
+below-later : {L M : List ℕ} (g : Gate) → Below L M → Below L (layered g M)
+unfolding layered raised
+below-later {L} {M} (Cnot c t) b =
+    let w : ℕ = suc (max (getD M c 0) (getD M t 0)) in
+    below-put t w (below-put c w b (omega (arith, below-at b c))) (omega (arith, below-at b t))
+below-later (Rotation q a) b = b
+below-later (X q) b = b
+below-later Bad b = b
+
+layers-part : {part gs : List Gate} {L M : List ℕ} → Part part gs → Below L M → Below (layersFrom part L) (layersFrom gs M)
+unfolding layersFrom
+layers-part none b = b
+layers-part (with g p) b = layers-part p (below-layered g b)
+layers-part (without g p) b = layers-part p (below-later g b)
+
+pub depth-part : {part gs : List Gate} → Part part gs → depthOf part ≤ depthOf gs
+unfolding depthOf
+depth-part p = below-highest (layers-part p (below-same (replicate mostQubits 0)))
+
+-- ---- 0 exactly where no CNOT is
+
+highest-later : (gs : List Gate) (L : List ℕ) → highest L ≤ highest (layersFrom gs L)
+unfolding layersFrom
+highest-later gs L = below-highest (layers-part (part-none gs) (below-same L))
+
+-- the target of a CNOT is in a layer
+highest-cnot : (c t : ℕ) (L : List ℕ) → t < length L → 1 ≤ highest (layered (Cnot c t) L)
+unfolding layered raised
+highest-cnot c t L l =
+    let v : ℕ = suc (max (getD L c 0) (getD L t 0)) in
+    let M : List ℕ = set L c v in
+    omega (arith, highest-at (set M t v) t, getD-set-same M t v 0 (subst (λ (k : ℕ). t < k) (sym (length-set L c v)) l))
+
+cnot-deep : (gs : List Gate) (L : List ℕ) → length L ≡ mostQubits → All (Good mostQubits) gs → highest (layersFrom gs L) ≡ 0 → cnotsOf gs ≡ 0
+unfolding layersFrom cnotsOf tally All Good layered
+cnot-deep [] L l a e = refl
+cnot-deep (Cnot c t ∷ gs) L l a e = omega (arith, e, highest-later gs (layered (Cnot c t) L), highest-cnot c t L (omega (arith, l, a .0 .1)))
+cnot-deep (Rotation q b ∷ gs) L l a e = omega (arith, cnot-deep gs L l (a .1) e)
+cnot-deep (X q ∷ gs) L l a e = omega (arith, cnot-deep gs L l (a .1) e)
+cnot-deep (Bad ∷ gs) L l a e = omega (arith, cnot-deep gs L l (a .1) e)
+
+pub depth-none : (gs : List Gate) → All (Good mostQubits) gs → depthOf gs ≡ 0 ↔ cnotsOf gs ≡ 0
+unfolding depthOf
+depth-none gs a = (cnot-deep gs (replicate mostQubits 0) refl a, λ e. omega (arith, e, depth-few gs))
