@@ -19,7 +19,7 @@ use Rattle.tallies.proofs.DepthLaws.{depth-none, depth-few}
 use Rattle.circuit.specs.Phase.{phaseOf}
 use Rattle.circuit.proofs.Wiring.{good-up}
 use Rattle.laying.specs.declared.lay.Answer.{Answer}
-use Rattle.laying.specs.declared.lay.Answer.the-variants.{Laid, Refused}
+use Rattle.laying.specs.declared.lay.Answer.the-variants.{Refused}
 use Rattle.laying.specs.Verdict.{verdictOf, circuitOf, countsOf, answered, cnotsIn, depthIn}
 use Rattle.laying.proofs.Accepting.{job-layable}
 use Rattle.laying.proofs.Demands.{accepted-job, demand-2}

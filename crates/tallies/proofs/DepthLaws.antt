@@ -1,4 +1,4 @@
--- The laws of depth: it is 0 exactly where no CNOT is, at most the number of CNOTs, the same with and without any other gate, and no part of a list is deeper than the list. Assumes nothing.
+-- The laws of depth: 0 exactly when there is no CNOT, at most the number of CNOTs, the same with and without any other gate; and no part of a list is deeper than the list. Assumes nothing.
 use mathlib.Core.Path.{_≡_, refl, sym, ap, subst}
 use mathlib.Core.Logic.{_↔_}
 use mathlib.Core.List.{List, [], _∷_, _++_}
@@ -64,27 +64,27 @@ part-between (x ∷ f) g h = without x (part-between f g h)
 
 -- on no wire are the layers L later than the layers M
 data Below : List ℕ → List ℕ → Type 0 where
-  nowhere : Below [] []
-  here : {x y : ℕ} {L M : List ℕ} → x ≤ y → Below L M → Below (x ∷ L) (y ∷ M)
+  no-wire : Below [] []
+  wire : {x y : ℕ} {L M : List ℕ} → x ≤ y → Below L M → Below (x ∷ L) (y ∷ M)
 
 below-same : (L : List ℕ) → Below L L
-below-same [] = nowhere
-below-same (x ∷ L) = here (le-refl x) (below-same L)
+below-same [] = no-wire
+below-same (x ∷ L) = wire (le-refl x) (below-same L)
 
 below-at : {L M : List ℕ} → Below L M → (k : ℕ) → getD L k 0 ≤ getD M k 0
-below-at nowhere k = omega arith
-below-at (here h b) zero = h
-below-at (here h b) (suc k) = below-at b k
+below-at no-wire k = omega arith
+below-at (wire h b) zero = h
+below-at (wire h b) (suc k) = below-at b k
 
 below-highest : {L M : List ℕ} → Below L M → highest L ≤ highest M
 unfolding highest
-below-highest nowhere = omega arith
-below-highest (here h b) = omega (arith, h, below-highest b)
+below-highest no-wire = omega arith
+below-highest (wire h b) = omega (arith, h, below-highest b)
 
 below-set : {L M : List ℕ} (k v w : ℕ) → Below L M → v ≤ w → Below (set L k v) (set M k w)
-below-set k v w nowhere l = nowhere
-below-set zero v w (here h b) l = here l b
-below-set (suc k) v w (here h b) l = here h (below-set k v w b l)
+below-set k v w no-wire l = no-wire
+below-set zero v w (wire h b) l = wire l b
+below-set (suc k) v w (wire h b) l = wire h (below-set k v w b l)
 
 below-put : {L M : List ℕ} (k w : ℕ) → Below L M → getD L k 0 ≤ w → Below L (set M k w)
 below-put {L} {M} k w b l = subst (λ (N : List ℕ). Below N (set M k w)) (set-getD L k 0) (below-set k (getD L k 0) w b l)
@@ -121,7 +121,7 @@ pub depth-part : {part gs : List Gate} → Part part gs → depthOf part ≤ dep
 unfolding depthOf
 depth-part p = below-highest (layers-part p (below-same (replicate mostQubits 0)))
 
--- ---- 0 exactly where no CNOT is
+-- ---- 0 exactly when there is no CNOT
 
 highest-later : (gs : List Gate) (L : List ℕ) → highest L ≤ highest (layersFrom gs L)
 unfolding layersFrom
