@@ -1,5 +1,5 @@
 //! The independent second program of Pikselvuo: it lays the same gates as the first one, from
-//! document 01, document 02's E2 and E3 and the page on laying alone. Text in, text out.
+//! document 01, document 02's E2, E3 and E12 and the page on laying alone. Text in, text out.
 //!
 //!     second lay     one job in, what the laying program prints out
 //!     second count   one job in, what the counting program prints out
@@ -34,8 +34,8 @@ struct Lent {
     text: usize,
 }
 
-/// By the laying and the counting program.
-const ENOUGH: Lent = Lent { couplers: 10_922, gates: 16_383, laid: 10_764, text: usize::MAX };
+/// By the laying and the counting program, which lay and print however much it is.
+const ENOUGH: Lent = Lent { couplers: 10_922, gates: 16_383, laid: usize::MAX, text: usize::MAX };
 
 /// By the program `scant`.
 const SCANT: Lent = Lent { couplers: 3, gates: 4, laid: 49, text: 29 };
@@ -47,6 +47,7 @@ enum Gate {
     Cnot(usize, usize),
     Rot(usize, u32),
     X(usize),
+    H(usize),
 }
 
 #[derive(Clone, Copy, PartialEq, Debug)]
@@ -102,6 +103,7 @@ fn gate(letter: &[u8], fields: &[&[u8]]) -> Option<Gate> {
         b"c" => pair(fields).map(|(c, t)| Gate::Cnot(c, t)),
         b"r" => pair(fields).map(|(q, angle)| Gate::Rot(q, angle as u32)),
         b"n" => single(fields).map(Gate::X),
+        b"h" => single(fields).map(Gate::H),
         _ => None,
     }
 }
@@ -278,8 +280,33 @@ impl Walk {
     }
 }
 
+// ---------------------------------------------------------------- stretches
+
+/// What stands between two Hadamards, and the place in the job's list at which it starts.
+struct Stretch<'a> {
+    start: usize,
+    gates: &'a [Gate],
+}
+
+fn is_hadamard(gate: &Gate) -> bool {
+    matches!(gate, Gate::H(_))
+}
+
+/// Each Hadamard ends the stretch on all wires: there is one stretch more than Hadamards, and any of
+/// them may be empty.
+fn stretches_of(gates: &[Gate]) -> Vec<Stretch<'_>> {
+    let mut start = 0;
+    let stretch = |gates: &'_ [Gate]| {
+        let end = start + gates.len();
+        let here = std::mem::replace(&mut start, end + 1);
+        (here, end)
+    };
+    gates.split(is_hadamard).map(stretch).map(|(start, end)| Stretch { start, gates: &gates[start..end] }).collect()
+}
+
 // ---------------------------------------------------------------- meaning
 
+/// What one stretch means; nothing is carried over a Hadamard.
 struct Meaning {
     parity: [u32; MOST_QUBITS],
     mirror: [u32; MOST_QUBITS],
@@ -292,11 +319,11 @@ struct Meaning {
 
 impl Meaning {
     /// Refuses with 6 at the gate that brings one parity too many.
-    fn of(gates: &[Gate]) -> Result<Meaning, Refusal> {
+    fn of(stretch: &Stretch) -> Result<Meaning, Refusal> {
         let wires: [u32; MOST_QUBITS] = std::array::from_fn(|i| 1 << i);
         let flip = [false; MOST_QUBITS];
         let mut meaning = Meaning { parity: wires, mirror: wires, flip, sums: BTreeMap::new(), phase: 0 };
-        for (place, &gate) in gates.iter().enumerate() {
+        for (place, &gate) in (stretch.start..).zip(stretch.gates) {
             match gate {
                 Gate::Cnot(c, t) => {
                     meaning.parity[t] ^= meaning.parity[c];
@@ -305,6 +332,7 @@ impl Meaning {
                 }
                 Gate::Rot(q, angle) => meaning.rotate(q, angle),
                 Gate::X(q) => meaning.flip[q] ^= true,
+                Gate::H(_) => unreachable!("a Hadamard stands between stretches"),
             }
             if meaning.sums.len() > MOST_PARITIES {
                 return refuse(6, place);
@@ -335,7 +363,7 @@ impl Meaning {
 fn gate_fits(gate: Gate, n: usize) -> bool {
     match gate {
         Gate::Cnot(c, t) => c < n && t < n && c != t,
-        Gate::Rot(q, _) | Gate::X(q) => q < n,
+        Gate::Rot(q, _) | Gate::X(q) | Gate::H(q) => q < n,
     }
 }
 
@@ -366,31 +394,39 @@ fn test_gates(job: &Job) -> Result<(), Refusal> {
     Ok(())
 }
 
-/// Test 7.
-fn test_reachable(n: usize, meaning: &Meaning, islands: &[u32]) -> Result<(), Refusal> {
+/// The lowest wire whose final parity leaves its island, n where only a term does.
+fn astray(n: usize, meaning: &Meaning, islands: &[u32]) -> Option<usize> {
     let inside = |set: u32, island: u32| set & !island == 0;
     for wire in 0..n {
         let own = islands.iter().find(|&&island| holds(island, wire)).unwrap();
         if !inside(meaning.parity[wire], *own) {
-            return refuse(7, wire);
+            return Some(wire);
         }
     }
-    for (term, _) in meaning.terms() {
-        if !islands.iter().any(|&island| inside(term, island)) {
-            return refuse(7, n);
+    let scattered = |term: u32| !islands.iter().any(|&island| inside(term, island));
+    meaning.terms().any(|(term, _)| scattered(term)).then_some(n)
+}
+
+/// Test 7 of a job. Where it has Hadamards, the place is that of the stretch's first gate.
+fn test_reachable(n: usize, stretches: &[Stretch], meanings: &[Meaning], islands: &[u32]) -> Result<(), Refusal> {
+    for (stretch, meaning) in stretches.iter().zip(meanings) {
+        if let Some(wire) = astray(n, meaning, islands) {
+            return refuse(7, if stretches.len() > 1 { stretch.start } else { wire });
         }
     }
     Ok(())
 }
 
-/// B, the output records that laying needs for t terms.
+/// The output records that laying needs for a stretch of t terms.
 fn bound(n: usize, t: usize) -> usize {
     2 * (n - 1) * t + t + 2 * n * (n - 1) + n
 }
 
-/// Test 8 of laying.
-fn test_output(n: usize, meaning: &Meaning, lent: &Lent) -> Result<(), Refusal> {
-    if lent.laid < bound(n, meaning.terms().count()) { refuse(8, 0) } else { Ok(()) }
+/// Test 8 of laying. B is that of all stretches and the Hadamards between them.
+fn test_output(n: usize, meanings: &[Meaning], lent: &Lent) -> Result<(), Refusal> {
+    let for_stretches: usize = meanings.iter().map(|meaning| bound(n, meaning.terms().count())).sum();
+    let hadamards = meanings.len() - 1;
+    if lent.laid < for_stretches + hadamards { refuse(8, 0) } else { Ok(()) }
 }
 
 // ---------------------------------------------------------------- sets of places
@@ -461,6 +497,13 @@ struct Island {
     /// (parity, sum) by ascending parity; the position is the column's place.
     terms: Vec<(u32, u32)>,
     asked: Asked,
+}
+
+impl Island {
+    /// Nothing is to be laid: no terms, and each wire bears what is asked.
+    fn is_idle(&self) -> bool {
+        self.terms.is_empty() && members(self.qubits).all(|q| self.asked.rows[q] == 1 << q)
+    }
 }
 
 /// The columns, kept as one row of places for each qubit: a CNOT then is one exclusive or.
@@ -716,6 +759,10 @@ fn island_of(qubits: u32, coupling: &Coupling, meaning: &Meaning) -> Island {
 }
 
 fn lay_island(island: &Island) -> Vec<Gate> {
+    // Both ways come to this too, but a job can have thousands of idle stretches.
+    if island.is_idle() {
+        return vec![];
+    }
     let by_steps = closed(island, steps(island));
     let by_nearness = closed(island, nearest_first(island));
     if by_nearness.len() < by_steps.len() { by_nearness } else { by_steps }
@@ -730,29 +777,42 @@ fn flips_of(qubits: u32, meaning: &Meaning) -> impl Iterator<Item = Gate> + '_ {
 #[derive(PartialEq, Debug)]
 struct Laid {
     gates: Vec<Gate>,
-    /// The job's common phase less that of the laid gates. They have none: a rotation is laid
-    /// before its island's first X.
+    /// The common phases of the job's stretches, added up, less those of the laid gates. These have
+    /// none: a rotation is laid before its island's first X.
     phase: u32,
+}
+
+fn lay_stretch(coupling: &Coupling, islands: &[u32], meaning: &Meaning) -> Vec<Gate> {
+    let mut gates = vec![];
+    for &qubits in islands {
+        gates.extend(lay_island(&island_of(qubits, coupling, meaning)));
+        gates.extend(flips_of(qubits, meaning));
+    }
+    gates
 }
 
 fn lay(job: &Job, lent: &Lent) -> Result<Laid, Refusal> {
     test_chip(job)?;
     test_length(job)?;
     test_gates(job)?;
-    let meaning = Meaning::of(&job.gates)?;
+    let stretches = stretches_of(&job.gates);
+    let meanings = stretches.iter().map(Meaning::of).collect::<Result<Vec<_>, _>>()?;
     let coupling = Coupling::of(&job.couplers);
     let islands = coupling.islands(job.n);
-    test_reachable(job.n, &meaning, &islands)?;
-    test_output(job.n, &meaning, lent)?;
+    test_reachable(job.n, &stretches, &meanings, &islands)?;
+    test_output(job.n, &meanings, lent)?;
+    let mut hadamards = job.gates.iter().copied().filter(is_hadamard);
     let mut gates = vec![];
-    for qubits in islands {
-        gates.extend(lay_island(&island_of(qubits, &coupling, &meaning)));
-        gates.extend(flips_of(qubits, &meaning));
+    for meaning in &meanings {
+        gates.extend(lay_stretch(&coupling, &islands, meaning));
+        // None is left behind the last stretch.
+        gates.extend(hadamards.next());
     }
-    Ok(Laid { gates, phase: meaning.phase })
+    let phase = meanings.iter().map(|meaning| meaning.phase).sum::<u32>() % FULL_TURN;
+    Ok(Laid { gates, phase })
 }
 
-/// Only CNOTs take a layer; rotations and X gates are passed over.
+/// Only CNOTs take a layer; all other gates are passed over, Hadamards too.
 fn depth(gates: &[Gate]) -> usize {
     let mut busy_to = [0; MOST_QUBITS];
     for (c, t) in cnots_of(gates) {
@@ -776,6 +836,7 @@ fn job_text(n: usize, couplers: &[(usize, usize)], gates: &[Gate]) -> String {
             Gate::Cnot(c, t) => format!("c\t{c}\t{t}\n"),
             Gate::Rot(q, angle) => format!("r\t{q}\t{angle}\n"),
             Gate::X(q) => format!("n\t{q}\n"),
+            Gate::H(q) => format!("h\t{q}\n"),
         };
     }
     text
@@ -914,7 +975,8 @@ mod worked_example {
 
     fn island() -> Island {
         let job = read_job(JOB, &ENOUGH).unwrap();
-        island_of(15, &Coupling::of(&job.couplers), &Meaning::of(&job.gates).unwrap())
+        let stretches = stretches_of(&job.gates);
+        island_of(15, &Coupling::of(&job.couplers), &Meaning::of(&stretches[0]).unwrap())
     }
 
     #[test]
@@ -947,7 +1009,7 @@ mod too_little_lent {
 
     #[test]
     fn the_bound() {
-        assert_eq!([bound(2, 1), bound(4, 3), bound(3, 7), bound(20, 256)], [9, SCANT.laid, 50, ENOUGH.laid]);
+        assert_eq!([bound(2, 1), bound(4, 3), bound(3, 7), bound(20, 256)], [9, SCANT.laid, 50, 10_764]);
     }
 
     #[test]
