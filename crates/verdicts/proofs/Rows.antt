@@ -1,26 +1,27 @@
 -- Rows of the table: a test decides one row, and tests in order decide theirs one behind another. Assumes nothing.
 use mathlib.Core.Path.{_≡_, refl, sym, ap, _∙_, subst}
 use mathlib.Core.Logic.{_≢_, _⊎_, inl, inr}
-use mathlib.Core.Bool.{Bool, true, false}
+use mathlib.Core.Bool.{Bool, true, false, not}
 use mathlib.Core.List.{List}
 use Prim.Native.Nat.{ℕ, _≤_, _<_}
 use native.Mathlib.Omega.{arith}
 use lib.Dec.{eqb, leb, ltb}
 use lib.ListN.{length, getD}
-use borrow.Author.Tests.{ltb-true, ltb-false, leb-true, leb-false, eqb-true, eqb-false}
+use borrow.Author.Tests.{ltb-true, ltb-false, leb-true, leb-false, eqb-true, eqb-false, not-true}
 use Rattle.sets.specs.Pick.{pick, both}
 use Rattle.sets.proofs.Finding.{first-true, first-before}
-use Rattle.sets.proofs.Deciding.{never}
+use Rattle.sets.proofs.Deciding.{never, both-true}
 use Rattle.gates.specs.Limits.{mostQubits, mostCouplers}
 use Rattle.gates.specs.Layout.{kindIn, aIn, bIn, gateOf, cnotOf, rotationOf, xOf, isBad, couplerOf, isWrong}
+use Rattle.gates.specs.Hadamards.{isHadamard}
 use Rattle.gates.specs.declared.gate.Gate.{Gate}
 use Rattle.gates.specs.declared.gate.Gate.the-variants.{Cnot, Rotation, X, Bad}
 use Rattle.gates.specs.declared.coupler.Coupler.the-variants.{Ends, Wrong}
 use Rattle.verdicts.specs.declared.verdict.Verdict.{Verdict}
 use Rattle.verdicts.specs.declared.verdict.Verdict.the-variants.{Accepted, Qubits, ManyCouplers, WrongCoupler, BadGate}
-use Rattle.verdicts.specs.Verdicts.{numberOf, placeOf, firstFailing, judgedQubits, wrongAt, judgedCouplers, badAt, judgedGates}
+use Rattle.verdicts.specs.Verdicts.{numberOf, placeOf, firstFailing, judgedQubits, wrongAt, judgedCouplers, badAt, judgedGates, isNeither, neitherAt, judgedDrawn}
 use Rattle.verdicts.specs.InOrder.{andThen}
-use Rattle.verdicts.specs.Rows.{Row, Nowhere, Some, None, First, Passes1, Passes2, WrongRecord, Passes3, BadRecord, Passes5}
+use Rattle.verdicts.specs.Rows.{Row, Nowhere, Some, None, First, Passes1, Passes2, WrongRecord, Passes3, BadRecord, Passes5, BadDrawn, PassesDrawn}
 use Rattle.verdicts.proofs.Judged.{zero-accepted, then-on, then-stop}
 
 -- the verdict of a test: 0 where it is passed, else k; never both
@@ -245,6 +246,59 @@ module _ (n x : ℕ) where
       go true l′ m′ true true false z k l m q r t o e (inr (inr (inl (c, inr w)))) = eqb-false (aIn x) (bIn x) t w
       go true l′ m′ true true false z k l m q r t o e (inr (inr (inr w))) = omega (arith, w .0, eqb-true (kindIn x) 1 k)
 
+  -- a record that may be a Hadamard too
+
+  -- what is bad of a job is bad of a stretch
+  drawn-record : BadDrawn n x → BadRecord n x
+  drawn-record (inl (a, b, c, d)) = inl (a, b, c)
+  drawn-record (inr (inl w)) = inr (inl w)
+  drawn-record (inr (inr (inl w))) = inr (inr (inl w))
+  drawn-record (inr (inr (inr (inl k, z)))) = inr (inr (inr (k, z)))
+  drawn-record (inr (inr (inr (inr k, z)))) = inl (λ e. omega (arith, e, k), λ e. omega (arith, e, k), λ e. omega (arith, e, k))
+
+  -- what is bad of a stretch is bad of a job, or a Hadamard
+  record-drawn : BadRecord n x → isHadamard n x ≡ false → BadDrawn n x
+  unfolding isHadamard
+  record-drawn (inl (a, b, c)) e = go (eqb (kindIn x) 4) (ltb (aIn x) n) (eqb (bIn x) 0) refl refl refl e
+    where
+      go : (k q z : Bool) → eqb (kindIn x) 4 ≡ k → ltb (aIn x) n ≡ q → eqb (bIn x) 0 ≡ z → both k (both q z) ≡ false → BadDrawn n x
+      go false q z k l o e = inl (a, b, c, eqb-false (kindIn x) 4 k)
+      go true false z k l o e = inr (inl (ltb-false (aIn x) n l))
+      go true true false k l o e = inr (inr (inr (inr (eqb-true (kindIn x) 4 k), eqb-false (bIn x) 0 o)))
+      go true true true k l o e = absurd (never refl e)
+  record-drawn (inr (inl w)) e = inr (inl w)
+  record-drawn (inr (inr (inl w))) e = inr (inr (inl w))
+  record-drawn (inr (inr (inr (k, z)))) e = inr (inr (inr (inl k, z)))
+
+  -- a Hadamard is not bad of a job
+  hadamard-said : isHadamard n x ≡ true → BadDrawn n x → ⊥
+  unfolding isHadamard
+  hadamard-said e =
+      let h = both-true (eqb (kindIn x) 4) (both (ltb (aIn x) n) (eqb (bIn x) 0)) e in
+      let g = both-true (ltb (aIn x) n) (eqb (bIn x) 0) (h .1) in
+      go (eqb-true (kindIn x) 4 (h .0)) (ltb-true (aIn x) n (g .0)) (eqb-true (bIn x) 0 (g .1))
+    where
+      go : kindIn x ≡ 4 → aIn x < n → bIn x ≡ 0 → BadDrawn n x → ⊥
+      go k l z (inl w) = w .3 k
+      go k l z (inr (inl w)) = omega (arith, w, l)
+      go k l z (inr (inr (inl w))) = omega (arith, w .0, k)
+      go k l z (inr (inr (inr w))) = w .1 z
+
+  neither-said : isNeither n x ≡ true → BadDrawn n x
+  unfolding isNeither
+  neither-said e =
+      let h = both-true (isBad (gateOf n x)) (not (isHadamard n x)) e in
+      record-drawn (bad-said (h .0)) (not-true (isHadamard n x) (h .1))
+
+  either-said : isNeither n x ≡ false → BadDrawn n x → ⊥
+  unfolding isNeither
+  either-said = go (isBad (gateOf n x)) (isHadamard n x) refl refl
+    where
+      go : (b h : Bool) → isBad (gateOf n x) ≡ b → isHadamard n x ≡ h → both b (not h) ≡ false → BadDrawn n x → ⊥
+      go false h b i e w = good-said b (drawn-record w)
+      go true true b i e w = hadamard-said i w
+      go true false b i e w = never refl e
+
 -- 2 and 3 apart
 
 abbrev pub judgedMany : List ℕ → Verdict
@@ -271,3 +325,7 @@ tests-3 n xs = first-tests (λ x. isWrong (couplerOf n x)) (WrongRecord n) (wron
 pub tests-5 : (n : ℕ) (xs : List ℕ) → Tests (judgedGates n xs) 5 (Passes5 n xs) (Some (BadRecord n) xs) (First (BadRecord n) xs)
 unfolding judgedGates badAt
 tests-5 n xs = first-tests (λ x. isBad (gateOf n x)) (BadRecord n) (bad-said n) (good-said n) xs 5 (BadGate (badAt n xs)) (omega arith) refl refl
+
+pub tests-drawn : (n : ℕ) (xs : List ℕ) → Tests (judgedDrawn n xs) 5 (PassesDrawn n xs) (Some (BadDrawn n) xs) (First (BadDrawn n) xs)
+unfolding judgedDrawn neitherAt
+tests-drawn n xs = first-tests (isNeither n) (BadDrawn n) (neither-said n) (either-said n) xs 5 (BadGate (neitherAt n xs)) (omega arith) refl refl

@@ -48,7 +48,7 @@ WrongRecord n x = (kindIn x ≢ 0) ⊎ ((n ≤ aIn x) ⊎ ((n ≤ bIn x) ⊎ (aI
 abbrev pub Passes3 : ℕ → List ℕ → Type 0
 Passes3 n couplers = None (WrongRecord n) couplers
 
--- 5: "a gate not of kind 1 or 2", nor of kind 3, "a qubit n or more, or control = target"; "5 covers an X with a bad qubit or b not 0"
+-- 5 of one stretch: "a gate not of kind 1 or 2", nor of kind 3, "a qubit n or more, or control = target"; "5 covers an X with a bad qubit or b not 0"
 abbrev pub BadRecord : ℕ → ℕ → Type 0
 BadRecord n x =
     ((kindIn x ≢ 1) × (kindIn x ≢ 2) × (kindIn x ≢ 3))
@@ -56,3 +56,12 @@ BadRecord n x =
 
 abbrev pub Passes5 : ℕ → List ℕ → Type 0
 Passes5 n gates = None (BadRecord n) gates
+
+-- 5 of a job, where a record may be a Hadamard too: "5 covers a bad Hadamard", "record kind 4 with b = 0"
+abbrev pub BadDrawn : ℕ → ℕ → Type 0
+BadDrawn n x =
+    ((kindIn x ≢ 1) × (kindIn x ≢ 2) × (kindIn x ≢ 3) × (kindIn x ≢ 4))
+    ⊎ ((n ≤ aIn x) ⊎ (((kindIn x ≡ 1) × ((n ≤ bIn x) ⊎ (aIn x ≡ bIn x))) ⊎ (((kindIn x ≡ 3) ⊎ (kindIn x ≡ 4)) × (bIn x ≢ 0))))
+
+abbrev pub PassesDrawn : ℕ → List ℕ → Type 0
+PassesDrawn n gates = None (BadDrawn n) gates

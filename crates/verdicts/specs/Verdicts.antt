@@ -1,5 +1,5 @@
 -- The table of document 01, "Records and refusals": number and place of each verdict, and the tests of a job's lists.
-use mathlib.Core.Bool.{Bool}
+use mathlib.Core.Bool.{Bool, not}
 use mathlib.Core.List.{List}
 use Prim.Native.Nat.{ℕ}
 use lib.Dec.{leb, ltb}
@@ -8,6 +8,7 @@ use Rattle.sets.specs.Pick.{pick, both}
 use Rattle.sets.specs.Search.{firstOf}
 use Rattle.gates.specs.Limits.{mostQubits, mostCouplers}
 use Rattle.gates.specs.Layout.{gateOf, isBad, couplerOf, isWrong}
+use Rattle.gates.specs.Hadamards.{isHadamard}
 use Rattle.verdicts.specs.declared.verdict.Verdict.{Verdict}
 use Rattle.verdicts.specs.declared.verdict.Verdict.the-variants.{Accepted, Qubits, ManyCouplers, WrongCoupler, ManyGates, BadGate, ManyParities, Unreachable, Room, Stuck, Line, LongText}
 
@@ -58,9 +59,20 @@ unfoldable pub judgedCouplers : ℕ → List ℕ → Verdict
 judgedCouplers n xs =
     pick (ltb mostCouplers (length xs)) ManyCouplers (pick (ltb (wrongAt n xs) (length xs)) (WrongCoupler (wrongAt n xs)) Accepted)
 
--- 5: "a gate not of kind 1 or 2" or 3, "a qubit n or more, or control = target", an X's "b not 0"; "first such"
+-- 5 of one stretch, in which a Hadamard is no gate: "a gate not of kind 1 or 2" or 3, "a qubit n or more, or control = target", an X's "b not 0"; "first such"
 unfoldable pub badAt : ℕ → List ℕ → ℕ
 badAt n xs = firstFailing (λ x. isBad (gateOf n x)) xs
 
 unfoldable pub judgedGates : ℕ → List ℕ → Verdict
 judgedGates n xs = pick (ltb (badAt n xs) (length xs)) (BadGate (badAt n xs)) Accepted
+
+-- a record that is neither a gate nor a Hadamard
+unfoldable pub isNeither : ℕ → ℕ → Bool
+isNeither n x = both (isBad (gateOf n x)) (not (isHadamard n x))
+
+-- 5 of a job, where Hadamards may stand between the gates: "5 covers a bad Hadamard"; "first such"
+unfoldable pub neitherAt : ℕ → List ℕ → ℕ
+neitherAt n xs = firstFailing (isNeither n) xs
+
+unfoldable pub judgedDrawn : ℕ → List ℕ → Verdict
+judgedDrawn n xs = pick (ltb (neitherAt n xs) (length xs)) (BadGate (neitherAt n xs)) Accepted

@@ -1,9 +1,10 @@
 // What an entry point says of its input: document 01's table, a row a case.
 use gates::coupler;
 use gates::gate;
+use gates::hadamard;
 use gates::job::Job;
 ghost use mathlib.Core.Path.{_≡_};
-ghost use Rattle.verdicts.specs.Verdicts.{numberOf, placeOf, judgedQubits, wrongAt, judgedCouplers, badAt, judgedGates};
+ghost use Rattle.verdicts.specs.Verdicts.{numberOf, placeOf, judgedQubits, wrongAt, judgedCouplers, badAt, judgedGates, isNeither, neitherAt, judgedDrawn};
 
 pub enum Verdict {
     Accepted,
@@ -109,13 +110,46 @@ fn bad_at(gates: &[u32], n: usize) -> usize
     gates.len()
 }
 
-// Test 5. (Test 4 counts gates only where they are laid.)
+// Test 5 of one stretch. (Test 4 counts gates only where they are laid.)
 pub fn judge_gates(gates: &[u32], n: usize) -> Verdict
     ensures { λ r. ⌜ r ≡ judgedGates n (now (gates .entry)) ⌝ }
 {
     let k = bad_at(gates, n);
     if k < gates.len() {
         return Verdict::BadGate(k);
+    }
+    Verdict::Accepted
+}
+
+// Whether a record is neither a gate nor a Hadamard.
+fn is_neither(x: u32, n: usize) -> bool
+    ensures { λ r. ⌜ r ≡ isNeither n x ⌝ }
+{
+    if gate::is_bad(gate::decode(x, n)) {
+        return !hadamard::is_hadamard(x, n);
+    }
+    false
+}
+
+// The first record that is neither; their number where none is.
+fn neither_at(gates: &[u32], n: usize) -> usize
+    ensures { λ r. ⌜ r ≡ neitherAt n (now (gates .entry)) ⌝ }
+{
+    for k in 0..gates.len() {
+        if is_neither(gates[k], n) {
+            return k;
+        }
+    }
+    gates.len()
+}
+
+// Test 5 of a job, in which Hadamards may stand between the gates.
+pub fn judge_drawn(gates: &[u32], n: usize) -> Verdict
+    ensures { λ r. ⌜ r ≡ judgedDrawn n (now (gates .entry)) ⌝ }
+{
+    let first = neither_at(gates, n);
+    if first < gates.len() {
+        return Verdict::BadGate(first);
     }
     Verdict::Accepted
 }
