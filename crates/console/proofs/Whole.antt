@@ -16,8 +16,8 @@ use Rattle.verdicts.specs.declared.verdict.Verdict.the-variants.{Accepted, Qubi
 use Rattle.verdicts.specs.Verdicts.{numberOf, placeOf}
 use Rattle.verdicts.specs.Rows.{Passes1}
 use Rattle.verdicts.proofs.Rows.{test-passed, tests-1}
-use Rattle.tallies.specs.Tally.{oneCnot, oneRotation, cnotsOf, rotationsOf, depthOf, boundOf, largest}
-use Rattle.tallies.proofs.Tallies.{tally-bounded, one-cnot, one-rotation}
+use Rattle.tallies.specs.Tally.{cnotsOf, rotationsOf, depthOf, boundOf, largest}
+use Rattle.tallies.proofs.Tallies.{cnots-most, rotations-most}
 use Rattle.tallies.proofs.DepthLaws.{depth-few}
 use Rattle.chip.specs.Couplers.{nearOf}
 use Rattle.chip.specs.Ordered.{orderedList}
@@ -75,16 +75,6 @@ module _ (out out′ : List ℕ) (n : ℕ) (lent : length out ≡ mostPrinted) w
   refusal-whole v k p e d h q =
       line-whole (refusalOf v) (refusal-fits v (omega arith))
       (subst (λ (s : List ℕ). (n ≡ lineLength s (length out)) × (out′ ≡ lineAfter s out)) (ap₂ refusalText e d) q)
-
--- ---- no count of a list of gates is larger than the list
-
-cnots-most : (gs : List Gate) → cnotsOf gs ≤ length gs
-unfolding cnotsOf
-cnots-most gs = tally-bounded oneCnot one-cnot gs
-
-rotations-most : (gs : List Gate) → rotationsOf gs ≤ length gs
-unfolding rotationsOf
-rotations-most gs = tally-bounded oneRotation one-rotation gs
 
 -- ---- an accepted job
 

@@ -14,6 +14,7 @@ use Rattle.gates.specs.Layout.{Good}
 use Rattle.gates.specs.All.{All}
 use Rattle.tallies.specs.Tally.{tally, oneCnot, cnotsOf, raised, layered, layersFrom, highest, depthOf}
 use Rattle.tallies.specs.Part.{Part, none, with, without}
+use Rattle.tallies.proofs.Tallies.{cnots-most}
 use Rattle.tallies.proofs.Layers.{highest-at, highest-layered, highest-none}
 
 -- ---- at most the number of CNOTs
@@ -22,6 +23,10 @@ layers-few : (gs : List Gate) (L : List ℕ) → highest (layersFrom gs L) ≤ c
 unfolding layersFrom cnotsOf tally
 layers-few [] L = omega arith
 layers-few (g ∷ gs) L = omega (arith, layers-few gs (layered g L), highest-layered g L)
+
+-- one more for each gate at most
+pub highest-layers : (gs : List Gate) (L : List ℕ) → highest (layersFrom gs L) ≤ highest L + length gs
+highest-layers gs L = omega (arith, layers-few gs L, cnots-most gs)
 
 pub depth-few : (gs : List Gate) → depthOf gs ≤ cnotsOf gs
 unfolding depthOf

@@ -1,3 +1,4 @@
 pub mod Tallies
 pub mod Layers
 pub mod DepthLaws
+pub mod InParts

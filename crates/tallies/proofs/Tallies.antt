@@ -69,6 +69,16 @@ one-rotation (Rotation q a) = omega arith
 one-rotation (X q) = omega arith
 one-rotation Bad = omega arith
 
+-- no count of a list of gates is larger than the list
+
+pub cnots-most : (gs : List Gate) → cnotsOf gs ≤ length gs
+unfolding cnotsOf
+cnots-most gs = tally-bounded oneCnot one-cnot gs
+
+pub rotations-most : (gs : List Gate) → rotationsOf gs ≤ length gs
+unfolding rotationsOf
+rotations-most gs = tally-bounded oneRotation one-rotation gs
+
 -- ---- as a loop counts: what is counted, and what is left
 
 abbrev pub left : (Gate → ℕ) → ℕ → List ℕ → ℕ → ℕ

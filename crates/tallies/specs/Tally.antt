@@ -1,7 +1,9 @@
 -- Counts, depth and the bound of a list of gates (document 01, "Records and refusals").
 use mathlib.Core.List.{List, [], _∷_}
 use Prim.Native.Nat.{ℕ, suc, _+_, _-_, _*_, max}
-use lib.ListN.{getD, set, replicate}
+use lib.Dec.{leb}
+use lib.ListN.{getD, length, set, replicate}
+use Rattle.sets.specs.Pick.{pick}
 use Rattle.gates.specs.Limits.{mostQubits, mostParities}
 use Rattle.gates.specs.declared.gate.Gate.{Gate}
 use Rattle.gates.specs.declared.gate.Gate.the-variants.{Cnot, Rotation, X, Bad}
@@ -56,6 +58,10 @@ layersFrom (g ∷ gs) L = layersFrom gs (layered g L)
 unfoldable pub highest : List ℕ → ℕ
 highest [] = 0
 highest (x ∷ xs) = max x (highest xs)
+
+-- the layers after more gates; where their number might not fit, as for no list that a memory holds, they stay as they were
+unfoldable pub layersAfter : List Gate → List ℕ → List ℕ
+layersAfter gs L = pick (leb (highest L + length gs) 18446744073709551615) (layersFrom gs L) L
 
 -- "the depth is the number of layers, 0 for no gates"
 unfoldable pub depthOf : List Gate → ℕ

@@ -3,13 +3,14 @@ use gates::gate;
 use gates::gate::Gate;
 use gates::job::Job;
 ghost use mathlib.Core.Path.{_≡_};
-ghost use Prim.Native.Nat.{_<_, max};
-ghost use lib.ListN.{getD, set};
+ghost use Prim.Native.Nat.{_+_, _<_, _≤_, max};
+ghost use lib.ListN.{getD, length, replicate, set};
 ghost use Rattle.gates.specs.Layout.{gatesOf};
-ghost use Rattle.tallies.specs.Tally.{raised, layered, highest, depthOf};
+ghost use Rattle.gates.specs.Limits.{mostQubits};
+ghost use Rattle.tallies.specs.Tally.{raised, layered, layersFrom, layersAfter, highest, depthOf};
 
 // The layer of the last CNOT on each wire, 0 where there is none yet.
-struct Layers {
+pub struct Layers {
     last: [usize; Job::QUBITS],
 }
 
@@ -44,7 +45,33 @@ fn raise(layers: [usize; Job::QUBITS], c: usize, t: usize) -> [usize; Job::QUBIT
     with_layer(with_layer(layers, c, k), t, k)
 }
 
+fn latest(layers: [usize; Job::QUBITS]) -> usize
+    ensures { λ r. ⌜ r ≡ highest layers ⌝ }
+{
+    let mut most: usize = 0;
+    for q in 0..Job::QUBITS {
+        most = later(most, layers[q]);
+    }
+    most
+}
+
 impl Layers {
+    // Before the first gate.
+    pub fn none() -> Layers
+        ensures { λ r. ⌜ r .last ≡ replicate mostQubits 0 ⌝ }
+    {
+        Layers {
+            last: [0; Job::QUBITS],
+        }
+    }
+
+    pub fn highest(self) -> usize
+        ensures { λ r. ⌜ r ≡ highest (self .last) ⌝ }
+    {
+        let last = self.last;
+        latest(last)
+    }
+
     fn feed(self, g: Gate) -> Layers
         requires { ⌜ highest (self .last) < 18446744073709551615 ⌝ }
         ensures { λ r. ⌜ r .last ≡ layered g (self .last) ⌝ }
@@ -59,25 +86,32 @@ impl Layers {
             Gate::Bad => self,
         }
     }
-}
 
-fn latest(layers: [usize; Job::QUBITS]) -> usize
-    ensures { λ r. ⌜ r ≡ highest layers ⌝ }
-{
-    let mut most: usize = 0;
-    for q in 0..Job::QUBITS {
-        most = later(most, layers[q]);
+    fn feed_all(self, records: &[u32], n: usize) -> Layers
+        requires { ⌜ highest (self .last) + length (now records) ≤ 18446744073709551615 ⌝ }
+        ensures { λ r. ⌜ r .last ≡ layersFrom (gatesOf n (now (records .entry))) (self .last) ⌝ }
+    {
+        let mut layers = self;
+        for i in 0..records.len() {
+            layers = layers.feed(gate::decode(records[i], n));
+        }
+        layers
     }
-    most
+
+    // The layers after more gates, so that a list can be handed over in parts.
+    pub fn fed(self, records: &[u32], n: usize) -> Layers
+        ensures { λ r. ⌜ r .last ≡ layersAfter (gatesOf n (now (records .entry))) (self .last) ⌝ }
+    {
+        if records.len() <= 18446744073709551615 - self.highest() {
+            self.feed_all(records, n)
+        } else {
+            self
+        }
+    }
 }
 
 pub fn depth(records: &[u32], n: usize) -> usize
     ensures { λ r. ⌜ r ≡ depthOf (gatesOf n (now (records .entry))) ⌝ }
 {
-    let mut layers = Layers { last: [0usize; 20] };
-    for i in 0..records.len() {
-        layers = layers.feed(gate::decode(records[i], n));
-    }
-    let last = layers.last;
-    latest(last)
+    Layers::none().feed_all(records, n).highest()
 }
