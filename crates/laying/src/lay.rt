@@ -78,7 +78,8 @@ fn lay_islands(n: usize, couplers: &[u32], gates: &[u32], out: &mut [u32]) -> Ou
     }
 }
 
-fn counted(laid: &[u32], n: usize, phase: u32) -> Answer
+// The counts of a list of laid records.
+pub fn counted(laid: &[u32], n: usize, phase: u32) -> Answer
     ensures { λ r. ⌜ r ≡ countsOf (gatesOf n (now (laid .entry))) phase ⌝ }
 {
     Answer::Laid {

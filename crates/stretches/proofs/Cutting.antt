@@ -1,0 +1,63 @@
+-- A list cut at some of its items: the first piece, and the rest behind the first such item. Assumes nothing.
+use mathlib.Core.Path.{_≡_, refl, sym, ap, _∙_}
+use mathlib.Core.Bool.{Bool, true, false}
+use mathlib.Core.List.{List, [], _∷_}
+use Prim.Native.Nat.{ℕ, suc, _≤_, _<_}
+use native.Mathlib.Omega.{arith}
+use lib.ListN.{length, getD, take, drop}
+use Rattle.sets.specs.Pick.{pick}
+use Rattle.stretches.specs.Cut.{firstAt, ahead, cutAt, those}
+
+module _ {A : Type 0} (h : A → Bool) where
+  pub first-le : (xs : List A) → firstAt h xs ≤ length xs
+  unfolding firstAt
+  first-le [] = omega arith
+  first-le (x ∷ xs) = go (h x) (first-le xs)
+    where
+      go : (b : Bool) → firstAt h xs ≤ length xs → pick b 0 (suc (firstAt h xs)) ≤ suc (length xs)
+      go true l = omega arith
+      go false l = omega arith
+
+  -- ---- no such item
+
+  pub cut-last : (xs : List A) → firstAt h xs ≡ length xs → cutAt h xs ≡ xs ∷ []
+  unfolding firstAt cutAt ahead
+  cut-last [] e = refl
+  cut-last (x ∷ xs) e = go (h x) (cut-last xs) e
+    where
+      go : (b : Bool) → (firstAt h xs ≡ length xs → cutAt h xs ≡ xs ∷ []) → pick b 0 (suc (firstAt h xs)) ≡ suc (length xs) → pick b ([] ∷ cutAt h xs) (ahead x (cutAt h xs)) ≡ (x ∷ xs) ∷ []
+      go true r e = absurd (omega arith)
+      go false r e = ap (ahead x) (r (omega arith))
+
+  pub those-last : (xs : List A) → firstAt h xs ≡ length xs → those h xs ≡ []
+  unfolding firstAt those
+  those-last [] e = refl
+  those-last (x ∷ xs) e = go (h x) (those-last xs) e
+    where
+      go : (b : Bool) → (firstAt h xs ≡ length xs → those h xs ≡ []) → pick b 0 (suc (firstAt h xs)) ≡ suc (length xs) → pick b (x ∷ those h xs) (those h xs) ≡ []
+      go true r e = absurd (omega arith)
+      go false r e = r (omega arith)
+
+  -- ---- one at the place f
+
+  pub cut-more : (xs : List A) (f : ℕ) → f ≡ firstAt h xs → f < length xs → cutAt h xs ≡ take f xs ∷ cutAt h (drop (suc f) xs)
+  unfolding firstAt cutAt ahead
+  cut-more [] f e l = absurd (omega arith)
+  cut-more (x ∷ xs) f e l = go (h x) (cut-more xs) f e l
+    where
+      go : (b : Bool) → ((g : ℕ) → g ≡ firstAt h xs → g < length xs → cutAt h xs ≡ take g xs ∷ cutAt h (drop (suc g) xs))
+          → (f : ℕ) → f ≡ pick b 0 (suc (firstAt h xs)) → f < suc (length xs)
+          → pick b ([] ∷ cutAt h xs) (ahead x (cutAt h xs)) ≡ take f (x ∷ xs) ∷ cutAt h (drop (suc f) (x ∷ xs))
+      go true r f e l = sym (ap (λ (k : ℕ). take k (x ∷ xs) ∷ cutAt h (drop (suc k) (x ∷ xs))) e)
+      go false r f e l = ap (ahead x) (r (firstAt h xs) refl (omega arith)) ∙ sym (ap (λ (k : ℕ). take k (x ∷ xs) ∷ cutAt h (drop (suc k) (x ∷ xs))) e)
+
+  pub those-more : (d : A) (xs : List A) (f : ℕ) → f ≡ firstAt h xs → f < length xs → those h xs ≡ getD xs f d ∷ those h (drop (suc f) xs)
+  unfolding firstAt those
+  those-more d [] f e l = absurd (omega arith)
+  those-more d (x ∷ xs) f e l = go (h x) (those-more d xs) f e l
+    where
+      go : (b : Bool) → ((g : ℕ) → g ≡ firstAt h xs → g < length xs → those h xs ≡ getD xs g d ∷ those h (drop (suc g) xs))
+          → (f : ℕ) → f ≡ pick b 0 (suc (firstAt h xs)) → f < suc (length xs)
+          → pick b (x ∷ those h xs) (those h xs) ≡ getD (x ∷ xs) f d ∷ those h (drop (suc f) (x ∷ xs))
+      go true r f e l = sym (ap (λ (k : ℕ). getD (x ∷ xs) k d ∷ those h (drop (suc k) (x ∷ xs))) e)
+      go false r f e l = r (firstAt h xs) refl (omega arith) ∙ sym (ap (λ (k : ℕ). getD (x ∷ xs) k d ∷ those h (drop (suc k) (x ∷ xs))) e)

@@ -1,0 +1,11 @@
+pub mod Eachs
+pub mod Cutting
+pub mod Going
+pub mod Parting
+pub mod Judging
+pub mod Passing
+pub mod Laying
+pub mod Answering
+pub mod Bounding
+pub mod Alone
+pub mod Drawing

@@ -1,0 +1,9 @@
+pub mod Cut
+pub mod Stretches
+pub mod Tests
+pub mod Asked
+pub mod Laid
+pub mod Parts
+pub mod Meaning
+pub mod Demands
+pub mod Rows
