@@ -2,14 +2,14 @@
 use mathlib.Core.Path.{_≡_, refl}
 use mathlib.Core.Logic.{_≢_}
 use mathlib.Core.Bool.{Bool, true, false}
-use mathlib.Core.List.{List}
+use mathlib.Core.List.{List, []}
 use Prim.Native.Nat.{ℕ, _+_, _-_, _*_, _^_, _≤_, _<_}
 use native.Mathlib.Omega.{arith}
 use lib.Dec.{ltb}
 use lib.ListN.{length, getD}
 use lib.Count.{ones, ones-le}
 use Rattle.sets.specs.Pick.{pick}
-use Rattle.sets.specs.Bit.{Sub}
+use Rattle.sets.specs.Bit.{In, Sub}
 use Rattle.gates.specs.declared.gate.Gate.{Gate}
 use Rattle.gates.specs.Layout.{gatesOf}
 use Rattle.circuit.specs.Circuit.{run, start, finalOf}
@@ -36,7 +36,7 @@ use Rattle.ways.specs.Memory.{Fine}
 use Rattle.laying.proofs.Composing.{Lays}
 use Rattle.laying.proofs.Islanding.{Placed}
 use Rattle.laying.proofs.Owning.{own-few}
-use Rattle.laying.proofs.Job.{OnIslands, Works, of-handed, way-terms, way-lays, way-placed, small-angles}
+use Rattle.laying.proofs.Job.{OnIslands, Works, of-handed, way-terms, way-lays, way-placed, way-none, small-angles}
 
 -- ---- the two ways
 
@@ -137,6 +137,10 @@ module _ (n : ℕ) (xs ys : List ℕ) (job : Layable n xs ys) where
 
     pub island-placed : Placed (near q) (Q q) (ps q) (angles q) (onIsland (nearOf n xs) gs q .laid)
     island-placed = of-island (Placed (near q) (Q q) (ps q) (angles q)) (way-placed n xs gs (job .few) (job .good) (job .fit) (job .within) q l)
+
+    -- no terms, and every wire asked for its own parity: no gates
+    pub island-none : length (ps q) ≡ 0 → ((i : ℕ) → In i (Q q) → getD (ownSets (Q q) (run gs start)) i 0 ≡ 2 ^ i) → onIsland (nearOf n xs) gs q .laid ≡ []
+    island-none z own = of-island (λ (L : List Gate). L ≡ []) (λ way works. way-none n xs gs (job .few) (job .good) (job .fit) (job .within) q l way works z own)
 
     -- "steps ran out": never
     pub never-stuck : onIsland (nearOf n xs) gs q .stuck ≡ false

@@ -1,5 +1,5 @@
 -- One island laid: the terms' gates and the closing behind them do what composing islands asks for. Assumes nothing.
-use mathlib.Core.Path.{_≡_, _∙_}
+use mathlib.Core.Path.{_≡_, refl, sym, ap, ap₂, _∙_}
 use mathlib.Core.List.{List, [], _∷_, _++_}
 use Prim.Native.Nat.{ℕ, _+_, _-_, _*_, _^_, _≤_, _<_}
 use native.Mathlib.Omega.{arith}
@@ -7,18 +7,21 @@ use lib.ListN.{length, getD}
 use lib.Count.{ones}
 use Rattle.sets.specs.Bit.{In}
 use Rattle.sets.specs.Size.{sizeOf}
+use Rattle.sets.proofs.Members.{in-lt}
+use Rattle.sets.proofs.Comb.{getD-units}
 use Rattle.gates.specs.declared.gate.Gate.{Gate}
 use Rattle.gates.specs.declared.gate.Gate.the-variants.{Cnot, Rotation, X, Bad}
 use Rattle.gates.specs.Layout.{Good}
-use Rattle.circuit.specs.Circuit.{step, run, given}
+use Rattle.circuit.specs.Circuit.{step, run, start, given}
 use Rattle.gates.specs.All.{All}
 use Rattle.tallies.specs.Tally.{cnotsOf, rotationsOf}
-use Rattle.circuit.proofs.Circuits.{given-none, given-cons, given-append}
+use Rattle.circuit.proofs.Circuits.{start-length, run-none, given-none, given-cons, given-append}
 use Rattle.circuit.proofs.Steps.{gives-cnot}
 use Rattle.gates.proofs.Alls.{all-append}
 use Rattle.tallies.proofs.Tallies.{cnots-append, rotations-append}
 use Rattle.chip.specs.Graph.{Symm, Joined}
 use Rattle.columns.specs.Terms.{Inside, Small, LaysTerms, totalOf}
+use Rattle.columns.proofs.Inside.{inside-length}
 use Rattle.gathering.specs.Gather.{Coupled, Within}
 use Rattle.ending.specs.Ends.{Ready, Closes}
 use Rattle.ending.specs.Closing.{closingOf}
@@ -102,3 +105,23 @@ module _ (near : List ℕ) (Q : ℕ) (ps angles N C : List ℕ) (L : List Gate) 
     rotations = rotations-append L M ∙ omega (arith, t .rotations, c .rotations);
     cnots = omega (arith, cnots-append L M, t .cnots, c .cnots, c .short);
   }
+
+  -- no terms, and every wire asked for its own parity: no gates
+  pub closed-none : length ps ≡ 0 → ((i : ℕ) → In i Q → getD N i 0 ≡ 2 ^ i) → L ++ closingOf near Q N C L ≡ []
+  unfolding M
+  closed-none z own =
+      ap₂ _++_ e
+      (c .still start start-length at-start (λ i h. ap (λ (l : List Gate). getD (run l start) i 0) e ∙ ap (λ (W : List ℕ). getD W i 0) (run-none start) ∙ at-start i h ∙ sym (own i h)))
+    where
+      at-start : (i : ℕ) → In i Q → getD start i 0 ≡ 2 ^ i
+      at-start i h = unfold start in getD-units 20 i (in-lt 20 Q i low h)
+
+      few : cnotsOf L ≤ 0
+      few = let k : 2 * (ones Q - 1) * length ps ≡ 0 = ap (λ (m : ℕ). 2 * (ones Q - 1) * m) z ∙ omega arith in omega (arith, t .cnots)
+
+      empty : (l : List Gate) → length l ≡ 0 → l ≡ []
+      empty [] h = refl
+      empty (g ∷ l) h = absurd (omega (arith, h))
+
+      e : L ≡ []
+      e = empty L (omega (arith, inside-length near Q L (t .inside), few, t .rotations))

@@ -2,7 +2,7 @@
 use mathlib.Core.Path.{_≡_, refl, sym, ap, _∙_, subst}
 use mathlib.Core.Logic.{_≢_, _⊎_, inl, inr}
 use mathlib.Core.Bool.{true}
-use mathlib.Core.List.{List}
+use mathlib.Core.List.{List, []}
 use Prim.Native.Nat.{ℕ, _+_, _-_, _*_, _^_, _≤_, _<_}
 use native.Mathlib.Omega.{arith}
 use native.Mathlib.Decide.{ℕ-discrete, decLt}
@@ -45,7 +45,7 @@ use Rattle.laying.specs.Reach.{Within}
 use Rattle.laying.proofs.Parting.{Parts, leader-below, leader-leads, leader-same, inside-one}
 use Rattle.laying.proofs.Restricting.{own-whole, own-symm, own-joined, own-near}
 use Rattle.laying.proofs.Owning.{own-up, own-has, own-back, own-few, total-own, total-none}
-use Rattle.laying.proofs.Islanding.{Placed, closed-lays, closed-placed, inside-good}
+use Rattle.laying.proofs.Islanding.{Placed, closed-lays, closed-placed, closed-none, inside-good}
 use Rattle.laying.proofs.Composing.{Lays, on-parities, wired, parities-settle, given-laid}
 use Rattle.laying.proofs.Counting.{Fits, fits-by, over-ext, over-one, over-none, tally-laid, terms-counted, cnots-bounded, overIslands}
 use Rattle.laying.proofs.Reaching.{reachable-within}
@@ -178,6 +178,12 @@ module _ (n : ℕ) (xs : List ℕ) (gs : List Gate) (few : n ≤ 20) (good : All
       unfolding withClosing
       way-placed =
           closed-placed (ownSets (Q q) (nearOf n xs)) (Q q) (ownTerms (Q q) ts) (sumsOf gs (ownTerms (Q q) ts)) (ownSets (Q q) (run gs start)) (ownSets (Q q) (mirrorsOf gs))
+          (handed way) symm low joined way-terms ready
+
+      pub way-none : length (ownTerms (Q q) ts) ≡ 0 → ((i : ℕ) → In i (Q q) → getD (ownSets (Q q) (run gs start)) i 0 ≡ 2 ^ i) → ended way ≡ []
+      unfolding withClosing
+      way-none =
+          closed-none (ownSets (Q q) (nearOf n xs)) (Q q) (ownTerms (Q q) ts) (sumsOf gs (ownTerms (Q q) ts)) (ownSets (Q q) (run gs start)) (ownSets (Q q) (mirrorsOf gs))
           (handed way) symm low joined way-terms ready
 
     pub small-angles : (k : ℕ) → getD (sumsOf gs (ownTerms (Q q) ts)) k 0 < 65536

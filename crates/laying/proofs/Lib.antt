@@ -13,6 +13,7 @@ pub mod FlipCounts
 pub mod FlipOrder
 pub mod Alike
 pub mod Tabled
+pub mod Standing
 pub mod Walking
 pub mod Accepting
 pub mod Accepted

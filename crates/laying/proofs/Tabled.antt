@@ -116,6 +116,10 @@ module _ (near : List ℕ) (gs : List Gate) (q : ℕ) (few : length (borne gs) �
   unfolding ownOf parities
   own-parities = ap (λ (s : Sums). take (s .len) (s .parity)) (own-table Q gs few) ∙ take-padded 256 (length ps) ps refl
 
+  pub own-count : o .terms .len ≡ length ps
+  unfolding ownOf
+  own-count = ap (λ (s : Sums). s .len) (own-table Q gs few)
+
   pub own-angles : angles o ≡ sumsOf gs ps
   unfolding ownOf angles
   own-angles = ap (λ (s : Sums). take (s .len) (s .sum)) (own-table Q gs few) ∙ take-padded 256 (length ps) (sumsOf gs ps) (sym (length-map ps (λ p. sumOf p gs)))

@@ -10,6 +10,7 @@ use lib.Seq.{take-all}
 use borrow.Author.Tests.{eq-eqb, ne-eqb}
 use Rattle.sets.specs.Pick.{pick}
 use Rattle.sets.specs.Size.{lowestOf}
+use Rattle.sets.proofs.Members.{in-lt}
 use Rattle.gates.specs.declared.gate.Gate.{Gate}
 use Rattle.meaning.specs.declared.told.Told.{Told}
 use Rattle.meaning.specs.declared.told.Meaning.{Meaning}
@@ -23,7 +24,7 @@ use Rattle.meaning.specs.Told.{toldOf, meaningOf, tableOf}
 use Rattle.circuit.specs.State.{wiresOf}
 use Rattle.chip.specs.Couplers.{nearOf}
 use Rattle.isles.specs.Islands.{islandOf, islandsOf}
-use Rattle.isles.proofs.Isles.{getD-islands}
+use Rattle.isles.proofs.Isles.{getD-islands, island-lt}
 use Rattle.emitting.specs.Emit.{emit, emitAt}
 use Rattle.columns.specs.Pieces.{Piece}
 use Rattle.emitting.proofs.Emitting.{emit-none, emit-at-none, emit-length, emit-append, emit-at-append}
@@ -36,13 +37,15 @@ use Rattle.laying.specs.Islands.{leads, laidTo}
 use Rattle.laying.specs.Laid.{onIsland, withFlips, laidOf}
 use Rattle.ways.specs.Ways.{withClosing}
 use Rattle.laying.specs.Layable.{Layable}
+use Rattle.laying.specs.Stands.{standsOf, Idles}
 use Rattle.ways.specs.Memory.{stepsOwn, nearestOwn, closedBy, heldOwn, memoryAt, answerAt}
 use Rattle.ways.proofs.Owned.{AllFine, held-piece}
 use Rattle.laying.specs.Verdict.{circuitOf}
 use Rattle.laying.proofs.Job.{parts}
 use Rattle.laying.proofs.Composing.{laid-led, laid-not}
-use Rattle.laying.proofs.Tabled.{own-parities, own-angles, piece-is}
-use Rattle.laying.proofs.Both.{bySteps, byNearest, steps-work, nearest-work, way-fine, ended-fine, never-stuck}
+use Rattle.laying.proofs.Tabled.{own-parities, own-angles, own-count, piece-is}
+use Rattle.laying.proofs.Standing.{no-terms, own-asked}
+use Rattle.laying.proofs.Both.{bySteps, byNearest, steps-work, nearest-work, way-fine, ended-fine, island-none, never-stuck}
 
 module _ (n : ℕ) (xs ys : List ℕ) where
   abbrev gs : List Gate
@@ -147,6 +150,16 @@ module _ (n : ℕ) (xs ys : List ℕ) where
 
         gates-are : heldOwn h .laid ≡ plain q
         gates-are = ap (λ (p : Piece). p .laid) piece
+
+        -- where it stands it gets nothing
+        pub idles : Idles h
+        unfolding ownOf
+        idles s =
+            let t : standsOf o ≡ true = ap standsOf (sym own-is) ∙ s in (
+              gates-are ∙ island-none n xs ys job q l (sym (own-count (nearOf n xs) gs q (job .fit)) ∙ no-terms o t)
+                  (λ i m. own-asked o t i (in-lt 20 (isl q) i (island-lt (nearOf n xs) q below) m) m),
+              on-it,
+            )
 
         module _ (out₀ out out′ : List ℕ) (at : ℕ) (r : Laid) (a : out′ ≡ memoryAt (heldOwn h) (heldOwn h .laid) out at) (b : r ≡ answerAt (heldOwn h) (heldOwn h .laid) out at) where
           memory-is : out′ ≡ emit out at (plain q)

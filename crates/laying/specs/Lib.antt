@@ -5,5 +5,6 @@ pub mod Verdict
 pub mod Demands
 pub mod Rows
 pub mod Layable
+pub mod Stands
 pub mod Without
 pub mod Examples

@@ -1,10 +1,12 @@
 // The entry point: any numbers, any records, any room.
+use crate::stands;
 use chip::couplers;
 use ending::mirror;
 use isles::islands;
 use judging::judge;
 use meaning::told;
 use share::own;
+use share::own::Own;
 use steps::Laid;
 use tallies::depth;
 use tallies::tally;
@@ -18,6 +20,8 @@ ghost use Rattle.circuit.specs.Phase.{phaseOf};
 ghost use Rattle.laying.specs.Layable.{Layable};
 ghost use Rattle.emitting.specs.Emit.{emit, emitAt};
 ghost use Rattle.steps.specs.declared.Laid.the-variants.{On};
+ghost use Rattle.ways.specs.Memory.{heldOwn, answerAt, memoryAt};
+ghost use Rattle.laying.specs.Stands.{Idles};
 ghost use Rattle.laying.specs.Verdict.{circuitOf, countsOf, answered, outputOf};
 
 // What laying answers: the counts of the laid gates, or why there are none.
@@ -41,6 +45,17 @@ struct Outcome {
     phase: u32,
 }
 
+// The gates of an island behind those that are laid. One that stands gets none: it is not searched.
+fn lay_own(own: Own, out: &mut [u32], at: usize) -> Laid
+    requires { ⌜ Idles own ⌝ }
+    ensures { λ r. ⌜ (now (out .exit) ≡ memoryAt (heldOwn own) (heldOwn own .laid) (now (out .entry)) at) × (r ≡ answerAt (heldOwn own) (heldOwn own .laid) (now (out .entry)) at) ⌝ }
+{
+    if stands::stands(own) {
+        return Laid::On(at);
+    }
+    island::lay_island(own, out, at)
+}
+
 // The islands one after another, by ascending lowest qubit, each with its X gates behind its ending.
 fn lay_islands(n: usize, couplers: &[u32], gates: &[u32], out: &mut [u32]) -> Outcome
     requires { ⌜ Layable n (now couplers) (now gates) ⌝ }
@@ -59,7 +74,7 @@ fn lay_islands(n: usize, couplers: &[u32], gates: &[u32], out: &mut [u32]) -> Ou
     for q in 0..n {
         let set = all[q];
         if sets::lowest(set) == q {
-            match island::lay_island(own::handed(set, near, sums, asked, mirror), out, at) {
+            match lay_own(own::handed(set, near, sums, asked, mirror), out, at) {
                 Laid::On(next) => {
                     at = flips::put_xs(set, flip, out, next);
                 }

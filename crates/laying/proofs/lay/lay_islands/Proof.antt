@@ -2,7 +2,7 @@ use mathlib.Core.Path.{sym, _∙_}
 use mathlib.Core.Logic.{⊎-elim}
 use Prim.Native.Nat.{_-_}
 use native.Mathlib.Omega.{arith}
-use Rattle.laying.proofs.Walking.{Walked, walked-none, walked-moved, walked-all, walked-not, walked-led, walked-stuck, phase-is}
+use Rattle.laying.proofs.Walking.{Walked, walked-none, walked-moved, walked-all, walked-not, walked-led, walked-stuck, phase-is, idles}
 use borrow.Author.Needs.{needs}
 use Rattle.laying.proofs.lay.lay_islands.Statement.{statement}
 use Rattle.laying.proofs.lay.lay_islands.Tie as tie
@@ -13,7 +13,7 @@ use Rattle.isles.proofs.islands.islands.Reads as islands-reads
 use Rattle.meaning.proofs.told.tell.Reads as tell-reads
 use Rattle.sets.proofs.lowest.Reads as lowest-reads
 use Rattle.share.proofs.own.handed.Reads as handed-reads
-use Rattle.ways.proofs.island.lay_island.Reads as lay-island-reads
+use Rattle.laying.proofs.lay.lay_own.Reads as lay-own-reads
 
 abbrev Inv-loop : tie.InvT-loop
 Inv-loop n couplers gates out₀ near all meaning sums asked flip mirror at₀ q₀ out at q = Walked n couplers gates out₀ q out at
@@ -48,8 +48,8 @@ lowest-requires c κs = search needs
 handed-requires : tie.Need-handed-requires Inv-loop μ-loop
 handed-requires c κs = search needs
 
-lay-island-requires : tie.Need-lay-island-requires Inv-loop μ-loop
-lay-island-requires c κs = search needs
+lay-own-requires : tie.Need-lay-own-requires Inv-loop μ-loop
+lay-own-requires c κs = idles (c .before .before .before .before .before .before .before .before .before .before .before .before .before .before .before .before .before .before .args .n) (c .before .before .before .before .before .before .before .before .before .before .before .before .before .before .before .before .before .before .args .couplers .now) (c .before .before .before .before .before .before .before .before .before .before .before .before .before .before .before .before .before .before .args .gates .now) (c .before .before .before .before .before .before .before .before .before .before .before .before .before .before .before .before .before .before .pre) _ _ (c .before .before .before .before .before .before .before .before .before .before .before .before .tell .result) _ (c .before .before .before .before .before .before .before .before .before .before .before .before .before .before .near .ensures) (c .before .before .before .before .before .before .before .before .before .before .before .before .before .islands .ensures) (c .before .before .before .before .before .before .before .before .before .before .before .before .tell .ensures) (c .before .before .before .before .before .before .mirrored .ensures) (c .before .before .before .before .before .loop .q) (search needs) _ (c .before .handed .ensures)
 
 enum-known-next : tie.Need-enum-known-next Inv-loop μ-loop
 enum-known-next c = search needs
@@ -64,7 +64,7 @@ same-length : tie.Need-same-length Inv-loop μ-loop
 same-length c = search needs
 
 returns : tie.Need-returns Inv-loop μ-loop
-returns c = absurd (walked-stuck (c .before .before .before .before .before .before .before .before .before .before .before .before .before .before .before .before .before .before .before .before .before .before .before .args .n) (c .before .before .before .before .before .before .before .before .before .before .before .before .before .before .before .before .before .before .before .before .before .before .before .args .couplers .now) (c .before .before .before .before .before .before .before .before .before .before .before .before .before .before .before .before .before .before .before .before .before .before .before .args .gates .now) (c .before .before .before .before .before .before .before .before .before .before .before .before .before .before .before .before .before .before .before .before .before .before .before .pre) _ _ (c .before .before .before .before .before .before .before .before .before .before .before .before .before .before .before .before .before .tell .result) _ (c .before .before .before .before .before .before .before .before .before .before .before .before .before .before .before .before .before .before .before .near .ensures) (c .before .before .before .before .before .before .before .before .before .before .before .before .before .before .before .before .before .before .islands .ensures) (c .before .before .before .before .before .before .before .before .before .before .before .before .before .before .before .before .before .tell .ensures) (c .before .before .before .before .before .before .before .before .before .before .before .mirrored .ensures) (c .before .before .before .before .before .before .before .before .before .before .loop .q) (search needs) _ (c .before .before .before .before .before .before .handed .ensures) (c .before .before .before .before .before .before .before .before .before .before .loop .out) (c .before .before .before .before .before .before .before .before .before .before .loop .out) _ _ _ (c .before .before .before .before .lay-island .ensures .0) (c .before .before .before .before .lay-island .ensures .1) _ (c .enum-told .given .1))
+returns c = absurd (walked-stuck (c .before .before .before .before .before .before .before .before .before .before .before .before .before .before .before .before .before .before .before .before .before .before .before .args .n) (c .before .before .before .before .before .before .before .before .before .before .before .before .before .before .before .before .before .before .before .before .before .before .before .args .couplers .now) (c .before .before .before .before .before .before .before .before .before .before .before .before .before .before .before .before .before .before .before .before .before .before .before .args .gates .now) (c .before .before .before .before .before .before .before .before .before .before .before .before .before .before .before .before .before .before .before .before .before .before .before .pre) _ _ (c .before .before .before .before .before .before .before .before .before .before .before .before .before .before .before .before .before .tell .result) _ (c .before .before .before .before .before .before .before .before .before .before .before .before .before .before .before .before .before .before .before .near .ensures) (c .before .before .before .before .before .before .before .before .before .before .before .before .before .before .before .before .before .before .islands .ensures) (c .before .before .before .before .before .before .before .before .before .before .before .before .before .before .before .before .before .tell .ensures) (c .before .before .before .before .before .before .before .before .before .before .before .mirrored .ensures) (c .before .before .before .before .before .before .before .before .before .before .loop .q) (search needs) _ (c .before .before .before .before .before .before .handed .ensures) (c .before .before .before .before .before .before .before .before .before .before .loop .out) (c .before .before .before .before .before .before .before .before .before .before .loop .out) _ _ _ (c .before .before .before .before .lay-own .ensures .0) (c .before .before .before .before .lay-own .ensures .1) _ (c .enum-told .given .1))
 
 add-q : tie.Need-add-q Inv-loop μ-loop
 add-q c = search needs
@@ -96,7 +96,7 @@ lay-islands-spec =
     array-read-set
     lowest-requires
     handed-requires
-    lay-island-requires
+    lay-own-requires
     enum-known-next
     put-xs-requires
     enum-told

@@ -1,0 +1,25 @@
+-- `laying::lay::lay_own` meets its contract: an island that stands gets nothing. Assumes nothing.
+use mathlib.Core.Path.{sym, _∙_}
+use Rattle.laying.proofs.Standing.{idle}
+use borrow.Author.Needs.{needs}
+use Rattle.laying.proofs.lay.lay_own.Statement.{statement}
+use Rattle.laying.proofs.lay.lay_own.Tie as tie
+
+stands-requires : tie.Need-stands-requires
+stands-requires c κs = search needs
+
+returns : tie.Need-returns
+returns c = let w = c .before .before .before .pre (sym (c .before .stands .ensures) ∙ c .if1 .taken) in idle (c .before .before .before .args .own) (w .0) (w .1) _ _
+
+lay-island-requires : tie.Need-lay-island-requires
+lay-island-requires c κs = search needs
+
+same-length : tie.Need-same-length
+same-length c = search needs
+
+returns-2 : tie.Need-returns-2
+returns-2 c = search needs
+
+pub lay-own-spec : {M : Type 1} → statement M
+lay-own-spec =
+    tie.close (tie.spec stands-requires returns lay-island-requires same-length returns-2)

@@ -1,0 +1,30 @@
+-- An island that stands: it has no terms, and each of its wires is asked for its own parity.
+use mathlib.Core.Path.{_≡_}
+use mathlib.Core.Bool.{Bool, true, false, not}
+use mathlib.Core.List.{List, []}
+use Prim.Native.Nat.{ℕ}
+use lib.Dec.{eqb}
+use lib.ListN.{getD}
+use Rattle.sets.specs.Pick.{both}
+use Rattle.sets.specs.Bit.{has}
+use Rattle.sets.specs.Size.{onlyOf}
+use Rattle.sets.specs.Search.{someOf}
+use Rattle.gates.specs.Limits.{mostQubits}
+use Rattle.share.specs.declared.own.Own.{Own}
+use Rattle.ways.specs.Memory.{heldOwn}
+
+-- wire i of the island Q is asked for x, another parity than its own
+unfoldable pub offOf : ℕ → ℕ → ℕ → Bool
+offOf Q i x = both (has Q i) (not (eqb x (onlyOf i)))
+
+-- some wire of Q is, where N has the parities asked for
+unfoldable pub someOff : ℕ → List ℕ → Bool
+someOff Q N = someOf (λ i. offOf Q i (getD N i 0)) mostQubits
+
+-- there are no terms, and no wire is
+unfoldable pub standsOf : Own → Bool
+standsOf o = both (eqb (o .terms .len) 0) (not (someOff (o .set) (o .asked)))
+
+-- where it stands, the two ways of laying come to no gates, and neither is stuck
+abbrev pub Idles : Own → Type 0
+Idles o = standsOf o ≡ true → (heldOwn o .laid ≡ []) × (heldOwn o .stuck ≡ false)
