@@ -103,7 +103,7 @@ unfolding fieldsText
 fields-append [] ws = refl
 fields-append (v ∷ vs) ws = ap (λ l. (9 ∷ digits v) ++ l) (fields-append vs ws) ∙ sym (append-assoc (9 ∷ digits v) (fieldsText vs) (fieldsText ws))
 
-records-append : (xs ys : List ℕ) → recordsText (xs ++ ys) ≡ recordsText xs ++ recordsText ys
+pub records-append : (xs ys : List ℕ) → recordsText (xs ++ ys) ≡ recordsText xs ++ recordsText ys
 unfolding recordsText
 records-append [] ys = refl
 records-append (x ∷ xs) ys = ap (λ l. recordText x ++ l) (records-append xs ys) ∙ sym (append-assoc (recordText x) (recordsText xs) (recordsText ys))
@@ -125,10 +125,6 @@ module _ (xs : List ℕ) (i : ℕ) where
   unfolding recordsText
   records-next h =
       rw (add-one, take-suc xs i 0 h) (records-append (take i xs) (getD xs i 0 ∷ []) ∙ ap (λ l. recordsText (take i xs) ++ l) (append-nil (recordText (getD xs i 0))))
-
-  pub records-part : length (recordsText (take i xs)) ≤ length (recordsText xs)
-  records-part =
-      omega (arith, length-append (recordsText (take i xs)) (recordsText (drop i xs)), ap length (records-append (take i xs) (drop i xs)), ap (λ l. length (recordsText l)) (take-append-drop i xs))
 
   pub records-all : length xs ≤ i → recordsText (take i xs) ≡ recordsText xs
   records-all h = ap recordsText (take-all i xs h)

@@ -24,18 +24,19 @@ fieldsText (v ∷ vs) = (9 ∷ digits v) ++ fieldsText vs
 unfoldable pub lineText : ℕ → List ℕ → List ℕ
 lineText letter vs = letter ∷ (fieldsText vs ++ (10 ∷ []))
 
--- the letter of a record of the kind: `e`, `c`, `r` or `n`
+-- the letter of a record of the kind: `e`, `c`, `r`, `n` or `h`
 unfoldable pub letter : ℕ → ℕ
 letter zero = 101
 letter (suc zero) = 99
 letter (suc (suc zero)) = 114
-letter (suc (suc (suc kind))) = 110
+letter (suc (suc (suc zero))) = 110
+letter (suc (suc (suc (suc kind)))) = 104
 
--- how many numbers its line has: two, and of an X one: "text line `n` and a qubit"
+-- how many numbers its line has: two, and of an X or a Hadamard one: "text line `n` and a qubit", "`h` and a qubit"
 unfoldable pub fieldsIn : ℕ → ℕ
 fieldsIn kind = pick (ltb kind 3) 2 1
 
--- "`e` lines, two ends each", "`c` control target or `r` qubit angle", "`n` and a qubit"
+-- "`e` lines, two ends each", "`c` control target or `r` qubit angle", "`n` and a qubit", "`h` and a qubit"
 unfoldable pub recordText : ℕ → List ℕ
 recordText x = lineText (letter (kindIn x)) (take (fieldsIn (kindIn x)) (aIn x ∷ bIn x ∷ []))
 

@@ -14,10 +14,13 @@ pub fn letter_of(kind: u32) -> u8
     if kind == 2 {
         return b'r';
     }
-    b'n'
+    if kind == 3 {
+        return b'n';
+    }
+    b'h'
 }
 
-// An X has its qubit alone.
+// An X and a Hadamard have their qubit alone.
 pub fn fields_of(kind: u32) -> usize
     ensures { λ r. ⌜ r ≡ fieldsIn kind ⌝ }
 {

@@ -2,4 +2,5 @@
 pub mod letter;
 pub mod print;
 pub mod put;
+pub mod records;
 pub mod room;
