@@ -82,7 +82,7 @@ module _ (c d : ℕ) where
 
   least-parsed : parsed (leastText c d) ≡ job 0 (replicate c (packed 0 0 0)) (replicate d (packed 3 0 0))
   unfolding packed kindIn bIn
-  least-parsed = text-parsed 0 (replicate c (packed 0 0 0)) (replicate d (packed 3 0 0)) (omega arith) (same-fit false c (packed 0 0 0) refl) (same-fit true d (packed 3 0 0) (inr (inr (refl, refl))))
+  least-parsed = text-parsed 0 (replicate c (packed 0 0 0)) (replicate d (packed 3 0 0)) (omega arith) (same-fit false c (packed 0 0 0) refl) (same-fit true d (packed 3 0 0) (inr (inr (inl (refl, refl)))))
 
   -- so what is asked of a and b above cannot be less
   pub reads-8 : (a b : ℕ) → 4 + 6 * c + 4 * d ≤ mostBytes → (a < c) ⊎ (b < d) → numberOf (judgedReading (leastText c d) a b) ≡ 8

@@ -65,7 +65,8 @@ unfolding letter
 letter-plain zero e = let z : _≡_ {A = ℕ} 101 10 = e in omega arith
 letter-plain (suc zero) e = let z : _≡_ {A = ℕ} 99 10 = e in omega arith
 letter-plain (suc (suc zero)) e = let z : _≡_ {A = ℕ} 114 10 = e in omega arith
-letter-plain (suc (suc (suc k))) e = let z : _≡_ {A = ℕ} 110 10 = e in omega arith
+letter-plain (suc (suc (suc zero))) e = let z : _≡_ {A = ℕ} 110 10 = e in omega arith
+letter-plain (suc (suc (suc (suc k)))) e = let z : _≡_ {A = ℕ} 104 10 = e in omega arith
 
 record-front : (k x : ℕ) (t : List ℕ) → front (suc k) (recordText x ++ t) ≡ recordText x ++ front k t
 unfolding recordText

@@ -88,39 +88,43 @@ line-back k hk s t e =
     let hb : B .value < 65536 = omega (arith, number-le 65535 (skipped 9 (A .rest))) in
     record { same = d ∙ sym (packed-more k (A .value) (B .value) ha hb hk t); kind = kind-packed k (A .value) (B .value) ha hb }
 
--- ---- the line of an X
+-- ---- the line of a record of one number
 
-module _ (a : ℕ) (ha : a < 256) where
+module _ (k a : ℕ) (ha : a < 256) (hk : 3 ≤ k) where
   abbrev none-b : 0 < 65536
   none-b = omega arith
 
-  x-more : (t : List ℕ) → recordText (packed 3 a 0) ++ t ≡ letter 3 ∷ 9 ∷ (digits a ++ (10 ∷ t))
-  x-more t =
-      ap (λ l. l ++ t) (record-one (packed 3 a 0) (omega (arith, kind-packed 3 a 0 ha none-b)))
-      ∙ rw (kind-packed 3 a 0 ha none-b, a-packed 3 a 0 ha none-b) (short-more (letter 3) a t)
+  alone-more : (t : List ℕ) → recordText (packed k a 0) ++ t ≡ letter k ∷ 9 ∷ (digits a ++ (10 ∷ t))
+  alone-more t =
+      ap (λ l. l ++ t) (record-one (packed k a 0) (omega (arith, kind-packed k a 0 ha none-b)))
+      ∙ rw (kind-packed k a 0 ha none-b, a-packed k a 0 ha none-b) (short-more (letter k) a t)
 
-  x-kind : Fit true (packed 3 a 0)
-  x-kind = inr (inr (kind-packed 3 a 0 ha none-b, b-packed 3 a 0 ha none-b))
-
-  short-forth : (t : List ℕ) → shortOf 3 (recordText (packed 3 a 0) ++ t) ≡ record { value = packed 3 a 0; rest = some t }
+  short-forth : (t : List ℕ) → shortOf k (recordText (packed k a 0) ++ t) ≡ record { value = packed k a 0; rest = some t }
   unfolding shortOf digitOf
   short-forth t =
       let a≤ : a ≤ 255 = omega arith in
-      rw (x-more t, skip-forth, skip-forth, number-forth 255 a (10 ∷ t) a≤ refl, skip-forth)
+      rw (alone-more t, skip-forth, skip-forth, number-forth 255 a (10 ∷ t) a≤ refl, skip-forth)
 
-x-forth : (x : ℕ) (t : List ℕ) → kindIn x ≡ 3 → bIn x ≡ 0 → shortOf 3 (recordText x ++ t) ≡ record { value = x; rest = some t }
-x-forth x t h z = subst (λ y. shortOf 3 (recordText y ++ t) ≡ record { value = y; rest = some t }) (cc (packed-back x, h, z)) (short-forth (aIn x) (a-lt x) t)
+alone-forth : (k x : ℕ) (t : List ℕ) → 3 ≤ k → kindIn x ≡ k → bIn x ≡ 0 → shortOf k (recordText x ++ t) ≡ record { value = x; rest = some t }
+alone-forth k x t hk h z =
+    subst (λ y. shortOf k (recordText y ++ t) ≡ record { value = y; rest = some t }) (cc (packed-back x, h, z)) (short-forth k (aIn x) (a-lt x) hk t)
 
-x-back : (s t : List ℕ) → shortOf 3 s .rest ≡ some t → (s ≡ recordText (shortOf 3 s .value) ++ t) × Fit true (shortOf 3 s .value)
+record Alone (k : ℕ) (s t : List ℕ) : Type 0 where
+  same : s ≡ recordText (shortOf k s .value) ++ t
+  kind : kindIn (shortOf k s .value) ≡ k
+  zero-b : bIn (shortOf k s .value) ≡ 0
+
+short-back : (k : ℕ) → 3 ≤ k → (s t : List ℕ) → shortOf k s .rest ≡ some t → Alone k s t
 unfolding shortOf
-x-back s t e =
-    let A = readNumber 255 (skipped 9 (skipped (letter 3) (some s))) in
+short-back k hk s t e =
+    let A = readNumber 255 (skipped 9 (skipped (letter k) (some s))) in
     let a1 : A .rest ≡ some (10 ∷ t) = skip-back 10 (A .rest) t e in
-    let a2 : skipped 9 (skipped (letter 3) (some s)) ≡ some (digits (A .value) ++ (10 ∷ t)) = number-back 255 (skipped 9 (skipped (letter 3) (some s))) _ a1 in
-    let c : some s ≡ some (letter 3 ∷ 9 ∷ (digits (A .value) ++ (10 ∷ t))) = skip-back (letter 3) (some s) _ (skip-back 9 (skipped (letter 3) (some s)) _ a2) in
-    let d : s ≡ letter 3 ∷ 9 ∷ (digits (A .value) ++ (10 ∷ t)) = cc c in
-    let ha : A .value < 256 = omega (arith, number-le 255 (skipped 9 (skipped (letter 3) (some s)))) in
-    (d ∙ sym (x-more (A .value) ha t), x-kind (A .value) ha)
+    let a2 : skipped 9 (skipped (letter k) (some s)) ≡ some (digits (A .value) ++ (10 ∷ t)) = number-back 255 (skipped 9 (skipped (letter k) (some s))) _ a1 in
+    let c : some s ≡ some (letter k ∷ 9 ∷ (digits (A .value) ++ (10 ∷ t))) = skip-back (letter k) (some s) _ (skip-back 9 (skipped (letter k) (some s)) _ a2) in
+    let d : s ≡ letter k ∷ 9 ∷ (digits (A .value) ++ (10 ∷ t)) = cc c in
+    let ha : A .value < 256 = omega (arith, number-le 255 (skipped 9 (skipped (letter k) (some s)))) in
+    let hb : 0 < 65536 = omega arith in
+    record { same = d ∙ sym (alone-more k (A .value) ha hk t); kind = kind-packed k (A .value) 0 ha hb; zero-b = b-packed k (A .value) 0 ha hb }
 
 -- ---- the line of a coupler, or of a gate
 
@@ -128,9 +132,13 @@ pub other-first : (s : List ℕ) {t : List ℕ} → lineOf 2 s .rest ≡ some t 
 unfolding otherOf orElse
 other-first s e = rw e
 
-pub other-second : (s : List ℕ) → lineOf 2 s .rest ≡ none → shortOf 3 s ≡ otherOf s
+pub other-second : (s : List ℕ) {t : List ℕ} → lineOf 2 s .rest ≡ none → shortOf 3 s .rest ≡ some t → shortOf 3 s ≡ otherOf s
 unfolding otherOf orElse
-other-second s e = rw e
+other-second s e f = rw (e, f)
+
+pub other-third : (s : List ℕ) → lineOf 2 s .rest ≡ none → shortOf 3 s .rest ≡ none → shortOf 4 s ≡ otherOf s
+unfolding otherOf orElse
+other-third s e f = rw (e, f)
 
 pub one-first : (g : Bool) (s : List ℕ) {t : List ℕ} → g ≡ true → lineOf 1 s .rest ≡ some t → lineOf 1 s ≡ oneOf g s
 unfolding oneOf orElse
@@ -146,12 +154,15 @@ one-coupler g s p = rw p
 
 other-back : (s t : List ℕ) → otherOf s .rest ≡ some t → (s ≡ recordText (otherOf s .value) ++ t) × Fit true (otherOf s .value)
 unfolding otherOf orElse
-other-back s t e = go (lineOf 2 s .rest) refl e
+other-back s t e = go (lineOf 2 s .rest) (shortOf 3 s .rest) refl refl e
   where
-    go : (o : Option (List ℕ)) → lineOf 2 s .rest ≡ o → orElse o (lineOf 2 s) (shortOf 3 s) .rest ≡ some t
-        → (s ≡ recordText (orElse o (lineOf 2 s) (shortOf 3 s) .value) ++ t) × Fit true (orElse o (lineOf 2 s) (shortOf 3 s) .value)
-    go none p e = x-back s t e
-    go (some u) p e = let b = line-back 2 (omega arith) s t e in (b .same, inr (inl (b .kind)))
+    got : Option (List ℕ) → Option (List ℕ) → Got
+    got o p = orElse o (lineOf 2 s) (orElse p (shortOf 3 s) (shortOf 4 s))
+
+    go : (o p : Option (List ℕ)) → lineOf 2 s .rest ≡ o → shortOf 3 s .rest ≡ p → got o p .rest ≡ some t → (s ≡ recordText (got o p .value) ++ t) × Fit true (got o p .value)
+    go (some u) p q r e = let b = line-back 2 (omega arith) s t e in (b .same, inr (inl (b .kind)))
+    go none (some u) q r e = let b = short-back 3 (omega arith) s t e in (b .same, inr (inr (inl (b .kind, b .zero-b))))
+    go none none q r e = let b = short-back 4 (omega arith) s t e in (b .same, inr (inr (inr (b .kind, b .zero-b))))
 
 pub one-back : (g : Bool) (s t : List ℕ) → oneOf g s .rest ≡ some t → (s ≡ recordText (oneOf g s .value) ++ t) × Fit g (oneOf g s .value)
 unfolding oneOf orElse
@@ -167,30 +178,37 @@ pub one-short : (g : Bool) (s t : List ℕ) → oneOf g s .rest ≡ some t → l
 unfolding recordText lineText
 one-short g s t e = omega (arith, simp length-append at (ap length (one-back g s t e .0)))
 
--- a line of another letter is not read
-letter-other : (j k x : ℕ) (t : List ℕ) → kindIn x ≡ j → (letter j ≡ letter k → ⊥) → lineOf k (recordText x ++ t) .rest ≡ none
-unfolding lineOf recordText lineText skipped readNumber
-letter-other j k x t h n = rw (ne-eqb (letter (kindIn x)) (letter k) (λ e. n (sym (ap letter h) ∙ e)))
+-- a line of another letter is not read, neither with two numbers nor with one
+letter-other : (j k x : ℕ) (t : List ℕ) → kindIn x ≡ j → (letter j ≡ letter k → ⊥) → (lineOf k (recordText x ++ t) .rest ≡ none) × (shortOf k (recordText x ++ t) .rest ≡ none)
+unfolding lineOf shortOf recordText lineText skipped readNumber
+letter-other j k x t h n = let e = ne-eqb (letter (kindIn x)) (letter k) (λ e. n (sym (ap letter h) ∙ e)) in (rw e, rw e)
 
 pub one-forth : (g : Bool) (x : ℕ) (t : List ℕ) → Fit g x → oneOf g (recordText x ++ t) ≡ record { value = x; rest = some t }
 unfolding oneOf otherOf orElse letter
 one-forth false x t h = kind-forth 0 x t (omega arith) h
 one-forth true x t (inl h) = let l : lineOf 1 (recordText x ++ t) ≡ record { value = x; rest = some t } = kind-forth 1 x t (omega arith) h in rw l
 one-forth true x t (inr (inl h)) =
-    let o : lineOf 1 (recordText x ++ t) .rest ≡ none = letter-other 2 1 x t h (λ e. let q : _≡_ {A = ℕ} 114 99 = e in omega arith) in
+    let o : lineOf 1 (recordText x ++ t) .rest ≡ none = letter-other 2 1 x t h (λ e. let q : _≡_ {A = ℕ} 114 99 = e in omega arith) .0 in
     let l : lineOf 2 (recordText x ++ t) ≡ record { value = x; rest = some t } = kind-forth 2 x t (omega arith) h in
     rw (o, l)
-one-forth true x t (inr (inr (h, z))) =
-    let o : lineOf 1 (recordText x ++ t) .rest ≡ none = letter-other 3 1 x t h (λ e. let q : _≡_ {A = ℕ} 110 99 = e in omega arith) in
-    let p : lineOf 2 (recordText x ++ t) .rest ≡ none = letter-other 3 2 x t h (λ e. let q : _≡_ {A = ℕ} 110 114 = e in omega arith) in
-    rw (o, p) (x-forth x t h z)
+one-forth true x t (inr (inr (inl (h, z)))) =
+    let o : lineOf 1 (recordText x ++ t) .rest ≡ none = letter-other 3 1 x t h (λ e. let q : _≡_ {A = ℕ} 110 99 = e in omega arith) .0 in
+    let p : lineOf 2 (recordText x ++ t) .rest ≡ none = letter-other 3 2 x t h (λ e. let q : _≡_ {A = ℕ} 110 114 = e in omega arith) .0 in
+    let l : shortOf 3 (recordText x ++ t) ≡ record { value = x; rest = some t } = alone-forth 3 x t (omega arith) h z in
+    rw (o, p, l)
+one-forth true x t (inr (inr (inr (h, z)))) =
+    let o : lineOf 1 (recordText x ++ t) .rest ≡ none = letter-other 4 1 x t h (λ e. let q : _≡_ {A = ℕ} 104 99 = e in omega arith) .0 in
+    let p : lineOf 2 (recordText x ++ t) .rest ≡ none = letter-other 4 2 x t h (λ e. let q : _≡_ {A = ℕ} 104 114 = e in omega arith) .0 in
+    let r : shortOf 3 (recordText x ++ t) .rest ≡ none = letter-other 4 3 x t h (λ e. let q : _≡_ {A = ℕ} 104 110 = e in omega arith) .1 in
+    rw (o, p, r) (alone-forth 4 x t (omega arith) h z)
 
 -- a gate's line is no coupler's
 pub gate-none : (x : ℕ) (t : List ℕ) → Fit true x → oneOf false (recordText x ++ t) .rest ≡ none
 unfolding oneOf letter
-gate-none x t (inl h) = letter-other 1 0 x t h (λ e. let q : _≡_ {A = ℕ} 99 101 = e in omega arith)
-gate-none x t (inr (inl h)) = letter-other 2 0 x t h (λ e. let q : _≡_ {A = ℕ} 114 101 = e in omega arith)
-gate-none x t (inr (inr (h, z))) = letter-other 3 0 x t h (λ e. let q : _≡_ {A = ℕ} 110 101 = e in omega arith)
+gate-none x t (inl h) = letter-other 1 0 x t h (λ e. let q : _≡_ {A = ℕ} 99 101 = e in omega arith) .0
+gate-none x t (inr (inl h)) = letter-other 2 0 x t h (λ e. let q : _≡_ {A = ℕ} 114 101 = e in omega arith) .0
+gate-none x t (inr (inr (inl (h, z)))) = letter-other 3 0 x t h (λ e. let q : _≡_ {A = ℕ} 110 101 = e in omega arith) .0
+gate-none x t (inr (inr (inr (h, z)))) = letter-other 4 0 x t h (λ e. let q : _≡_ {A = ℕ} 104 101 = e in omega arith) .0
 
 pub one-nil : (g : Bool) → oneOf g [] .rest ≡ none
 one-nil g = go (oneOf g [] .rest) refl

@@ -10,10 +10,11 @@ use Rattle.gates.specs.Layout.{kindIn, bIn}
 use Rattle.reading.specs.Limits.{mostFirst}
 use Rattle.lines.specs.Lines.{textOf}
 
--- a record of a gate, or of a coupler: a record's numbers are within the text's limits whatever it holds; "X is record kind 3 with b = 0"
+-- a record of a gate or a Hadamard, or of a coupler: a record's numbers are within the text's limits whatever it holds; "X is record kind 3 with b = 0",
+-- "Hadamards, record kind 4 with b = 0"
 abbrev pub Fit : Bool → ℕ → Type 0
 Fit false x = kindIn x ≡ 0
-Fit true x = (kindIn x ≡ 1) ⊎ (kindIn x ≡ 2) ⊎ ((kindIn x ≡ 3) × (bIn x ≡ 0))
+Fit true x = (kindIn x ≡ 1) ⊎ (kindIn x ≡ 2) ⊎ ((kindIn x ≡ 3) × (bIn x ≡ 0)) ⊎ ((kindIn x ≡ 4) × (bIn x ≡ 0))
 
 unfoldable pub AllFit : Bool → List ℕ → Type 0
 AllFit gates [] = Unit {0}

@@ -53,7 +53,7 @@ lineOf kind s =
     let b = readNumber mostSecond (skipped 9 (a .rest)) in
     record { value = packed kind (a .value) (b .value); rest = skipped 10 (b .rest) }
 
--- .. and of one whose line has one: "text line `n` and a qubit"
+-- .. and of one whose line has one: "text line `n` and a qubit", "`h` and a qubit"
 unfoldable pub shortOf : ℕ → List ℕ → Got
 shortOf kind s =
     let a = readNumber mostFirst (skipped 9 (skipped (letter kind) (some s))) in
@@ -64,9 +64,9 @@ unfoldable pub orElse : Option (List ℕ) → Got → Got → Got
 orElse none g h = h
 orElse (some t) g h = g
 
--- the line of a rotation, or of an X
+-- the line of a rotation, of an X, or of a Hadamard
 unfoldable pub otherOf : List ℕ → Got
-otherOf s = orElse (lineOf 2 s .rest) (lineOf 2 s) (shortOf 3 s)
+otherOf s = orElse (lineOf 2 s .rest) (lineOf 2 s) (orElse (shortOf 3 s .rest) (shortOf 3 s) (shortOf 4 s))
 
 -- a gate's line, or a coupler's
 unfoldable pub oneOf : Bool → List ℕ → Got

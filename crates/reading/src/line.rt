@@ -35,7 +35,7 @@ fn line(text: &[u8], at: usize, kind: u32) -> Part
 
 // The line of a record of a kind whose line has one number.
 fn short(text: &[u8], at: usize, kind: u32) -> Part
-    requires { ⌜ kind ≤ 3 ⌝ }
+    requires { ⌜ kind ≤ 4 ⌝ }
     ensures { λ r. ⌜ gotOf (now (text .entry)) r ≡ shortOf kind (drop at (now (text .entry))) ⌝ }
 {
     let letter = letter::letter_of(kind);
@@ -50,14 +50,21 @@ fn short(text: &[u8], at: usize, kind: u32) -> Part
     }
 }
 
-// The line of a rotation, or of an X.
+// The line of a rotation, of an X, or of a Hadamard.
 fn other(text: &[u8], at: usize) -> Part
     ensures { λ r. ⌜ gotOf (now (text .entry)) r ≡ otherOf (drop at (now (text .entry))) ⌝ }
 {
     let r = line(text, at, 2);
     let next = r.next;
     match next {
-        Spot::Lost => short(text, at, 3),
+        Spot::Lost => {
+            let x = short(text, at, 3);
+            let behind = x.next;
+            match behind {
+                Spot::Lost => short(text, at, 4),
+                Spot::At(_) => x,
+            }
+        }
         Spot::At(_) => r,
     }
 }
