@@ -7,16 +7,17 @@ use Prim.Native.Nat.{ℕ, suc, _≤_, _<_}
 use native.Mathlib.Omega.{arith}
 use lib.Dec.{leb, ltb, eqb}
 use lib.ListN.{length, getD}
-use borrow.Author.Tests.{ltb-false, leb-true, eqb-true}
+use borrow.Author.Tests.{ltb-false, leb-true, eqb-true, eqb-false}
 use Rattle.sets.specs.Pick.{pick, both}
 use Rattle.sets.proofs.Finding.{first-before}
 use Rattle.gates.specs.Limits.{mostQubits, mostCouplers}
-use Rattle.gates.specs.Layout.{kindIn, aIn, bIn, gateOf, isBad, cnotOf, rotationOf, xOf, couplerOf, isWrong}
-use Rattle.gates.specs.declared.gate.Gate.the-variants.{X, Bad}
+use Rattle.gates.specs.Layout.{kindIn, bIn, couplerOf, isWrong}
 use Rattle.gates.specs.declared.coupler.Coupler.{Coupler}
 use Rattle.gates.specs.declared.coupler.Coupler.the-variants.{Wrong}
-use Rattle.verdicts.specs.Verdicts.{numberOf, firstFailing, judgedQubits, wrongAt, judgedCouplers, badAt, judgedGates}
-use Rattle.verdicts.specs.declared.verdict.Verdict.the-variants.{Accepted, Qubits, ManyCouplers, WrongCoupler, BadGate}
+use Rattle.verdicts.specs.Verdicts.{numberOf, firstFailing, judgedQubits, wrongAt, judgedCouplers, judgedDrawn}
+use Rattle.verdicts.specs.Rows.{BadDrawn}
+use Rattle.verdicts.specs.declared.verdict.Verdict.the-variants.{Accepted, Qubits, ManyCouplers, WrongCoupler}
+use Rattle.verdicts.proofs.Rows.{row-passes, tests-drawn}
 use Rattle.reading.specs.Limits.{mostFirst}
 use Rattle.reading.specs.Misfit.{Fit, AllFit}
 
@@ -46,26 +47,18 @@ coupler-kind n x e = go (eqb (kindIn x) 0) _ refl e
     go true c q e = eqb-true (kindIn x) 0 q
     go false c q e = two e
 
--- "5 covers an X with a bad qubit or b not 0": its line says all of it
-x-kind : (n a b : ℕ) → isBad (xOf n a b) ≡ false → b ≡ 0
-unfolding xOf
-x-kind n a b e = go (ltb a n) (eqb b 0) refl e
+-- "5 covers an X with a bad qubit or b not 0", "5 covers a bad Hadamard": the line of a record that passes says all of it
+drawn-kind : (n x : ℕ) → (BadDrawn n x → ⊥) → Fit true x
+drawn-kind n x h = go (eqb (kindIn x) 1) (eqb (kindIn x) 2) (eqb (kindIn x) 3) (eqb (kindIn x) 4) (eqb (bIn x) 0) refl refl refl refl refl
   where
-    go : (t u : Bool) → eqb b 0 ≡ u → isBad (pick t (pick u (X a) Bad) Bad) ≡ false → b ≡ 0
-    go true true p e = eqb-true b 0 p
-    go true false p e = two e
-    go false u p e = two e
-
-gate-kind : (n x : ℕ) → isBad (gateOf n x) ≡ false → Fit true x
-unfolding gateOf
-gate-kind n x e = go (eqb (kindIn x) 1) (eqb (kindIn x) 2) (eqb (kindIn x) 3) refl refl refl e
-  where
-    go : (t u v : Bool) → eqb (kindIn x) 1 ≡ t → eqb (kindIn x) 2 ≡ u → eqb (kindIn x) 3 ≡ v
-        → isBad (pick t (cnotOf n (aIn x) (bIn x)) (pick u (rotationOf n (aIn x) (bIn x)) (pick v (xOf n (aIn x) (bIn x)) Bad))) ≡ false → Fit true x
-    go true u v p q r e = inl (eqb-true (kindIn x) 1 p)
-    go false true v p q r e = inr (inl (eqb-true (kindIn x) 2 q))
-    go false false true p q r e = inr (inr (eqb-true (kindIn x) 3 r, x-kind n (aIn x) (bIn x) e))
-    go false false false p q r e = two e
+    go : (t u v w z : Bool) → eqb (kindIn x) 1 ≡ t → eqb (kindIn x) 2 ≡ u → eqb (kindIn x) 3 ≡ v → eqb (kindIn x) 4 ≡ w → eqb (bIn x) 0 ≡ z → Fit true x
+    go true u v w z p q r s o = inl (eqb-true (kindIn x) 1 p)
+    go false true v w z p q r s o = inr (inl (eqb-true (kindIn x) 2 q))
+    go false false true w true p q r s o = inr (inr (inl (eqb-true (kindIn x) 3 r, eqb-true (bIn x) 0 o)))
+    go false false true w false p q r s o = absurd (h (inr (inr (inr (inl (eqb-true (kindIn x) 3 r), eqb-false (bIn x) 0 o)))))
+    go false false false true true p q r s o = inr (inr (inr (eqb-true (kindIn x) 4 s, eqb-true (bIn x) 0 o)))
+    go false false false true false p q r s o = absurd (h (inr (inr (inr (inr (eqb-true (kindIn x) 4 s), eqb-false (bIn x) 0 o)))))
+    go false false false false z p q r s o = absurd (h (inl (eqb-false (kindIn x) 1 p, eqb-false (kindIn x) 2 q, eqb-false (kindIn x) 3 r, eqb-false (kindIn x) 4 s)))
 
 pub couplers-fit : (n : ℕ) (xs : List ℕ) → numberOf (judgedCouplers n xs) ≡ 0 → AllFit false xs
 unfolding judgedCouplers wrongAt firstFailing
@@ -81,15 +74,7 @@ couplers-fit n xs e = go (ltb mostCouplers (length xs)) (ltb (wrongAt n xs) (len
         let w : length xs ≤ wrongAt n xs = ltb-false (wrongAt n xs) (length xs) q in
         all-fit false xs (λ k l. coupler-kind n (getD xs k 0) (first-before f (length xs) 0 k (omega arith) (omega arith)))
 
-pub gates-fit : (n : ℕ) (xs : List ℕ) → numberOf (judgedGates n xs) ≡ 0 → AllFit true xs
-unfolding judgedGates badAt firstFailing
-gates-fit n xs e = go (ltb (badAt n xs) (length xs)) refl e
-  where
-    f : ℕ → Bool
-    f k = isBad (gateOf n (getD xs k 0))
-
-    go : (u : Bool) → ltb (badAt n xs) (length xs) ≡ u → numberOf (pick u (BadGate (badAt n xs)) Accepted) ≡ 0 → AllFit true xs
-    go true q e = let z : _≡_ {A = ℕ} 5 0 = e in absurd (omega arith)
-    go false q e =
-        let w : length xs ≤ badAt n xs = ltb-false (badAt n xs) (length xs) q in
-        all-fit true xs (λ k l. gate-kind n (getD xs k 0) (first-before f (length xs) 0 k (omega arith) (omega arith)))
+pub gates-fit : (n : ℕ) (xs : List ℕ) → numberOf (judgedDrawn n xs) ≡ 0 → AllFit true xs
+gates-fit n xs e =
+    let none = row-passes (tests-drawn n xs) .exactly .0 e in
+    all-fit true xs (λ k l. drawn-kind n (getD xs k 0) (none k l))

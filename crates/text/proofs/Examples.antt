@@ -66,3 +66,20 @@ x-read = refl
 x-with-angle : parsed (113 ∷ 9 ∷ 49 ∷ 10 ∷ 110 ∷ 9 ∷ 48 ∷ 9 ∷ 48 ∷ 10 ∷ []) ≡ misfit 2
 unfolding packed parsed bodyOf endOf headOf runOf runIn oneOf otherOf orElse lineOf shortOf readNumber numberIn moreOf digitOf skipped letter
 x-with-angle = refl
+
+-- q 2, h 1
+h-text : List ℕ
+h-text = 113 ∷ 9 ∷ 50 ∷ 10 ∷ 104 ∷ 9 ∷ 49 ∷ 10 ∷ []
+
+h-written : textOf 2 [] (67174400 ∷ []) ≡ h-text
+unfolding h-text kindIn aIn bIn textOf recordsText recordText letter fieldsIn lineText fieldsText digits digitsIn
+h-written = refl
+
+h-read : parsed h-text ≡ job 2 [] (67174400 ∷ [])
+unfolding h-text packed parsed bodyOf endOf headOf runOf runIn oneOf otherOf orElse lineOf shortOf readNumber numberIn moreOf digitOf skipped letter
+h-read = refl
+
+-- q 2, h 1 0
+h-with-angle : parsed (113 ∷ 9 ∷ 50 ∷ 10 ∷ 104 ∷ 9 ∷ 49 ∷ 9 ∷ 48 ∷ 10 ∷ []) ≡ misfit 2
+unfolding packed parsed bodyOf endOf headOf runOf runIn oneOf otherOf orElse lineOf shortOf readNumber numberIn moreOf digitOf skipped letter
+h-with-angle = refl

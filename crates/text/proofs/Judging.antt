@@ -8,7 +8,7 @@ use lib.Dec.{leb, eqb}
 use lib.ListN.{length}
 use borrow.Author.Tests.{eqb-true, eq-eqb, ne-eqb, leb-true}
 use Rattle.sets.specs.Pick.{pick}
-use Rattle.verdicts.specs.Verdicts.{numberOf, judgedQubits, judgedCouplers, judgedGates}
+use Rattle.verdicts.specs.Verdicts.{numberOf, judgedQubits, judgedCouplers, judgedDrawn}
 use Rattle.verdicts.specs.declared.verdict.Verdict.the-variants.{Accepted, Room}
 use Rattle.verdicts.specs.InOrder.{andThen}
 use Rattle.verdicts.proofs.Judged.{then-on, then-stop, then-zero}
@@ -34,19 +34,19 @@ module _ (n : ℕ) (es gs : List ℕ) (room : ℕ) where
     judged-couplers b = then-stop (judgedCouplers n es) _ b ∙ then-on (judgedQubits n) _ a
 
     module _ (b : numberOf (judgedCouplers n es) ≡ 0) where
-      pub judged-gates : (numberOf (judgedGates n gs) ≡ 0 → ⊥) → judgedGates n gs ≡ judgedText n es gs room
+      pub judged-drawn : (numberOf (judgedDrawn n gs) ≡ 0 → ⊥) → judgedDrawn n gs ≡ judgedText n es gs room
       unfolding judgedText
-      judged-gates c = then-stop (judgedGates n gs) _ c ∙ then-on (judgedCouplers n es) _ b ∙ then-on (judgedQubits n) _ a
+      judged-drawn c = then-stop (judgedDrawn n gs) _ c ∙ then-on (judgedCouplers n es) _ b ∙ then-on (judgedQubits n) _ a
 
-      pub judged-room : numberOf (judgedGates n gs) ≡ 0 → judgedRoom (length (textOf n es gs)) room ≡ judgedText n es gs room
+      pub judged-room : numberOf (judgedDrawn n gs) ≡ 0 → judgedRoom (length (textOf n es gs)) room ≡ judgedText n es gs room
       unfolding judgedText
-      judged-room c = then-on (judgedGates n gs) _ c ∙ then-on (judgedCouplers n es) _ b ∙ then-on (judgedQubits n) _ a
+      judged-room c = then-on (judgedDrawn n gs) _ c ∙ then-on (judgedCouplers n es) _ b ∙ then-on (judgedQubits n) _ a
 
 -- what the writer accepts
 pub record Accepts (n : ℕ) (es gs : List ℕ) (room : ℕ) : Type 0 where
   pub qubits : numberOf (judgedQubits n) ≡ 0
   pub couplers : numberOf (judgedCouplers n es) ≡ 0
-  pub gates : numberOf (judgedGates n gs) ≡ 0
+  pub gates : numberOf (judgedDrawn n gs) ≡ 0
   pub fits : length (textOf n es gs) ≤ room
 
 module _ (n : ℕ) (es gs : List ℕ) (room : ℕ) where
@@ -54,10 +54,10 @@ module _ (n : ℕ) (es gs : List ℕ) (room : ℕ) where
   unfolding judgedText
   accepts e =
       let r = judgedRoom (length (textOf n es gs)) room in
-      let g = andThen (judgedGates n gs) r in
+      let g = andThen (judgedDrawn n gs) r in
       let a = then-zero (judgedQubits n) (andThen (judgedCouplers n es) g) e in
       let b = then-zero (judgedCouplers n es) g (a .1) in
-      let c = then-zero (judgedGates n gs) r (b .1) in
+      let c = then-zero (judgedDrawn n gs) r (b .1) in
       record { qubits = a .0; couplers = b .0; gates = c .0; fits = room-zero (length (textOf n es gs)) room (c .1) }
 
   pub writing-yes : numberOf (judgedText n es gs room) ≡ 0 → Written (length (textOf n es gs)) ≡ writingOf n es gs room

@@ -11,11 +11,11 @@ use borrow.Author.Tests.{leb-true, leb-false}
 use Rattle.sets.specs.Pick.{pick, both}
 use Rattle.verdicts.specs.declared.verdict.Verdict.{Verdict}
 use Rattle.verdicts.specs.declared.verdict.Verdict.the-variants.{Accepted, Room, LongText}
-use Rattle.verdicts.specs.Verdicts.{numberOf, placeOf, judgedQubits, judgedGates}
+use Rattle.verdicts.specs.Verdicts.{numberOf, placeOf, judgedQubits, judgedDrawn}
 use Rattle.verdicts.specs.InOrder.{andThen}
-use Rattle.verdicts.specs.Rows.{Row, Nowhere, Passes1, Passes2, Passes3, Passes5}
+use Rattle.verdicts.specs.Rows.{Row, Nowhere, Passes1, Passes2, Passes3, PassesDrawn}
 use Rattle.verdicts.proofs.Judged.{then-assoc}
-use Rattle.verdicts.proofs.Rows.{Tests, row-fails, row-passes, row-then, row-first, Beyond, beyond-not, beyond-test, beyond-then, tests-1, tests-2, tests-3, tests-5, judgedMany, judgedWrong, couplers-parted}
+use Rattle.verdicts.proofs.Rows.{Tests, row-fails, row-passes, row-then, row-first, Beyond, beyond-not, beyond-test, beyond-then, tests-1, tests-2, tests-3, tests-drawn, judgedMany, judgedWrong, couplers-parted}
 use Rattle.lines.specs.Lines.{textOf}
 use Rattle.reading.specs.Limits.{mostBytes}
 use Rattle.reading.specs.Misfit.{JobText, Misfit}
@@ -109,7 +109,7 @@ module _ (n : ℕ) (couplers gates : List ℕ) (room : ℕ) where
   judgedFit = judgedRoom (length (textOf n couplers gates)) room
 
   abbrev behind3 : Verdict
-  behind3 = andThen (judgedGates n gates) judgedFit
+  behind3 = andThen (judgedDrawn n gates) judgedFit
 
   abbrev behind2 : Verdict
   behind2 = andThen (judgedWrong n couplers) behind3
@@ -131,7 +131,7 @@ module _ (n : ℕ) (couplers gates : List ℕ) (room : ℕ) where
   beyond5 = beyond-test tests-8 5 (omega arith)
 
   beyond3 : Beyond 3 behind3
-  beyond3 = beyond-then (tests-5 n gates) 3 (omega arith) judgedFit (λ p5. beyond5)
+  beyond3 = beyond-then (tests-drawn n gates) 3 (omega arith) judgedFit (λ p5. beyond5)
 
   beyond2 : Beyond 2 behind2
   beyond2 = beyond-then (tests-3 n couplers) 2 (omega arith) behind3 (λ p3. beyond3)
@@ -149,8 +149,8 @@ module _ (n : ℕ) (couplers gates : List ℕ) (room : ℕ) where
   past3 j a b c r = past2 j a b (row-then (tests-3 n couplers) behind3 j c (λ p. r))
 
   past5 : (j : ℕ) {When : Type 0} {At : ℕ → Type 0} → j ≢ 1 → j ≢ 2 → j ≢ 3 → j ≢ 5 → Row judgedFit j When At
-      → Row all j (Passes1 n × (Passes2 couplers × (Passes3 n couplers × (Passes5 n gates × When)))) At
-  past5 j a b c d r = past3 j a b c (row-then (tests-5 n gates) judgedFit j d (λ p. r))
+      → Row all j (Passes1 n × (Passes2 couplers × (Passes3 n couplers × (PassesDrawn n gates × When)))) At
+  past5 j a b c d r = past3 j a b c (row-then (tests-drawn n gates) judgedFit j d (λ p. r))
 
   all-rows : WritingRows n couplers gates room all
   all-rows = record {
@@ -158,7 +158,7 @@ module _ (n : ℕ) (couplers gates : List ℕ) (room : ℕ) where
     row-1 = row-first (tests-1 n) behind1 (λ p. beyond-not 1 behind1 (omega arith) beyond1);
     row-2 = past1 2 (λ e. omega (arith, e)) (row-first (tests-2 couplers) behind2 (λ p. beyond-not 2 behind2 (omega arith) beyond2));
     row-3 = past2 3 (λ e. omega (arith, e)) (λ e. omega (arith, e)) (row-first (tests-3 n couplers) behind3 (λ p. beyond-not 3 behind3 (omega arith) beyond3));
-    row-5 = past3 5 (λ e. omega (arith, e)) (λ e. omega (arith, e)) (λ e. omega (arith, e)) (row-first (tests-5 n gates) judgedFit (λ p. beyond-not 5 judgedFit (omega arith) beyond5));
+    row-5 = past3 5 (λ e. omega (arith, e)) (λ e. omega (arith, e)) (λ e. omega (arith, e)) (row-first (tests-drawn n gates) judgedFit (λ p. beyond-not 5 judgedFit (omega arith) beyond5));
     row-8 = past5 8 (λ e. omega (arith, e)) (λ e. omega (arith, e)) (λ e. omega (arith, e)) (λ e. omega (arith, e)) (row-fails tests-8);
   }
 

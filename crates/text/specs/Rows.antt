@@ -5,7 +5,7 @@ use Prim.Native.Nat.{ℕ, _≤_, _<_}
 use lib.ListN.{length}
 use Rattle.gates.specs.Limits.{mostCouplers}
 use Rattle.verdicts.specs.declared.verdict.Verdict.{Verdict}
-use Rattle.verdicts.specs.Rows.{Row, Nowhere, Some, First, Passes1, Passes2, WrongRecord, Passes3, BadRecord, Passes5}
+use Rattle.verdicts.specs.Rows.{Row, Nowhere, Some, First, Passes1, Passes2, WrongRecord, Passes3, BadDrawn, PassesDrawn}
 use Rattle.lines.specs.Lines.{textOf}
 use Rattle.reading.specs.Limits.{mostBytes}
 use Rattle.reading.specs.Misfit.{JobText, Misfit}
@@ -27,9 +27,9 @@ pub record ReadingRows (s : List ℕ) (a b : ℕ) (v : Verdict) : Type 0 where
 
 -- "writing tests 1, 2, 3, 5 and then 8, given exactly when the text is longer than the room": v is what writing answers
 pub record WritingRows (n : ℕ) (couplers gates : List ℕ) (room : ℕ) (v : Verdict) : Type 0 where
-  pub row-0 : Row v 0 (Passes1 n × (Passes2 couplers × (Passes3 n couplers × (Passes5 n gates × (length (textOf n couplers gates) ≤ room))))) Nowhere
+  pub row-0 : Row v 0 (Passes1 n × (Passes2 couplers × (Passes3 n couplers × (PassesDrawn n gates × (length (textOf n couplers gates) ≤ room))))) Nowhere
   pub row-1 : Row v 1 (Passes1 n → ⊥) Nowhere
   pub row-2 : Row v 2 (Passes1 n × (mostCouplers < length couplers)) Nowhere
   pub row-3 : Row v 3 (Passes1 n × (Passes2 couplers × Some (WrongRecord n) couplers)) (First (WrongRecord n) couplers)
-  pub row-5 : Row v 5 (Passes1 n × (Passes2 couplers × (Passes3 n couplers × Some (BadRecord n) gates))) (First (BadRecord n) gates)
-  pub row-8 : Row v 8 (Passes1 n × (Passes2 couplers × (Passes3 n couplers × (Passes5 n gates × (room < length (textOf n couplers gates)))))) Nowhere
+  pub row-5 : Row v 5 (Passes1 n × (Passes2 couplers × (Passes3 n couplers × Some (BadDrawn n) gates))) (First (BadDrawn n) gates)
+  pub row-8 : Row v 8 (Passes1 n × (Passes2 couplers × (Passes3 n couplers × (PassesDrawn n gates × (room < length (textOf n couplers gates)))))) Nowhere

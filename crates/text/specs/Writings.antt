@@ -6,7 +6,7 @@ use lib.Dec.{leb, eqb}
 use Rattle.sets.specs.Pick.{pick}
 use Rattle.verdicts.specs.declared.verdict.Verdict.{Verdict}
 use Rattle.verdicts.specs.declared.verdict.Verdict.the-variants.{Accepted, Room}
-use Rattle.verdicts.specs.Verdicts.{numberOf, judgedQubits, judgedCouplers, judgedGates}
+use Rattle.verdicts.specs.Verdicts.{numberOf, judgedQubits, judgedCouplers, judgedDrawn}
 use Rattle.verdicts.specs.InOrder.{andThen}
 use Rattle.lines.specs.Lines.{textOf}
 use Rattle.lines.specs.Lent.{onto}
@@ -29,11 +29,11 @@ writeBytes (Refused v) = 0
 abbrev pub judgedRoom : ℕ → ℕ → Verdict
 judgedRoom need room = pick (leb need room) Accepted Room
 
--- "writing tests 1, 2, 3, 5 and then 8"
+-- "writing tests 1, 2, 3, 5 and then 8"; 5 is that of a job, where Hadamards may stand between the gates
 unfoldable pub judgedText : ℕ → List ℕ → List ℕ → ℕ → Verdict
 judgedText n couplers gates room =
     andThen (judgedQubits n)
-    (andThen (judgedCouplers n couplers) (andThen (judgedGates n gates) (judgedRoom (length (textOf n couplers gates)) room)))
+    (andThen (judgedCouplers n couplers) (andThen (judgedDrawn n gates) (judgedRoom (length (textOf n couplers gates)) room)))
 
 unfoldable pub writingOf : ℕ → List ℕ → List ℕ → ℕ → Writing
 writingOf n couplers gates room =

@@ -1,6 +1,6 @@
 // The writer of a job's text. It judges the lists and the room before it writes a byte.
-use lines::letter;
 use lines::put;
+use lines::records;
 use lines::room;
 use lines::room::Room;
 use verdicts::verdict;
@@ -10,35 +10,12 @@ ghost use Prim.Native.Nat.{_≤_, _+_};
 ghost use lib.Dec.{leb};
 ghost use lib.ListN.{length};
 ghost use lib.Seq.{sets};
-ghost use Rattle.lines.specs.Lines.{recordText, recordsText, textOf};
-ghost use Rattle.lines.specs.Lent.{lineEnd, lineAt};
+ghost use Rattle.lines.specs.Lines.{textOf};
 ghost use Rattle.text.specs.Writings.{judgedText, writingOf, textAfter};
 
 pub enum Writing {
     Written { bytes: usize },
     Refused { verdict: Verdict },
-}
-
-fn put_record(text: &mut [u8], at: usize, x: u32) -> usize
-    ensures { λ r. ⌜ (r ≡ lineEnd (recordText x) at (length (now (text .entry)))) × (now (text .exit) ≡ lineAt (recordText x) at (now (text .entry))) ⌝ }
-{
-    let letter = letter::letter_of(x / 16777216);
-    let count = letter::fields_of(x / 16777216);
-    let numbers = [(x / 65536 % 256) as usize, (x % 65536) as usize];
-    put::put_line(text, at, letter, &numbers[..count])
-}
-
-fn put_records(text: &mut [u8], from: usize, records: &[u32]) -> usize
-    requires { ⌜ from + length (recordsText (now records)) ≤ length (now text) ⌝ }
-    ensures { λ r. ⌜ (r ≡ from + length (recordsText (now (records .entry)))) × (now (text .exit) ≡ sets (now (text .entry)) from (recordsText (now (records .entry)))) ⌝ }
-{
-    let mut at = from;
-    let mut i: usize = 0;
-    while i < records.len() {
-        at = put_record(&mut *text, at, records[i]);
-        i += 1;
-    }
-    at
 }
 
 fn put_text(n: usize, couplers: &[u32], gates: &[u32], text: &mut [u8]) -> usize
@@ -47,8 +24,8 @@ fn put_text(n: usize, couplers: &[u32], gates: &[u32], text: &mut [u8]) -> usize
 {
     let numbers = [n];
     let p0 = put::put_line(&mut *text, 0, b'q', &numbers);
-    let p1 = put_records(&mut *text, p0, couplers);
-    put_records(text, p1, gates)
+    let p1 = records::put_records(&mut *text, p0, couplers);
+    records::put_records(text, p1, gates)
 }
 
 fn fits(n: usize, couplers: &[u32], gates: &[u32], room: usize) -> bool
@@ -64,7 +41,7 @@ fn fits(n: usize, couplers: &[u32], gates: &[u32], room: usize) -> bool
     }
 }
 
-// Tests 1, 2, 3, 5 and 8.
+// Tests 1, 2, 3, 5 and 8; 5 is that of a job.
 fn judge(n: usize, couplers: &[u32], gates: &[u32], room: usize) -> Verdict
     ensures { λ r. ⌜ r ≡ judgedText n (now (couplers .entry)) (now (gates .entry)) room ⌝ }
 {
@@ -76,7 +53,7 @@ fn judge(n: usize, couplers: &[u32], gates: &[u32], room: usize) -> Verdict
     if verdict::number(v2) != 0 {
         return v2;
     }
-    let v3 = verdict::judge_gates(gates, n);
+    let v3 = verdict::judge_drawn(gates, n);
     if verdict::number(v3) != 0 {
         return v3;
     }

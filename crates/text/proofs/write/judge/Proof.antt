@@ -7,7 +7,7 @@ use Rattle.verdicts.specs.declared.verdict.Verdict.the-variants.{Accepted, Room
 use Rattle.lines.specs.Lines.{textOf}
 use Rattle.text.specs.Writings.{judgedRoom, judgedText}
 use Rattle.verdicts.proofs.Judged.{passed, refused}
-use Rattle.text.proofs.Judging.{judged-qubits, judged-couplers, judged-gates, judged-room}
+use Rattle.text.proofs.Judging.{judged-qubits, judged-couplers, judged-drawn, judged-room}
 use borrow.Author.Needs.{needs}
 use Rattle.text.proofs.write.judge.Statement.{statement}
 use Rattle.text.proofs.write.judge.Tie as tie
@@ -18,7 +18,7 @@ roomed : (c : tie.Else3)
 roomed c =
     let a = c .before .before .before .before .before .before .before .before .before .before .before .args in
     judged-room (a .n) (now (a .couplers)) (now (a .gates)) (a .room) (passed (c .before .before .before .before .before .before .before .before .judge-qubits .ensures) (c .before .before .before .before .before .before .before .number .ensures) (c .before .before .before .before .before .before .if1 .left))
-    (passed (c .before .before .before .before .before .judge-couplers .ensures) (c .before .before .before .before .number2 .ensures) (c .before .before .before .if2 .left)) (passed (c .before .before .judge-gates .ensures) (c .before .number3 .ensures) (c .if3 .left))
+    (passed (c .before .before .before .before .before .judge-couplers .ensures) (c .before .before .before .before .number2 .ensures) (c .before .before .before .if2 .left)) (passed (c .before .before .judge-drawn .ensures) (c .before .number3 .ensures) (c .if3 .left))
 
 judge-qubits-requires : tie.Need-judge-qubits-requires
 judge-qubits-requires c κs = search needs
@@ -48,8 +48,8 @@ returns-2 c =
     let v = c .before .before .judge-couplers .ensures in
     v ∙ judged-couplers (a .n) es gs (a .room) (passed (c .before .before .before .before .before .judge-qubits .ensures) (c .before .before .before .before .number .ensures) (c .before .before .before .if1 .left)) (refused v (c .before .number2 .ensures) (c .if2 .taken))
 
-judge-gates-requires : tie.Need-judge-gates-requires
-judge-gates-requires c κs = search needs
+judge-drawn-requires : tie.Need-judge-drawn-requires
+judge-drawn-requires c κs = search needs
 
 number-requires-3 : tie.Need-number-requires-3
 number-requires-3 c κs = search needs
@@ -59,8 +59,8 @@ returns-3 c =
     let a = c .before .before .before .before .before .before .before .before .before .before .before .args in
     let es = now (a .couplers) in
     let gs = now (a .gates) in
-    let v = c .before .before .judge-gates .ensures in
-    v ∙ judged-gates (a .n) es gs (a .room) (passed (c .before .before .before .before .before .before .before .before .judge-qubits .ensures) (c .before .before .before .before .before .before .before .number .ensures) (c .before .before .before .before .before .before .if1 .left)) (passed (c .before .before .before .before .before .judge-couplers .ensures) (c .before .before .before .before .number2 .ensures) (c .before .before .before .if2 .left)) (refused v (c .before .number3 .ensures) (c .if3 .taken))
+    let v = c .before .before .judge-drawn .ensures in
+    v ∙ judged-drawn (a .n) es gs (a .room) (passed (c .before .before .before .before .before .before .before .before .judge-qubits .ensures) (c .before .before .before .before .before .before .before .number .ensures) (c .before .before .before .before .before .before .if1 .left)) (passed (c .before .before .before .before .before .judge-couplers .ensures) (c .before .before .before .before .number2 .ensures) (c .before .before .before .if2 .left)) (refused v (c .before .number3 .ensures) (c .if3 .taken))
 
 fits-requires : tie.Need-fits-requires
 fits-requires c κs = search needs
@@ -81,7 +81,7 @@ judge-spec =
     judge-couplers-requires
     number-requires-2
     returns-2
-    judge-gates-requires
+    judge-drawn-requires
     number-requires-3
     returns-3
     fits-requires
