@@ -79,6 +79,13 @@ impl Bench {
     fn job(&self, coupling: &str, terms: usize) -> String {
         self.jobs(coupling, terms, 1).remove(0)
     }
+
+    /// The text of a job of many stretches, with CNOTs and rotations.
+    fn stretches(&self, coupling: &str, count: usize) -> Vec<u8> {
+        let words = [count, SEED].map(|number| number.to_string());
+        let made = Command::new(&self.generate).arg("stretches").arg(coupling).args(words).output();
+        made.expect("a job can be made").stdout
+    }
 }
 
 fn run(program: &str, job: &str) -> (Duration, String) {
@@ -214,6 +221,7 @@ fn table_of_times(bench: &Bench) {
         ("singapore, 256 terms", of_terms("singapore", 256)),
         ("line of 20, 256 terms", of_terms("line:20", 256)),
         ("all-to-all 20, 256 terms", of_terms("all:20", 256)),
+        ("singapore, 2,000 stretches", bench.stretches("singapore", 2_000)),
     ];
     let mut start = None;
     let (mut longest, mut worst) = (vec![], 0.0f64);
@@ -272,6 +280,7 @@ fn table_of_memory(bench: &Bench) {
         ("empty job", b"q\t1\n".to_vec()),
         ("singapore, 256 terms", fs::read(bench.job("singapore", 256)).unwrap()),
         ("65,536 bytes", longest.into_bytes()),
+        ("singapore, 2,000 stretches", bench.stretches("singapore", 2_000)),
     ];
     for (name, text) in jobs {
         let job = bench.file("measured", &text);

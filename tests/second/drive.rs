@@ -3,11 +3,13 @@
 //!     drive LAY COUNT JOBS EXPECTED PRINTED
 //!
 //! JOBS is a bundle of jobs and EXPECTED the bundle that `second bundle` made of it. What LAY and
-//! COUNT print goes to the bundle PRINTED, for the judge. Says how many jobs agreed; a job that
-//! did not is written beside PRINTED. The exit status is 1 on any difference.
+//! COUNT print goes to the bundle PRINTED, for the judge, as soon as it is there: it may be a megabyte
+//! for one job. Says how many jobs agreed; a job that did not is written beside PRINTED. The exit
+//! status is 1 on any difference.
 
+use std::collections::BTreeMap;
 use std::fs::{self, File};
-use std::io::Read;
+use std::io::{BufWriter, Read, Write};
 use std::process::{Child, Command, Stdio};
 use std::sync::atomic::{AtomicUsize, Ordering};
 use std::sync::{Arc, Mutex};
@@ -81,29 +83,46 @@ fn run(program: &str, job: &str, watched: &Watched) -> Vec<u8> {
     }
 }
 
-/// Runs all jobs on a few threads; two texts for each job.
-fn run_all(programs: [&str; 2], jobs: &[&[u8]], scratch: &str) -> Vec<[Vec<u8>; 2]> {
+/// Runs all jobs on a few threads; tells `each` of every job and the two texts that were printed for it.
+fn run_all(programs: [&str; 2], jobs: &[&[u8]], scratch: &str, each: impl Fn(usize, [Vec<u8>; 2]) + Sync) {
     let workers = std::thread::available_parallelism().map_or(1, usize::from).min(4);
     let watched: Vec<Watched> = (0..workers).map(|_| Watched::default()).collect();
     watch(watched.clone());
-    let (next, results) = (AtomicUsize::new(0), Mutex::new(vec![[vec![], vec![]]; jobs.len()]));
+    let next = AtomicUsize::new(0);
     std::thread::scope(|scope| {
         for (worker, watched) in watched.iter().enumerate() {
-            let (next, results) = (&next, &results);
+            let (next, each) = (&next, &each);
             scope.spawn(move || {
                 let file = format!("{scratch}.{worker}");
                 loop {
                     let i = next.fetch_add(1, Ordering::Relaxed);
                     let Some(job) = jobs.get(i) else { break };
                     fs::write(&file, job).expect("a job can be written");
-                    let texts = programs.map(|program| run(program, &file, watched));
-                    results.lock().unwrap()[i] = texts;
+                    each(i, programs.map(|program| run(program, &file, watched)));
                 }
                 let _ = fs::remove_file(&file);
             });
         }
     });
-    results.into_inner().unwrap()
+}
+
+/// The bundle PRINTED: a text waits here until those of all earlier jobs are written.
+struct InOrder {
+    file: BufWriter<File>,
+    written: usize,
+    waiting: BTreeMap<usize, Vec<u8>>,
+}
+
+impl InOrder {
+    fn put(&mut self, i: usize, texts: &[Vec<u8>; 2]) {
+        let mut closed = vec![];
+        texts.iter().for_each(|text| close(text, &mut closed));
+        self.waiting.insert(i, closed);
+        while let Some(closed) = self.waiting.remove(&self.written) {
+            self.file.write_all(&closed).expect("PRINTED can be written");
+            self.written += 1;
+        }
+    }
 }
 
 fn first_difference(got: &[u8], wanted: &[u8]) -> String {
@@ -126,23 +145,23 @@ fn main() {
     let expected = fs::read(expected).expect("EXPECTED can be read");
     let (jobs, expected) = (unbundle(&jobs), unbundle(&expected));
     assert_eq!(expected.len(), 2 * jobs.len(), "two expected texts for each job");
-    let results = run_all([lay, count], &jobs, printed);
-    let (mut bundle, mut agreed) = (vec![], 0);
-    for (i, texts) in results.iter().enumerate() {
-        let differing = (0..2).find(|&k| texts[k] != expected[2 * i + k]);
-        match differing {
-            None => agreed += 1,
-            Some(k) if i - agreed < MOST_SHOWN => {
-                let kept = format!("{printed}.job-{i}");
-                let _ = fs::write(&kept, jobs[i]);
-                let program = ["LAY", "COUNT"][k];
-                println!("job {i} ({kept}): {program}, {}", first_difference(&texts[k], expected[2 * i + k]));
-            }
-            Some(_) => {}
+    let file = BufWriter::new(File::create(printed).expect("PRINTED can be written"));
+    let in_order = Mutex::new(InOrder { file, written: 0, waiting: BTreeMap::new() });
+    let differing = Mutex::new(BTreeMap::new());
+    run_all([lay, count], &jobs, printed, |i, texts| {
+        if let Some(k) = (0..2).find(|&k| texts[k] != expected[2 * i + k]) {
+            let difference = first_difference(&texts[k], expected[2 * i + k]);
+            differing.lock().unwrap().insert(i, (["LAY", "COUNT"][k], difference));
         }
-        texts.iter().for_each(|text| close(text, &mut bundle));
+        in_order.lock().unwrap().put(i, &texts);
+    });
+    in_order.into_inner().unwrap().file.flush().expect("PRINTED can be written");
+    let differing = differing.into_inner().unwrap();
+    for (i, (program, difference)) in differing.iter().take(MOST_SHOWN) {
+        let kept = format!("{printed}.job-{i}");
+        let _ = fs::write(&kept, jobs[*i]);
+        println!("job {i} ({kept}): {program}, {difference}");
     }
-    fs::write(printed, bundle).expect("PRINTED can be written");
-    println!("{agreed} of {} jobs agreed with the second program", jobs.len());
-    std::process::exit(if agreed == jobs.len() { 0 } else { 1 });
+    println!("{} of {} jobs agreed with the second program", jobs.len() - differing.len(), jobs.len());
+    std::process::exit(if differing.is_empty() { 0 } else { 1 });
 }

@@ -13,9 +13,10 @@
 //!                                               COUPLING: singapore, aspen, line:N, grid:N, all:N
 //!
 //! BUNDLE and TEXT are the room that the stored list's program has, in bytes, for the bundle and
-//! for one text with the line that closes it; a list that needs more is not printed. Two texts are
+//! for one text with the line that closes it; a list that needs more is not printed. Three texts are
 //! printed as they are:
 //!
+//!     generate stretches COUPLING COUNT SEED    a job of 4,096 gates in COUNT stretches, 1 to 4,097
 //!     generate longest                          a long job that is accepted
 //!     generate overlong                         a text that is one byte too long
 
@@ -66,8 +67,9 @@ enum Gate {
     Cnot(usize, usize),
     Rot(usize, usize),
     X(usize),
+    H(usize),
 }
-use Gate::{Cnot, Rot, X};
+use Gate::{Cnot, H, Rot, X};
 
 #[derive(Clone)]
 struct Draft {
@@ -91,6 +93,7 @@ impl Draft {
                 Cnot(c, t) => format!("c\t{c}\t{t}\n"),
                 Rot(q, angle) => format!("r\t{q}\t{angle}\n"),
                 X(q) => format!("n\t{q}\n"),
+                H(q) => format!("h\t{q}\n"),
             };
         }
         text.into_bytes()
@@ -395,17 +398,85 @@ fn conjugated_with_flips(dice: &mut Dice) -> Draft {
     draft
 }
 
+// ------------------------------------------------------------ Hadamards
+
+/// Hadamards among the gates, few or many, some of them at the front, at the end or in a row. What
+/// would cancel or be reachable without them may then not be.
+fn with_hadamards(dice: &mut Dice, mut draft: Draft) -> Draft {
+    let many = 1 + draft.gates.len() / 2;
+    for _ in 0..dice.pick(&[1, 1, 2, 3, 8, many]) {
+        let end = draft.gates.len();
+        let place = match dice.below(8) {
+            0 => 0,
+            1 => end,
+            _ => dice.between(0, end),
+        };
+        for _ in 0..dice.pick(&[1, 1, 1, 2, 3]) {
+            draft.gates.insert(place, H(dice.below(draft.n.max(1))));
+        }
+    }
+    draft
+}
+
+fn perhaps_with_hadamards(dice: &mut Dice, draft: Draft) -> Draft {
+    if dice.percent(40) { with_hadamards(dice, draft) } else { draft }
+}
+
+/// Gates that can be reached by themselves, so as a stretch.
+fn stretch_inside(dice: &mut Dice, draft: &Draft) -> Vec<Gate> {
+    let (inside, away) = (dice.pick(&[0, 1, 3, 8, 15, 30]), dice.below(6));
+    let mut gates = gates_inside(dice, draft, inside);
+    let between = match dice.below(4) {
+        0 => cancelling(dice, draft.n),
+        1 => cancelling_by_flips(dice, draft.n),
+        _ => return gates,
+    };
+    gates.extend(there_and_back(&between, cnots_anywhere(dice, draft.n, away)));
+    gates
+}
+
+/// Reachable, though the CNOTs of a stretch may leave the islands on the way: they come back before the
+/// next Hadamard. Now and then the same stretch is drawn again and again.
+fn stretched(dice: &mut Dice) -> Draft {
+    let n = dice.between(1, 12);
+    let mut draft = draft_of(dice, n);
+    let mut stretch = stretch_inside(dice, &draft);
+    let again = dice.pick(&[0, 0, 50, 100]);
+    for _ in 0..dice.between(1, 9) {
+        draft.gates.extend(&stretch);
+        draft.gates.push(H(dice.below(n)));
+        if dice.percent(again) {
+            push_flip_once(dice, n, &mut stretch);
+            redraw_once(dice, n, &mut stretch);
+        } else {
+            stretch = stretch_inside(dice, &draft);
+        }
+    }
+    draft.gates.extend(stretch);
+    draft
+}
+
+/// So many gates inside the islands, Hadamards spread evenly among them.
+fn spread(dice: &mut Dice, draft: Draft, gates: usize, hadamards: usize) -> Draft {
+    let islands = draft.islands();
+    let is_due = |i: usize| (i + 1) * hadamards / gates > i * hadamards / gates;
+    let gate = |i| if is_due(i) { H(dice.below(draft.n)) } else { gate_inside(dice, &islands) };
+    Draft { gates: (0..gates).map(gate).collect(), ..draft }
+}
+
 // ------------------------------------------------------------ a second drawing
 
 fn qubits_of(gate: Gate) -> [usize; 2] {
     match gate {
         Cnot(c, t) => [c, t],
-        Rot(q, _) | X(q) => [q, q],
+        Rot(q, _) | X(q) | H(q) => [q, q],
     }
 }
 
+/// Nothing goes past a Hadamard, on whatever wire it is.
 fn apart(a: Gate, b: Gate) -> bool {
-    qubits_of(a).iter().all(|q| !qubits_of(b).contains(q))
+    let is_hadamard = |gate| matches!(gate, H(_));
+    !is_hadamard(a) && !is_hadamard(b) && qubits_of(a).iter().all(|q| !qubits_of(b).contains(q))
 }
 
 /// One change that leaves the meaning as it is.
@@ -440,12 +511,13 @@ fn redraw_once(dice: &mut Dice, n: usize, gates: &mut Vec<Gate>) {
     }
 }
 
-/// What an X and the gate behind it are when the X is brought behind that gate. Sums, parities and
-/// flips stay; the common phase may change.
+/// What an X and the gate behind it are when the X is brought behind that gate, which it cannot be
+/// behind a Hadamard. Sums, parities and flips stay; the common phase may change.
 fn pushed(q: usize, behind: Gate) -> Vec<Gate> {
     match behind {
         Cnot(c, t) if c == q => vec![behind, X(c), X(t)],
         Rot(p, angle) if p == q => vec![Rot(p, (65_536 - angle) % 65_536), X(q)],
+        H(_) => vec![X(q), behind],
         _ => vec![behind, X(q)],
     }
 }
@@ -527,10 +599,47 @@ fn with_parities_met_twice(n: usize, count: usize) -> Draft {
     Draft { gates: walk.gates.iter().flat_map(twice).collect(), ..walk }
 }
 
+/// Such walks, each a stretch of its own and on a wire of its own, so that most parities are new.
+fn with_parities_in_stretches(n: usize, counts: &[usize], angle: usize) -> Draft {
+    let moved = |gate: Gate, by: usize| match gate {
+        Cnot(c, t) => Cnot((c + by) % n, (t + by) % n),
+        Rot(q, angle) => Rot((q + by) % n, angle),
+        _ => unreachable!("a walk has no other gates"),
+    };
+    let walk = |(i, &count)| with_parities(n, count, angle).gates.iter().map(|&gate| moved(gate, i)).collect();
+    let walks: Vec<Vec<Gate>> = counts.iter().enumerate().map(walk).collect();
+    Draft::new(n, &line(n), &walks.join(&H(n - 1)))
+}
+
+/// Gates and Hadamards by turns.
+fn by_turns(count: usize) -> Draft {
+    let gate = |i: usize| match i % 8 {
+        0 => Cnot(0, 1),
+        2 => Rot(1, i),
+        4 => Cnot(1, 0),
+        6 => X(0),
+        _ => H(i / 2 % 2),
+    };
+    Draft::new(2, &[(0, 1)], &(0..count).map(gate).collect::<Vec<_>>())
+}
+
+/// A CNOT from one end of a line to the other in each stretch: much is laid for it.
+fn far_apart() -> Draft {
+    Draft::new(20, &line(20), &[Cnot(0, 19), H(7)].repeat(2_048))
+}
+
+fn many_stretches(dice: &mut Dice) -> Draft {
+    let n = dice.between(1, 20);
+    let draft = draft_of(dice, n);
+    let gates = dice.pick(&[4_096, 4_097]);
+    let hadamards = dice.pick(&[gates / 8, gates / 3, gates / 2, gates - 9, gates]);
+    spread(dice, draft, gates, hadamards)
+}
+
 fn at_a_limit(dice: &mut Dice) -> Draft {
     let n = dice.between(10, 20);
     let angle = dice.pick(&[0, 1, 65_535]);
-    match dice.below(12) {
+    match dice.below(20) {
         0 | 1 => with_gates(dice.between(1, 20), dice.pick(&[4_095, 4_096, 4_097])),
         2 | 3 => with_couplers(dice.pick(&[189, 190, 191])),
         4 | 5 => with_parities(n, dice.pick(&[255, 256, 257, 300]), angle),
@@ -540,6 +649,17 @@ fn at_a_limit(dice: &mut Dice) -> Draft {
             let walk = with_parities(n, dice.pick(&[255, 256, 257, 300]), angle);
             with_flips(dice, walk)
         }
+        12 | 13 => many_stretches(dice),
+        14 => by_turns(dice.pick(&[4_096, 4_097])),
+        15 => with_parities_in_stretches(n, &[dice.between(255, 257), dice.between(255, 257)], angle),
+        16 => with_parities_in_stretches(n, &dice.pick(&[[1, 257, 1], [256, 2, 256], [129, 128, 2]]), angle),
+        17 | 18 => {
+            // The line is cut, so that most of these cannot be reached either.
+            let mut walks = with_parities_in_stretches(n, &dice.pick(&[[256, 257], [257, 256]]), angle);
+            walks.couplers.remove(dice.below(n - 1));
+            walks
+        }
+        19 => far_apart(),
         6 => Draft::new(dice.pick(&[0, 1, 20, 21, 22, 127, 128, 255]), &[], &[]),
         _ => with_gates(dice.pick(&[1, 20, 21]), 1),
     }
@@ -566,9 +686,9 @@ fn with_faults(dice: &mut Dice) -> Draft {
     if dice.percent(40) {
         let place = dice.between(0, draft.gates.len());
         let good = dice.below(n);
-        let bad =
-            [Cnot(good, good), Cnot(bad_qubit, good), Cnot(good, bad_second), Rot(bad_qubit, 5), X(bad_qubit), X(n)];
-        draft.gates.insert(place, dice.pick(&bad));
+        let bad_cnots = [Cnot(good, good), Cnot(bad_qubit, good), Cnot(good, bad_second)];
+        let bad = [Rot(bad_qubit, 5), X(bad_qubit), X(n), H(bad_qubit), H(n)];
+        draft.gates.insert(place, dice.pick(&[&bad_cnots[..], &bad].concat()));
     }
     if n > 9 && dice.percent(15) {
         draft.gates.extend(with_parities(n, dice.between(250, 260), 1).gates);
@@ -590,6 +710,7 @@ const ODD_NUMBERS: &[&str] = &[
     "65536", "65537", "99999", "100000", "4294967295", "4294967296", "4294967297",
     "18446744073709551616", "340282366920938463463374607431768211457", "\u{0663}", " 1", "1 ", "a", "1_0",
 ];
+/// `h\t0` is a good line where Hadamards are; it stays, for the fixed list picks by number.
 const ODD_LINES: &[&str] = &[
     "", "q", "q\t", "q\t1", "q\t1\t1", "e", "e\t0", "e\t0\t", "e\t0\t1", "e\t0\t1\t", "e\t0\t1\t1", "c\t0",
     "c\t0\t1", "c\t\t1", "r\t0", "r\t0\t65535", "r\t0\t65536", "r\t255\t1", "r\t256\t1", "x\t1\t0",
@@ -597,11 +718,17 @@ const ODD_LINES: &[&str] = &[
     "h\t0", "r\t0\t-1", "c\t0\t1\r",
 ];
 
-/// Beside the others and not among them: the fixed list picks from those by their number.
+/// These and the next are beside the others and not among them for the same reason.
 const ODD_FLIPS: &[&str] = &[
     "n", "n\t", "n\t\t", "n\t0", "n\t1", "n\t0\t", "n\t0\t0", "n\t0\t1", "n\t0\t0\t0", "n\t00", "n\t01", "n\t+1",
     "n\t-1", "n\t2", "n\t20", "n\t255", "n\t256", "n\t0255", "n\t65535", "n\t65536", "n\t4294967296", "n 0", "n0",
     "nn\t0", "N\t0", "n\t0\r", "n\t 0", "n\ta", "x\t0", "r\t0", "c\t0", "e\t0", "p\t5", "h\t0",
+];
+
+const ODD_HADAMARDS: &[&str] = &[
+    "h", "h\t", "h\t\t", "h\t0", "h\t1", "h\t0\t", "h\t0\t0", "h\t0\t1", "h\t0\t0\t0", "h\t00", "h\t01", "h\t+1",
+    "h\t-1", "h\t2", "h\t20", "h\t255", "h\t256", "h\t0255", "h\t65535", "h\t65536", "h\t4294967296", "h 0", "h0",
+    "hh\t0", "H\t0", "h\t0\r", "h\t 0", "h\ta", "\th\t0", "g\t0", "i\t0",
 ];
 
 fn lines_of(text: &[u8]) -> Vec<Vec<u8>> {
@@ -671,22 +798,29 @@ fn damage_whole(dice: &mut Dice, text: &mut Vec<u8>) {
     };
 }
 
-fn insert_odd_flip(dice: &mut Dice, text: &mut Vec<u8>) {
-    let mut lines = lines_of(text);
+/// Damaged by one of these lines, or as any text is.
+fn damage_by_line(dice: &mut Dice, text: Vec<u8>, odd: &[&str]) -> Vec<u8> {
+    if dice.percent(60) {
+        return damage(dice, text);
+    }
+    let mut lines = lines_of(&text);
     let place = dice.between(0, lines.len());
-    lines.insert(place, [dice.pick(ODD_FLIPS).as_bytes(), b"\n"].concat());
-    *text = lines.concat();
+    lines.insert(place, [dice.pick(odd).as_bytes(), b"\n"].concat());
+    lines.concat()
 }
 
 fn damaged_with_flips(dice: &mut Dice) -> Vec<u8> {
     let n = dice.between(1, 8);
     let draft = reachable(dice, n, 15);
-    let mut text = with_flips(dice, draft).text();
-    if dice.percent(40) {
-        insert_odd_flip(dice, &mut text);
-        return text;
-    }
-    damage(dice, text)
+    let text = with_flips(dice, draft).text();
+    damage_by_line(dice, text, ODD_FLIPS)
+}
+
+fn damaged_with_hadamards(dice: &mut Dice) -> Vec<u8> {
+    let n = dice.between(1, 8);
+    let draft = reachable(dice, n, 15);
+    let text = with_hadamards(dice, draft).text();
+    damage_by_line(dice, text, ODD_HADAMARDS)
 }
 
 fn damaged(dice: &mut Dice) -> Vec<u8> {
@@ -715,6 +849,10 @@ fn noise(dice: &mut Dice) -> Vec<u8> {
 
 fn noise_with_flips(dice: &mut Dice) -> Vec<u8> {
     noise_of(dice, b"qecrnn\t\t\t\n\n012", ODD_FLIPS)
+}
+
+fn noise_with_hadamards(dice: &mut Dice) -> Vec<u8> {
+    noise_of(dice, b"qecrhh\t\t\t\n\n012", ODD_HADAMARDS)
 }
 
 fn noise_of(dice: &mut Dice, letters: &[u8], lines: &[&str]) -> Vec<u8> {
@@ -746,7 +884,8 @@ fn long(dice: &mut Dice) -> Vec<u8> {
     let size = dice.pick(&[65_535, 65_536, 65_536, 65_537, 65_538, 70_000, 200_000]);
     let head = dice.pick(&["q\t1\n", "q\t2\n", "q\t20\n", "q\t21\n", ""]);
     let line = dice.pick(&[
-        "r\t0\t0\n", "r\t19\t65535\n", "e\t0\t1\n", "c\t0\t1\n", "e\t1\t1\n", "\n", "7", "n\t0\n", "n\t0\n", "n\t19\n",
+        "r\t0\t0\n", "r\t19\t65535\n", "e\t0\t1\n", "c\t0\t1\n", "e\t1\t1\n", "\n", "7", "n\t0\n", "n\t19\n",
+        "h\t0\n", "h\t19\n",
     ]);
     let fill = dice.pick(b"\n1\t");
     repeated(head, line, size, fill)
@@ -800,8 +939,10 @@ fn random_drawings(dice: &mut Dice, any: usize) -> Vec<Vec<u8>> {
     let first = match dice.below(10) {
         0..2 => conjugated(dice),
         2..4 => conjugated_with_flips(dice),
+        4..6 => stretched(dice),
         _ => reachable(dice, any, 60),
     };
+    let first = perhaps_with_hadamards(dice, first);
     if dice.percent(30) {
         return vec![first.text(), redrawn(dice, &first).text()];
     }
@@ -814,25 +955,29 @@ fn random_drawings(dice: &mut Dice, any: usize) -> Vec<Vec<u8>> {
 fn random_jobs(dice: &mut Dice) -> Vec<Vec<u8>> {
     let (small, any) = (dice.between(1, 6), dice.between(1, 20));
     let draft = match dice.below(1_000) {
-        0..300 => reachable(dice, small, 30),
-        300..400 => reachable(dice, any, 150),
-        400..500 => crooked(dice),
-        500..512 => reachable(dice, any, 1_500),
-        512..525 => many_terms(dice),
-        525..565 => conjugated(dice),
-        565..605 => conjugated_with_flips(dice),
+        0..260 => reachable(dice, small, 30),
+        260..350 => reachable(dice, any, 150),
+        350..440 => crooked(dice),
+        440..452 => reachable(dice, any, 1_500),
+        452..465 => many_terms(dice),
+        465..500 => conjugated(dice),
+        500..535 => conjugated_with_flips(dice),
+        535..605 => stretched(dice),
         605..685 => leaving(dice),
         685..765 => return random_drawings(dice, any),
-        765..785 => return vec![at_a_limit(dice).text()],
-        785..845 => with_faults(dice),
-        845..905 => return vec![damaged(dice)],
-        905..965 => return vec![damaged_with_flips(dice)],
-        965..980 => return vec![noise(dice)],
-        980..992 => return vec![noise_with_flips(dice)],
+        765..795 => return vec![at_a_limit(dice).text()],
+        795..845 => with_faults(dice),
+        845..885 => return vec![damaged(dice)],
+        885..925 => return vec![damaged_with_flips(dice)],
+        925..965 => return vec![damaged_with_hadamards(dice)],
+        965..974 => return vec![noise(dice)],
+        974..983 => return vec![noise_with_flips(dice)],
+        983..992 => return vec![noise_with_hadamards(dice)],
         992..996 => return vec![spelled_out(dice.pick(RARE))],
         _ => return vec![long(dice)],
     };
-    vec![perhaps_with_flips(dice, draft).text()]
+    let draft = perhaps_with_flips(dice, draft);
+    vec![perhaps_with_hadamards(dice, draft).text()]
 }
 
 fn jobs(count: usize, seed: u64) -> Vec<Vec<u8>> {
@@ -1170,6 +1315,163 @@ const LAYERED: &[&str] = &[
      c 0 1;c 2 3;c 4 5;c 6 7;c 8 9;c 1 2;c 3 4;c 5 6;c 7 8;",
 ];
 
+/// Jobs with Hadamards, spelled as the rare jobs are. Where a place is refused, it is no wire, place in
+/// the stretch or the like that could be taken for it.
+const STRETCHED: &[&str] = &[
+    // No Hadamard; one alone; one first, last, in between; two in a row; empty stretches only.
+    "q 2;e 0 1;c 0 1;r 1 5;",
+    "q 1;h 0;",
+    "q 2;e 0 1;h 1;c 0 1;r 1 5;",
+    "q 2;e 0 1;c 0 1;r 1 5;h 1;",
+    "q 2;e 0 1;c 0 1;h 1;r 1 5;",
+    "q 2;e 0 1;c 0 1;h 1;h 1;r 1 5;",
+    "q 20;e 0 1;h 19;h 0;h 0;h 10;",
+    // They keep their order, and none is left out or moved past a gate.
+    "q 5;h 3;h 0;h 4;h 1;h 2;h 3;",
+    "q 4;e 0 1;h 3;h 1;r 0 5;h 2;h 0;c 0 1;h 1;h 0;n 3;h 0;h 0;",
+    // Sums are not added over one, on its wire or on another: two rotations where one would do, or none.
+    "q 1;r 0 40;h 0;r 0 65496;",
+    "q 2;r 1 40;h 0;r 1 65496;",
+    "q 2;r 1 40;h 0;r 1 2;",
+    "q 3;e 0 1;e 1 2;c 0 1;r 1 40;c 0 1;h 2;c 0 1;r 1 40;c 0 1;",
+    // Within each stretch they are.
+    "q 1;r 0 40;r 0 65496;h 0;r 0 40;r 0 2;h 0;r 0 0;",
+    // Parities start anew: a CNOT or a swap is not undone, and the rotation behind is on the wire's own.
+    "q 2;e 0 1;c 0 1;h 0;c 0 1;",
+    "q 3;e 0 1;e 1 2;c 0 1;h 2;c 0 1;",
+    "q 2;e 0 1;c 0 1;c 1 0;c 0 1;h 0;c 0 1;c 1 0;c 0 1;",
+    "q 3;e 0 1;e 1 2;c 0 1;c 1 2;h 0;r 2 9;",
+    // An X is laid before the Hadamard, and no flip is carried on: to a rotation, a CNOT, an X.
+    "q 1;n 0;h 0;r 0 5;",
+    "q 2;n 1;h 0;r 1 5;",
+    "q 2;e 0 1;n 0;h 1;c 0 1;",
+    "q 2;n 1;h 0;n 1;",
+    // The X gates of each stretch, island by island.
+    "q 4;e 0 2;e 3 1;n 3;n 2;n 1;n 0;r 1 7;h 0;n 1;n 0;c 0 2;",
+    // Phases are summed: 5 and 6; 5 and 65,531, which is one turn; 40,000 twice; that of one stretch alone.
+    "q 1;n 0;r 0 5;n 0;h 0;n 0;r 0 6;n 0;",
+    "q 1;n 0;r 0 5;n 0;h 0;n 0;r 0 65531;n 0;",
+    "q 2;n 0;r 0 40000;h 1;n 1;r 1 40000;",
+    "q 2;r 0 3;h 0;n 1;r 1 8;h 1;r 1 4;",
+    // Depth is that of the whole list: 1; 2, though there are three stretches; 2; 4.
+    "q 4;e 0 1;e 2 3;c 0 1;h 0;c 2 3;",
+    "q 4;e 0 1;e 2 3;c 0 1;h 0;c 2 3;h 3;c 1 0;",
+    "q 3;e 0 1;e 1 2;c 0 1;h 2;c 1 2;",
+    "q 6;e 0 1;e 1 2;e 3 4;e 4 5;e 2 3;c 0 1;c 1 2;h 0;c 3 4;c 4 5;h 1;c 2 3;h 2;c 3 4;",
+    // Refusal 7, by a wire and by a term: the place of the stretch's first gate.
+    "q 3;e 0 1;r 0 1;r 1 1;c 0 1;h 0;r 1 2;c 0 2;",
+    "q 3;e 0 1;r 0 1;r 1 1;c 0 1;h 0;r 1 2;c 0 2;r 2 40;c 0 2;",
+    "q 3;e 0 1;h 0;h 1;h 2;h 0;h 1;c 0 1;c 1 2;",
+    "q 3;e 0 1;r 0 1;c 0 2;h 0;",
+    "q 3;e 0 1;r 0 1;c 0 2;r 2 40;c 0 2;h 0;",
+    // The first of two such stretches.
+    "q 3;e 0 1;h 0;r 0 1;h 0;c 1 0;c 0 2;h 0;c 1 2;",
+    // Without a Hadamard it is the wire, and n for a term.
+    "q 3;e 0 1;r 0 1;r 1 1;c 0 1;r 1 2;c 0 2;",
+    "q 3;e 0 1;r 0 1;r 1 1;c 0 1;r 1 2;c 0 2;r 2 40;c 0 2;",
+    // What leads out of an island comes back before the Hadamard, or only behind it.
+    "q 3;e 0 1;c 0 2;r 2 40;r 2 65496;c 0 2;h 2;c 0 2;c 0 2;",
+    "q 3;e 0 1;c 0 2;h 0;c 0 2;",
+    "q 3;e 0 1;c 0 2;h 1;c 0 2;",
+    "q 3;e 0 1;h 0;c 0 2;r 2 40;c 0 2;h 1;c 0 2;r 2 65496;c 0 2;",
+    // Refusal 5: the place counts Hadamards; beside other bad gates; before 7.
+    "q 2;h 2;",
+    "q 2;h 255;h 1;",
+    "q 20;h 19;h 20;",
+    "q 2;h 0;n 1;h 1;h 2;c 0 0;",
+    "q 2;h 0;n 1;h 1;c 0 0;h 2;",
+    "q 3;c 0 1;h 0;h 3;",
+    // Refusals 1 and 3 before it.
+    "q 0;h 0;",
+    "q 21;h 20;",
+    "q 2;e 1 1;h 2;",
+    // Refusal 10: out of order.
+    "h 0;",
+    "h 0;q 1;",
+    "q 2;h 0;e 0 1;",
+    "q 2;e 0 1;h 0;e 0 1;h 1;",
+];
+
+/// Refusal 6: the parities of each stretch are counted for themselves.
+fn parities_of_stretches() -> Vec<Draft> {
+    let walks = |counts: &[usize]| with_parities_in_stretches(10, counts, 0);
+    // Wire 10 is an island of its own, so the first stretch cannot be reached.
+    let after_7 = |count: usize| {
+        let walk = with_parities(10, count, 0).gates;
+        Draft::new(11, &line(10), &[vec![Rot(0, 1), Cnot(0, 10), H(0)], walk].concat())
+    };
+    // Here the later one cannot.
+    let before_7 = |count: usize| {
+        let walk = with_parities(10, count, 0).gates;
+        Draft::new(11, &line(10), &[walk, vec![H(0), Rot(0, 1), Cnot(0, 10)]].concat())
+    };
+    let mut other_wire = walks(&[256]);
+    other_wire.gates.extend([H(9), Rot(1, 5)]);
+    // The bad Hadamard stands behind the gate that brings the 257th.
+    let mut before_5 = walks(&[2, 257]);
+    before_5.gates.push(H(10));
+    vec![
+        // Accepted: 257 of two stretches; 256 in each of two.
+        other_wire,
+        walks(&[256, 256]),
+        // In a later stretch, in the first of two, in the last.
+        walks(&[2, 257]),
+        walks(&[257, 257]),
+        walks(&[256, 0, 3, 257, 1]),
+        // All stretches pass 6 before any is tested for 7.
+        after_7(257),
+        after_7(256),
+        before_7(257),
+        before_7(256),
+        before_5,
+    ]
+}
+
+/// As `fails_4_and_5`, of Hadamards.
+fn hadamards_that_fail_4_and_5() -> Draft {
+    let mut draft = Draft::new(3, &line(3), &[H(0); 4_097]);
+    draft.gates[7] = H(3);
+    draft
+}
+
+fn couplings_in_stretches() -> Vec<Draft> {
+    let mut dice = Dice(12);
+    let mut drafts = vec![];
+    for n in [1, 2, 3, 4, 6, 9, 14, 20] {
+        for couplers in [line(n), tree(&mut dice, n), many_islands(&mut dice, n)] {
+            drafts.push(spread(&mut dice, Draft::new(n, &couplers, &[]), 30, 5));
+        }
+    }
+    drafts.push(spread(&mut dice, Draft::new(20, &singapore(), &[]), 40, 4));
+    drafts.push(spread(&mut dice, Draft::new(16, &aspen(), &[]), 40, 4));
+    drafts.extend((0..20).map(|_| stretched(&mut dice)));
+    drafts
+}
+
+/// Three drawings of each job.
+fn stretched_thrice() -> Vec<Draft> {
+    let mut dice = Dice(123);
+    let mut drafts = vec![];
+    for _ in 0..5 {
+        let first = stretched(&mut dice);
+        let others = [redrawn(&mut dice, &first), redrawn_with_flips(&mut dice, &first)];
+        drafts.push(first);
+        drafts.extend(others);
+    }
+    drafts
+}
+
+fn stretched_list() -> Vec<Vec<u8>> {
+    let mut drafts = parities_of_stretches();
+    drafts.extend([by_turns(4_096), by_turns(4_097), hadamards_that_fail_4_and_5()]);
+    drafts.extend(couplings_in_stretches());
+    drafts.extend(stretched_thrice());
+    let mut texts: Vec<Vec<u8>> = STRETCHED.iter().map(|text| spelled_out(text)).collect();
+    texts.extend(drafts.iter().map(Draft::text));
+    texts.extend(ODD_HADAMARDS.iter().map(|line| format!("q\t2\nh\t1\n{line}\n").into_bytes()));
+    texts
+}
+
 /// The fixed list can only hold texts that are empty or end with LF.
 fn ends_with_lf(text: &[u8]) -> bool {
     text.is_empty() || text.ends_with(b"\n")
@@ -1191,6 +1493,7 @@ fn vectors() -> Vec<Vec<u8>> {
     texts.extend((0..30).map(|_| noise(&mut dice)));
     texts.extend(flipped());
     texts.extend(LAYERED.iter().map(|text| spelled_out(text)));
+    texts.extend(stretched_list());
     texts.retain(|text| ends_with_lf(text));
     texts
 }
@@ -1271,6 +1574,57 @@ const SCANT: &[&str] = &[
     "q 3;e 0 1;c 0 2;",
 ];
 
+/// The same with Hadamards.
+const SCANT_STRETCHES: &[&str] = &[
+    // Reading: exactly enough, a gate too many.
+    "q 1;h 0;h 0;h 0;h 0;",
+    "q 1;h 0;h 0;h 0;h 0;h 0;",
+    "q 2;e 0 1;r 0 5;h 0;c 0 1;h 1;",
+    "q 2;e 0 1;r 0 5;h 0;c 0 1;h 1;n 0;",
+    // Reading, 10 and 8; 10 alone.
+    "q 1;h 0;h 0;h 0;h 0;h 0;h 0 0;",
+    "q 1;h;",
+    // Laying, n = 2: a stretch needs 6 records and 3 for each term. Of 5 stretches with 5 terms B is 49, of 6
+    // with 3 it is 50.
+    "q 2;e 0 1;r 0 1;r 1 2;c 0 1;r 1 3;h 0;r 0 1;h 1;h 0;r 1 1;h 0;",
+    "q 2;e 0 1;r 0 1;h 0;h 1;r 1 2;h 0;h 1;r 0 3;h 1;",
+    // For n = 3 it is 15 and 5 for each term: 47, and 52 by one term more.
+    "q 3;h 0;h 1;",
+    "q 3;h 0;h 1;r 2 1;",
+    // Each stretch alone needs 28, and both 57.
+    "q 4;",
+    "q 4;h 0;",
+    // Laying, 7 and 8: in a later stretch, by a wire and by a term.
+    "q 5;e 0 1;h 0;r 1 1;c 0 2;",
+    "q 5;e 0 1;h 0;c 0 2;r 2 40;c 0 2;",
+    // Writing: 28 bytes; 29, exactly enough; 30, one too many.
+    "q 2;h 0;h 1;h 0;h 1;h 0;h 1;",
+    "q 20;h 0;h 1;h 2;h 3;h 4;h 5;",
+    "q 20;h 0;h 1;h 2;h 3;h 4;h 15;",
+    // Writing, 3 and 5; 5 and 8; 5 alone.
+    "q 2;e 0 1;e 1 1;h 2;",
+    "q 2;n 0;h 1;n 0;h 1;n 0;h 2;n 1;",
+    "q 2;h 0;h 2;",
+    // Writing does not test 7.
+    "q 3;e 0 1;h 0;c 0 2;",
+];
+
+/// n = 1: a stretch needs one record and one for its term, a Hadamard one. B is 49 and 50, by turns.
+fn stretches_of_one_qubit() -> Vec<Draft> {
+    let of = |stretches: &[Vec<Gate>]| Draft::new(1, &[], &stretches.join(&H(0)));
+    let with_terms = |count: usize| of(&[vec![vec![Rot(0, 1)]; count], vec![vec![]; 17 - count]].concat());
+    let empty = vec![vec![]; 24];
+    let last_has = |angle: usize| of(&[empty.clone(), vec![vec![Rot(0, angle)]]].concat());
+    vec![
+        // 17 stretches of 16 terms, and of 17; it is one parity.
+        with_terms(16),
+        with_terms(17),
+        // 25 stretches without a term, and with one.
+        last_has(0),
+        last_has(1),
+    ]
+}
+
 /// As `fails_4_and_5`, of X gates.
 fn flips_that_fail_4_and_5() -> Draft {
     let mut draft = Draft::new(3, &line(3), &[X(0); 4_097]);
@@ -1287,8 +1641,8 @@ fn flip_before_parities(count: usize) -> Draft {
 }
 
 /// Writing, 1 and 2, 2 and 3. Writing tests neither 4 nor 6: it says 5 where laying says 4, and 8
-/// where laying says 6. The last four are the limits of 4 and 6 with X gates; a parity that is met
-/// twice, flipped and not, counts once.
+/// where laying says 6. The last four long ones are the limits of 4 and 6 with X gates; a parity that
+/// is met twice, flipped and not, counts once. Those with Hadamards are behind them.
 fn scant() -> Vec<Vec<u8>> {
     let long = [
         fails_1_and_2(),
@@ -1300,7 +1654,12 @@ fn scant() -> Vec<Vec<u8>> {
         with_parities_met_twice(10, 129),
         flip_before_parities(257),
     ];
-    SCANT.iter().map(|text| spelled_out(text)).chain(long.iter().map(Draft::text)).collect()
+    let mut texts: Vec<Vec<u8>> = SCANT.iter().map(|text| spelled_out(text)).collect();
+    texts.extend(long.iter().map(Draft::text));
+    texts.extend(SCANT_STRETCHES.iter().map(|text| spelled_out(text)));
+    texts.extend(stretches_of_one_qubit().iter().map(Draft::text));
+    texts.push(hadamards_that_fail_4_and_5().text());
+    texts
 }
 
 // ------------------------------------------------------------ two long texts
@@ -1345,6 +1704,13 @@ fn named_coupling(name: &str) -> Option<(usize, Vec<(usize, usize)>)> {
         "aspen" => Some((16, aspen())),
         _ => None,
     }
+}
+
+/// As many gates as a job may have, so many stretches.
+fn stretches(coupling: &str, count: usize, seed: u64) -> Option<Vec<u8>> {
+    let (n, couplers) = named_coupling(coupling)?;
+    let hadamards = count.checked_sub(1).filter(|&hadamards| hadamards <= 4_096)?;
+    Some(spread(&mut Dice(seed), Draft::new(n, &couplers, &[]), 4_096, hadamards).text())
 }
 
 fn terms(coupling: &str, count: usize, jobs: usize, seed: u64) -> Option<Vec<Vec<u8>>> {
@@ -1427,6 +1793,7 @@ fn printed(words: &[&str]) -> Option<Vec<u8>> {
             let (t, count) = (number(t)? as usize, number(count)? as usize);
             terms(coupling, t, count, number(seed)?).map(bundle)
         }
+        ["stretches", coupling, count, seed] => stretches(coupling, number(count)? as usize, number(seed)?),
         ["longest"] => Some(longest()),
         ["overlong"] => Some(overlong()),
         _ => None,
@@ -1439,7 +1806,7 @@ fn main() {
     let Some(text) = printed(&words) else {
         eprintln!(
             "generate jobs COUNT SEED | parts COUNT SEED BUNDLE TEXT FOLDER | vectors BUNDLE TEXT | scant BUNDLE | \
-             terms COUPLING T COUNT SEED | longest | overlong"
+             terms COUPLING T COUNT SEED | stretches COUPLING COUNT SEED | longest | overlong"
         );
         std::process::exit(2)
     };

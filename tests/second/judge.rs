@@ -1,6 +1,6 @@
-//! The judge: knows what document 01, with document 02's E2 and E3, means and nothing of how gates
-//! are laid. It says whether the texts that the laying and the counting program printed are right for
-//! a job.
+//! The judge: knows what document 01, with document 02's E2, E3 and E12, means and nothing of how
+//! gates are laid. It says whether the texts that the laying and the counting program printed are
+//! right for a job.
 //!
 //!     judge one JOB LAID [COUNTED]   three files
 //!     judge many JOBS PRINTED        a bundle of jobs and what the program `vectors` printed for it:
@@ -11,13 +11,15 @@
 //!
 //! The two programs do not print the common phase that an acceptance returns. So `many` judges the
 //! phase that was returned, and the others take the one that has to be returned in its place.
-//! In `many` and `bundle`, jobs with the same qubits, couplers, final parities, flips and sums must
-//! get the same gates too; it says how many of them there were ("drawn before").
+//! In `many` and `bundle`, stretches with the same qubits, couplers, final parities, flips and sums,
+//! of one job or of two, must get the same gates too; it says how many of them there were ("drawn
+//! before").
 //! Prints `ok` or what is wrong; the exit status is 1 on a fault and 2 on wrong use.
 //! A bundle is a row of texts, each closed by a line `--`, or by a line `-.` where the last LF
 //! is not the text's own.
 
-use std::collections::{BTreeMap, BTreeSet, HashMap, VecDeque};
+use std::collections::hash_map::{Entry, HashMap};
+use std::collections::{BTreeMap, BTreeSet, VecDeque};
 use std::fmt::Write as _;
 
 #[derive(Clone, Copy, PartialEq)]
@@ -27,6 +29,7 @@ enum Line {
     Cnot(u32, u32),
     Rotation(u32, u32),
     X(u32),
+    Hadamard(u32),
 }
 
 /// The right answer to a job.
@@ -38,8 +41,9 @@ enum Verdict {
 struct Wanted {
     n: u32,
     couplers: BTreeSet<(u32, u32)>,
-    gates: Vec<Line>,
-    meaning: Meaning,
+    /// The qubits of the Hadamards.
+    hadamards: Vec<u32>,
+    stretches: Vec<Stretch>,
     /// For each qubit the lowest qubit of its island.
     labels: Vec<u32>,
 }
@@ -78,13 +82,14 @@ fn parse_line(line: &[u8]) -> Option<Line> {
         'c' => Line::Cnot(a, take_number(&mut rest, 65_535)?),
         'r' => Line::Rotation(a, take_number(&mut rest, 65_535)?),
         'n' => Line::X(a),
+        'h' => Line::Hadamard(a),
         _ => return None,
     };
     rest.is_empty().then_some(parsed)
 }
 
-/// Which stretch of a job a line belongs to; stretches never go down.
-fn stretch(line: Line) -> u32 {
+/// Which part of a job a line belongs to; parts never go down.
+fn part(line: Line) -> u32 {
     match line {
         Line::Qubits(_) => 0,
         Line::Coupler(..) => 1,
@@ -101,8 +106,8 @@ fn parse_job(text: &[u8]) -> Result<Vec<Line>, u32> {
         let end = rest.iter().position(|&byte| byte == b'\n').ok_or(here)?;
         let line = parse_line(&rest[..end]).ok_or(here)?;
         let continues = match lines.last() {
-            None => stretch(line) == 0,
-            Some(&last) => stretch(line) > 0 && stretch(line) >= stretch(last),
+            None => part(line) == 0,
+            Some(&last) => part(line) > 0 && part(line) >= part(last),
         };
         if !continues {
             return Err(here);
@@ -121,47 +126,95 @@ const FULL_TURN: u32 = 65_536;
 /// this number, and the exclusive or of a CNOT carries the control's flip along.
 const FLIP: u32 = 1 << 31;
 
-struct Meaning {
+/// The wires behind the last Hadamard, and what they were fed since.
+struct Stretch {
+    /// Where its first gate stands, or would stand, in the whole list.
+    place: usize,
+    gates: Vec<Line>,
     wires: Vec<u32>,
-    terms: BTreeMap<u32, u32>,
-    /// Common to all states.
-    phase: u32,
+    rotations: Vec<Rotation>,
 }
 
-/// Feeds gates to the wires; tells of each rotation the wire it meets.
-fn run(n: u32, gates: &[Line], mut on_rotation: impl FnMut(usize, u32, u32)) -> Vec<u32> {
-    let mut wires: Vec<u32> = (0..n).map(|i| 1 << i).collect();
-    for (place, &gate) in gates.iter().enumerate() {
-        match gate {
-            Line::Cnot(c, t) => wires[t as usize] ^= wires[c as usize],
-            Line::Rotation(q, angle) => on_rotation(place, wires[q as usize], angle),
-            Line::X(q) => wires[q as usize] ^= FLIP,
-            _ => unreachable!("only gates are fed"),
-        }
+/// A rotation, by the wire that it met.
+struct Rotation {
+    place: usize,
+    wire: u32,
+    angle: u32,
+}
+
+impl Stretch {
+    fn fresh(n: u32, place: usize) -> Stretch {
+        Stretch { place, gates: vec![], wires: (0..n).map(|i| 1 << i).collect(), rotations: vec![] }
     }
-    wires
+
+    fn feed(&mut self, gate: Line) {
+        match gate {
+            Line::Cnot(c, t) => self.wires[t as usize] ^= self.wires[c as usize],
+            Line::Rotation(q, angle) => {
+                let place = self.place + self.gates.len();
+                self.rotations.push(Rotation { place, wire: self.wires[q as usize], angle });
+            }
+            Line::X(q) => self.wires[q as usize] ^= FLIP,
+            _ => unreachable!("only gates of a stretch are fed"),
+        }
+        self.gates.push(gate);
+    }
+
+    /// The parities whose sum is not 0, with it.
+    fn terms(&self) -> BTreeMap<u32, u32> {
+        let mut terms = BTreeMap::new();
+        for rotation in &self.rotations {
+            let sum = terms.entry(rotation.parity()).or_insert(0);
+            *sum = (*sum + rotation.share()) % FULL_TURN;
+        }
+        terms.retain(|_, sum| *sum != 0);
+        terms
+    }
+
+    /// The phase common to all states.
+    fn phase(&self) -> u32 {
+        let on_flipped = self.rotations.iter().filter(|rotation| is_flipped(rotation.wire));
+        on_flipped.fold(0, |phase, rotation| (phase + rotation.angle) % FULL_TURN)
+    }
+}
+
+impl Rotation {
+    fn parity(&self) -> u32 {
+        self.wire & !FLIP
+    }
+
+    /// What it adds to the sum of its parity.
+    fn share(&self) -> u32 {
+        if is_flipped(self.wire) { (FULL_TURN - self.angle) % FULL_TURN } else { self.angle }
+    }
 }
 
 fn is_flipped(wire: u32) -> bool {
     wire & FLIP != 0
 }
 
-/// What an angle on a wire adds to the sum of the wire's parity.
-fn share(wire: u32, angle: u32) -> u32 {
-    if is_flipped(wire) { (FULL_TURN - angle) % FULL_TURN } else { angle }
+/// Feeds gates to the wires. A Hadamard, on whatever wire, leaves all of them as they are and has fresh
+/// ones fed behind it.
+fn stretches(n: u32, gates: &[Line]) -> Vec<Stretch> {
+    let mut done = vec![];
+    let mut now = Stretch::fresh(n, 0);
+    for (place, &gate) in gates.iter().enumerate() {
+        if let Line::Hadamard(_) = gate {
+            done.push(std::mem::replace(&mut now, Stretch::fresh(n, place + 1)));
+        } else {
+            now.feed(gate);
+        }
+    }
+    done.push(now);
+    done
 }
 
-fn meaning(n: u32, gates: &[Line]) -> Meaning {
-    let (mut terms, mut phase) = (BTreeMap::new(), 0);
-    let wires = run(n, gates, |_, wire, angle| {
-        let sum = terms.entry(wire & !FLIP).or_insert(0);
-        *sum = (*sum + share(wire, angle)) % FULL_TURN;
-        if is_flipped(wire) {
-            phase = (phase + angle) % FULL_TURN;
-        }
-    });
-    terms.retain(|_, sum| *sum != 0);
-    Meaning { wires, terms, phase }
+fn hadamards(gates: &[Line]) -> Vec<u32> {
+    gates.iter().filter_map(|gate| if let Line::Hadamard(q) = *gate { Some(q) } else { None }).collect()
+}
+
+fn sum_of_phases(stretches: &[Stretch]) -> u32 {
+    stretches.iter().fold(0, |sum, stretch| (sum + stretch.phase()) % FULL_TURN)
 }
 
 /// Where a basis state goes and the units of phase it gets on the way.
@@ -172,7 +225,7 @@ fn follow_state(mut state: u32, gates: &[Line]) -> (u32, u32) {
             Line::Cnot(c, t) => state ^= (state >> c & 1) << t,
             Line::Rotation(q, angle) => phase = (phase + angle * (state >> q & 1)) % FULL_TURN,
             Line::X(q) => state ^= 1 << q,
-            _ => unreachable!("only gates are fed"),
+            _ => unreachable!("only gates of a stretch are followed"),
         }
     }
     (state, phase)
@@ -204,7 +257,7 @@ fn peel(waiting: &mut [VecDeque<usize>]) {
     }
 }
 
-/// The number of layers. Rotations and X gates wait on no wire, so they take none.
+/// The number of layers. Only CNOTs wait on wires, so nothing else takes one or parts two of them.
 fn depth(n: u32, gates: &[Line]) -> u32 {
     let mut waiting = cnots_by_wire(n, gates);
     let mut layers = 0;
@@ -237,14 +290,23 @@ fn all_on(parity: u32, label: u32, labels: &[u32]) -> bool {
     (0..labels.len()).all(|q| parity >> q & 1 == 0 || labels[q] == label)
 }
 
-/// The place of refusal 7, if the gates are not reachable. Flips play no part.
-fn unreachable_place(n: u32, meaning: &Meaning, labels: &[u32]) -> Option<u32> {
-    let leaves = |i: &usize| !all_on(meaning.wires[*i], labels[*i], labels);
-    if let Some(wire) = (0..meaning.wires.len()).find(leaves) {
-        return Some(wire as u32);
+/// The wire at which a stretch leaves its islands, n where a term does; none if it is reachable. Flips
+/// play no part.
+fn unreachable_wire(stretch: &Stretch, labels: &[u32]) -> Option<usize> {
+    let leaves = |i: &usize| !all_on(stretch.wires[*i], labels[*i], labels);
+    if let Some(wire) = (0..stretch.wires.len()).find(leaves) {
+        return Some(wire);
     }
     let astray = |term: &u32| !labels.iter().any(|&label| all_on(*term, label, labels));
-    meaning.terms.keys().any(astray).then_some(n)
+    stretch.terms().keys().any(astray).then_some(labels.len())
+}
+
+/// The place of refusal 7: where there is a Hadamard, that of the first gate of the stretch.
+fn unreachable_place(stretches: &[Stretch], labels: &[u32]) -> Option<usize> {
+    match stretches {
+        [only] => unreachable_wire(only, labels),
+        _ => stretches.iter().find(|stretch| unreachable_wire(stretch, labels).is_some()).map(|stretch| stretch.place),
+    }
 }
 
 // ------------------------------------------------------------ the right answer
@@ -256,22 +318,19 @@ fn bad_coupler(line: &Line, n: u32) -> bool {
 fn bad_gate(line: &Line, n: u32) -> bool {
     match *line {
         Line::Cnot(c, t) => c >= n || t >= n || c == t,
-        Line::Rotation(q, _) | Line::X(q) => q >= n,
+        Line::Rotation(q, _) | Line::X(q) | Line::Hadamard(q) => q >= n,
         _ => true,
     }
 }
 
-/// The gate that brings the 257th parity.
-fn one_parity_too_many(n: u32, gates: &[Line]) -> Option<u32> {
+/// The gate that brings the 257th parity of a stretch.
+fn one_parity_too_many(stretch: &Stretch) -> Option<usize> {
     let mut borne = BTreeSet::new();
-    let mut found = None;
-    run(n, gates, |place, wire, _| {
-        borne.insert(wire & !FLIP);
-        if borne.len() > 256 {
-            found = found.or(Some(place as u32));
-        }
-    });
-    found
+    let brings_it = |rotation: &&Rotation| {
+        borne.insert(rotation.parity());
+        borne.len() > 256
+    };
+    stretch.rotations.iter().find(brings_it).map(|rotation| rotation.place)
 }
 
 fn right_answer(text: &[u8]) -> Verdict {
@@ -285,7 +344,7 @@ fn right_answer(text: &[u8]) -> Verdict {
     };
     let Line::Qubits(n) = lines[0] else { unreachable!("a job starts with its qubits") };
     let (listed, gates): (Vec<Line>, Vec<Line>) =
-        lines[1..].iter().partition(|&&line| stretch(line) == 1);
+        lines[1..].iter().partition(|&&line| part(line) == 1);
     if n == 0 || n > 20 {
         return Refused(1, 0);
     }
@@ -301,18 +360,19 @@ fn right_answer(text: &[u8]) -> Verdict {
     if let Some(place) = gates.iter().position(|gate| bad_gate(gate, n)) {
         return Refused(5, place as u32);
     }
-    if let Some(place) = one_parity_too_many(n, &gates) {
-        return Refused(6, place);
+    let stretches = stretches(n, &gates);
+    if let Some(place) = stretches.iter().find_map(one_parity_too_many) {
+        return Refused(6, place as u32);
     }
     let ends = |line: &Line| match *line {
         Line::Coupler(a, b) => (a.min(b), a.max(b)),
         _ => unreachable!("only couplers are listed"),
     };
     let couplers = listed.iter().map(ends).collect();
-    let (meaning, labels) = (meaning(n, &gates), island_labels(n, &couplers));
-    match unreachable_place(n, &meaning, &labels) {
-        Some(place) => Refused(7, place),
-        None => Verdict::Accepted(Wanted { n, couplers, gates, meaning, labels }),
+    let labels = island_labels(n, &couplers);
+    match unreachable_place(&stretches, &labels) {
+        Some(place) => Refused(7, place as u32),
+        None => Verdict::Accepted(Wanted { n, couplers, hadamards: hadamards(&gates), stretches, labels }),
     }
 }
 
@@ -366,24 +426,24 @@ fn check_couplers(wanted: &Wanted, laid: &[Line]) -> Result<(), String> {
 fn label_of(wanted: &Wanted, gate: Line) -> u32 {
     match gate {
         Line::Cnot(q, _) | Line::Rotation(q, _) | Line::X(q) => wanted.labels[q as usize],
-        _ => unreachable!("only gates are on islands"),
+        _ => unreachable!("only gates of a stretch are on islands"),
     }
 }
 
 /// One island after another, by ascending lowest qubit.
-fn check_islands(wanted: &Wanted, laid: &[Line]) -> Result<(), String> {
-    for (before, pair) in laid.windows(2).enumerate() {
+fn check_islands(wanted: &Wanted, laid: &Stretch) -> Result<(), String> {
+    for (place, pair) in (laid.place + 1..).zip(laid.gates.windows(2)) {
         let in_order = label_of(wanted, pair[0]) <= label_of(wanted, pair[1]);
-        ensure(in_order, || format!("laid gate {}: its island was to come earlier", before + 1))?;
+        ensure(in_order, || format!("laid gate {place}: its island was to come earlier"))?;
     }
     Ok(())
 }
 
 /// The X gates of an island stand behind its other gates, ascending, and are on the wires whose flip
 /// is asked for. With the order of islands they stand directly behind.
-fn check_flips(wanted: &Wanted, laid: &[Line]) -> Result<(), String> {
+fn check_flips(wanted: &Wanted, asked: &Stretch, laid: &Stretch) -> Result<(), String> {
     let mut last_flip: HashMap<u32, u32> = HashMap::new();
-    for (place, &gate) in laid.iter().enumerate() {
+    for (place, &gate) in (laid.place..).zip(&laid.gates) {
         let island = label_of(wanted, gate);
         let last = last_flip.get(&island);
         if let Line::X(q) = gate {
@@ -394,38 +454,60 @@ fn check_flips(wanted: &Wanted, laid: &[Line]) -> Result<(), String> {
         }
     }
     let qubit_of_x = |gate: &Line| if let Line::X(q) = *gate { Some(q) } else { None };
-    let got: BTreeSet<u32> = laid.iter().filter_map(qubit_of_x).collect();
-    let asked: BTreeSet<u32> = (0..wanted.n).filter(|&q| is_flipped(wanted.meaning.wires[q as usize])).collect();
+    let got: BTreeSet<u32> = laid.gates.iter().filter_map(qubit_of_x).collect();
+    let asked: BTreeSet<u32> = (0..wanted.n).filter(|&q| is_flipped(asked.wires[q as usize])).collect();
     ensure(got == asked, || format!("X on {got:?} instead of {asked:?}"))
 }
 
 /// One rotation for each term, by its sum, and none besides.
-fn check_rotations(wanted: &Wanted, laid: &[Line]) -> Result<(), String> {
-    let mut open = wanted.meaning.terms.clone();
-    let mut fault = None;
-    run(wanted.n, laid, |place, wire, angle| {
-        let parity = wire & !FLIP;
-        if open.remove(&parity) != Some(share(wire, angle)) {
-            fault = fault.take().or(Some(format!("laid gate {place}: wrong rotation of {parity}")));
-        }
-    });
-    fault.map_or(Ok(()), Err)?;
+fn check_rotations(asked: &Stretch, laid: &Stretch) -> Result<(), String> {
+    let mut open = asked.terms();
+    for rotation in &laid.rotations {
+        let is_asked = open.remove(&rotation.parity()) == Some(rotation.share());
+        ensure(is_asked, || format!("laid gate {}: wrong rotation of {}", rotation.place, rotation.parity()))?;
+    }
     ensure(open.is_empty(), || format!("{} terms have no rotation", open.len()))
 }
 
-fn check_meaning(wanted: &Wanted, laid: &[Line]) -> Result<(), String> {
-    let (asked, reached) = (&wanted.meaning, meaning(wanted.n, laid));
+fn check_meaning(asked: &Stretch, laid: &Stretch) -> Result<(), String> {
     let parities = |wires: &[u32]| wires.iter().map(|wire| wire & !FLIP).collect::<Vec<u32>>();
-    let (asked_parities, parities) = (parities(&asked.wires), parities(&reached.wires));
+    let (asked_parities, parities) = (parities(&asked.wires), parities(&laid.wires));
     ensure(asked_parities == parities, || format!("final parities {parities:?} instead of {asked_parities:?}"))?;
-    ensure(asked.wires == reached.wires, || "the final flips are not those of the job".into())?;
-    ensure(asked.terms == reached.terms, || "the sums are not those of the job".into())?;
-    ensure(reached.phase == 0, || format!("the laid gates have a common phase of {}", reached.phase))
+    ensure(asked.wires == laid.wires, || "the final flips are not those of the job".into())?;
+    ensure(asked.terms() == laid.terms(), || "the sums are not those of the job".into())?;
+    ensure(laid.phase() == 0, || format!("the laid gates have a common phase of {}", laid.phase()))
+}
+
+fn check_bound(n: u32, asked: &Stretch, laid: &Stretch) -> Result<(), String> {
+    let t = asked.terms().len() as u32;
+    let (cnots, most) = (count_cnots(&laid.gates), 2 * (n - 1) * t + 2 * n * (n - 1));
+    ensure(cnots <= most, || format!("{cnots} CNOTs, at most {most} are allowed"))?;
+    let rotations = count_rotations(&laid.gates);
+    ensure(rotations == t, || format!("{rotations} rotations for {t} terms"))?;
+    let (gates, bound) = (laid.gates.len() as u32, most + t + n);
+    ensure(gates <= bound, || format!("{gates} gates, at most {bound} are allowed"))
+}
+
+fn check_stretch(wanted: &Wanted, asked: &Stretch, laid: &Stretch) -> Result<(), String> {
+    check_islands(wanted, laid)?;
+    check_flips(wanted, asked, laid)?;
+    check_rotations(asked, laid)?;
+    check_meaning(asked, laid)?;
+    check_bound(wanted.n, asked, laid)
+}
+
+/// The same Hadamards in the same order; then there are as many stretches.
+fn check_hadamards(wanted: &Wanted, laid: &[Line]) -> Result<(), String> {
+    let (asked, got) = (&wanted.hadamards, hadamards(laid));
+    let same = asked.iter().zip(&got).take_while(|(a, b)| a == b).count();
+    ensure(*asked == got, || {
+        format!("{} Hadamards for {}, the first {same} the same", got.len(), asked.len())
+    })
 }
 
 /// The phase that the acceptance returned; where it is not printed, the one it has to return.
 fn returned_phase(wanted: &Wanted, printed: Option<&[u8]>) -> Result<u32, String> {
-    let Some(line) = printed else { return Ok(wanted.meaning.phase) };
+    let Some(line) = printed else { return Ok(sum_of_phases(&wanted.stretches)) };
     if line.is_empty() {
         return Ok(0);
     }
@@ -437,23 +519,37 @@ fn returned_phase(wanted: &Wanted, printed: Option<&[u8]>) -> Result<u32, String
 }
 
 /// The job's common phase is that of the laid gates and the returned one together.
-fn check_phase(wanted: &Wanted, laid: &[Line], returned: u32) -> Result<(), String> {
-    let asked = wanted.meaning.phase;
-    let reached = (meaning(wanted.n, laid).phase + returned) % FULL_TURN;
+fn check_phase(wanted: &Wanted, laid: &[Stretch], returned: u32) -> Result<(), String> {
+    let asked = sum_of_phases(&wanted.stretches);
+    let reached = (sum_of_phases(laid) + returned) % FULL_TURN;
     ensure(asked == reached, || format!("a common phase of {reached} instead of {asked}"))
 }
 
-/// The same said of states, for few qubits.
-fn check_states(wanted: &Wanted, laid: &[Line], returned: u32) -> Result<(), String> {
+/// What every basis state lacks in phase behind the laid stretch, where its bits are right.
+fn share_of_states(n: u32, asked: &Stretch, laid: &Stretch) -> Result<u32, String> {
+    let mut shares = BTreeSet::new();
+    for state in 0..1 << n {
+        let (asked_bits, asked_phase) = follow_state(state, &asked.gates);
+        let (bits, phase) = follow_state(state, &laid.gates);
+        ensure(bits == asked_bits, || format!("basis state {state} goes elsewhere"))?;
+        shares.insert((asked_phase + FULL_TURN - phase) % FULL_TURN);
+    }
+    match Vec::from_iter(shares)[..] {
+        [share] => Ok(share),
+        _ => Err("basis states get other phases".into()),
+    }
+}
+
+/// The same said of states, for few qubits: each stretch has its own share of the returned phase.
+fn check_states(wanted: &Wanted, laid: &[Stretch], returned: u32) -> Result<(), String> {
     if wanted.n > 6 {
         return Ok(());
     }
-    for state in 0..1 << wanted.n {
-        let (bits, phase) = follow_state(state, laid);
-        let same = follow_state(state, &wanted.gates) == (bits, (phase + returned) % FULL_TURN);
-        ensure(same, || format!("basis state {state} goes elsewhere or gets another phase"))?;
+    let mut sum = 0;
+    for (asked, laid) in wanted.stretches.iter().zip(laid) {
+        sum = (sum + share_of_states(wanted.n, asked, laid)?) % FULL_TURN;
     }
-    Ok(())
+    ensure(sum == returned, || format!("basis states lack a phase of {sum}, not of {returned}"))
 }
 
 fn count_cnots(gates: &[Line]) -> u32 {
@@ -462,16 +558,6 @@ fn count_cnots(gates: &[Line]) -> u32 {
 
 fn count_rotations(gates: &[Line]) -> u32 {
     gates.iter().filter(|gate| matches!(gate, Line::Rotation(..))).count() as u32
-}
-
-fn check_bound(wanted: &Wanted, laid: &[Line]) -> Result<(), String> {
-    let (n, t) = (wanted.n, wanted.meaning.terms.len() as u32);
-    let (cnots, most) = (count_cnots(laid), 2 * (n - 1) * t + 2 * n * (n - 1));
-    ensure(cnots <= most, || format!("{cnots} CNOTs, at most {most} are allowed"))?;
-    let rotations = count_rotations(laid);
-    ensure(rotations == t, || format!("{rotations} rotations for {t} terms"))?;
-    let (gates, bound) = (laid.len() as u32, most + t + n);
-    ensure(gates <= bound, || format!("{gates} gates, at most {bound} are allowed"))
 }
 
 fn check_counted(n: u32, laid: &[Line], counted: &[u8]) -> Result<(), String> {
@@ -491,33 +577,64 @@ fn check_refused(number: u32, place: u32, printed: &Printed) -> Result<(), Strin
     ensure(printed.phase.is_none_or(<[u8]>::is_empty), || format!("a common phase behind {right}"))
 }
 
-fn check_laid(wanted: &Wanted, printed: &Printed) -> Result<(), String> {
+/// Gives the laid stretches back.
+fn check_laid(wanted: &Wanted, printed: &Printed) -> Result<Vec<Stretch>, String> {
     let gates = laid_gates(wanted, printed.laid)?;
     check_couplers(wanted, &gates)?;
-    check_islands(wanted, &gates)?;
-    check_flips(wanted, &gates)?;
-    check_rotations(wanted, &gates)?;
-    check_meaning(wanted, &gates)?;
+    check_hadamards(wanted, &gates)?;
+    let laid = stretches(wanted.n, &gates);
+    for (i, (asked, laid)) in wanted.stretches.iter().zip(&laid).enumerate() {
+        check_stretch(wanted, asked, laid).map_err(|fault| format!("stretch {i}: {fault}"))?;
+    }
     let returned = returned_phase(wanted, printed.phase)?;
-    check_phase(wanted, &gates, returned)?;
-    check_states(wanted, &gates, returned)?;
-    check_bound(wanted, &gates)?;
-    printed.counted.map_or(Ok(()), |counted| check_counted(wanted.n, &gates, counted))
+    check_phase(wanted, &laid, returned)?;
+    check_states(wanted, &laid, returned)?;
+    printed.counted.map_or(Ok(()), |counted| check_counted(wanted.n, &gates, counted))?;
+    Ok(laid)
 }
 
-/// The judged job, for comparing two drawings: what it asks and what it got. The common phase is not
-/// among it: it makes no difference to the gates.
-type Drawing = ((Vec<u8>, Vec<u32>, BTreeMap<u32, u32>), Vec<u8>);
+/// What was asked and got by the stretches of a job that was accepted, for comparing two drawings.
+struct Drawings {
+    /// The `q` and `e` lines.
+    head: String,
+    stretches: Vec<(Asked, Vec<Line>)>,
+}
 
-fn judge(job: &[u8], printed: &Printed) -> Result<Option<Drawing>, String> {
+/// Final parities, flips and sums. The common phase is not among them: it makes no difference to the
+/// gates.
+type Asked = (Vec<u32>, BTreeMap<u32, u32>);
+
+fn judge(job: &[u8], printed: &Printed) -> Result<Option<Drawings>, String> {
     match right_answer(job) {
         Verdict::Refused(number, place) => check_refused(number, place, printed).map(|()| None),
         Verdict::Accepted(wanted) => {
-            check_laid(&wanted, printed)?;
-            let asked = (head(&wanted).into_bytes(), wanted.meaning.wires, wanted.meaning.terms);
-            Ok(Some((asked, printed.laid.to_vec())))
+            let laid = check_laid(&wanted, printed)?;
+            let asked = wanted.stretches.iter().map(|asked| (asked.wires.clone(), asked.terms()));
+            let got = laid.into_iter().map(|laid| laid.gates);
+            Ok(Some(Drawings { head: head(&wanted), stretches: asked.zip(got).collect() }))
         }
     }
+}
+
+/// The stretches seen so far: by the lines of their chip and by what they ask, the job in which they
+/// were first and what they got there.
+type Seen = HashMap<String, HashMap<Asked, (usize, Vec<Line>)>>;
+
+/// Compares the stretches of a job with those seen before; says how many of them were.
+fn compare_drawings(seen: &mut Seen, job: usize, drawings: Drawings) -> Result<usize, String> {
+    let mut drawn_before = 0;
+    let on_chip = seen.entry(drawings.head).or_default();
+    for (asked, got) in drawings.stretches {
+        match on_chip.entry(asked) {
+            Entry::Vacant(place) => drop(place.insert((job, got))),
+            Entry::Occupied(place) => {
+                drawn_before += 1;
+                let (first, before) = place.get();
+                ensure(*before == got, || format!("means the same as a stretch of job {first}, but got other gates"))?;
+            }
+        }
+    }
+    Ok(drawn_before)
 }
 
 // ------------------------------------------------------------ parting what `vectors` printed
@@ -599,29 +716,32 @@ fn judge_all(jobs: &[&[u8]], answers: &[Printed]) -> bool {
         println!("{} jobs, but {} answers", jobs.len(), answers.len());
         return false;
     }
-    let mut seen = HashMap::new();
-    let (mut faults, mut accepted, mut refused, mut drawn_twice) = (0, 0, 0, 0);
+    let mut seen = Seen::new();
+    let (mut faults, mut accepted, mut refused, mut stretches, mut drawn_before) = (0, 0, 0, 0, 0);
     for (i, (job, answer)) in jobs.iter().zip(answers).enumerate() {
-        let mut fault = None;
-        match judge(job, answer) {
-            Err(text) => fault = Some(text),
-            Ok(None) => refused += 1,
-            Ok(Some((asked, got))) => {
-                accepted += 1;
-                let (first, before) = seen.entry(asked).or_insert((i, got.clone()));
-                drawn_twice += u32::from(*first < i);
-                if *before != got {
-                    fault = Some(format!("means the same as job {first}, but got other gates"));
-                }
+        let compared = match judge(job, answer) {
+            Err(fault) => Err(fault),
+            Ok(None) => {
+                refused += 1;
+                Ok(0)
             }
-        }
-        if let Some(fault) = fault {
-            faults += 1;
-            println!("job {i}: {fault}");
+            Ok(Some(drawings)) => {
+                accepted += 1;
+                stretches += drawings.stretches.len();
+                compare_drawings(&mut seen, i, drawings)
+            }
+        };
+        match compared {
+            Ok(count) => drawn_before += count,
+            Err(fault) => {
+                faults += 1;
+                println!("job {i}: {fault}");
+            }
         }
     }
     println!(
-        "{} jobs judged: {accepted} accepted ({drawn_twice} of them drawn before), {refused} refused, {faults} faults",
+        "{} jobs judged: {accepted} accepted, with {stretches} stretches ({drawn_before} of them drawn before), \
+         {refused} refused, {faults} faults",
         jobs.len()
     );
     if faults == 0 {

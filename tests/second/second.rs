@@ -295,13 +295,12 @@ fn is_hadamard(gate: &Gate) -> bool {
 /// Each Hadamard ends the stretch on all wires: there is one stretch more than Hadamards, and any of
 /// them may be empty.
 fn stretches_of(gates: &[Gate]) -> Vec<Stretch<'_>> {
-    let mut start = 0;
-    let stretch = |gates: &'_ [Gate]| {
-        let end = start + gates.len();
-        let here = std::mem::replace(&mut start, end + 1);
-        (here, end)
-    };
-    gates.split(is_hadamard).map(stretch).map(|(start, end)| Stretch { start, gates: &gates[start..end] }).collect()
+    let (mut stretches, mut start) = (vec![], 0);
+    for gates in gates.split(is_hadamard) {
+        stretches.push(Stretch { start, gates });
+        start += gates.len() + 1;
+    }
+    stretches
 }
 
 // ---------------------------------------------------------------- meaning
@@ -1076,5 +1075,105 @@ mod flips {
     fn a_phase_of_one_turn_is_none() {
         assert_eq!(all_texts(b"q\t1\nn\t0\nr\t0\t32768\nr\t0\t32768\n")[2], "");
         assert_eq!(all_texts(b"q\t1\nn\t0\nr\t0\t32769\nr\t0\t32768\n")[2], "p\t1\n");
+    }
+}
+
+#[cfg(test)]
+mod hadamards {
+    use super::*;
+
+    /// A space stands for a tab, `;` for LF.
+    fn spelled_out(text: &str) -> String {
+        text.replace(' ', "\t").replace(';', "\n")
+    }
+
+    /// What is printed for the job: the laid job, its counts, its common phase.
+    fn gets(job: &str, printed: [&str; 3]) {
+        assert_eq!(all_texts(spelled_out(job).as_bytes()), printed.map(spelled_out));
+    }
+
+    fn is_refused(job: &str, line: &str) {
+        gets(job, [line, line, ""]);
+    }
+
+    #[test]
+    fn one_stretch_more_than_hadamards() {
+        use Gate::{H, Rot, X};
+        let gates = [H(1), X(0), Rot(0, 5), H(0), H(1)];
+        let parts: Vec<_> = stretches_of(&gates).iter().map(|part| (part.start, part.gates.len())).collect();
+        assert_eq!(parts, [(0, 0), (1, 2), (4, 0), (5, 0)]);
+        assert_eq!(stretches_of(&[]).len(), 1);
+    }
+
+    #[test]
+    fn they_keep_their_order() {
+        gets("q 3;h 2;h 0;h 1;h 2;", ["q 3;h 2;h 0;h 1;h 2;", "s 0 0 0;", ""]);
+    }
+
+    #[test]
+    fn nothing_is_carried_over() {
+        // Neither a sum, nor a parity, nor a flip.
+        gets("q 1;r 0 40;h 0;r 0 65496;", ["q 1;r 0 40;h 0;r 0 65496;", "s 0 2 0;", ""]);
+        gets("q 2;e 0 1;c 0 1;h 0;c 0 1;r 1 5;", ["q 2;e 0 1;c 0 1;h 0;c 0 1;r 1 5;", "s 2 1 2;", ""]);
+        gets("q 1;n 0;h 0;r 0 5;n 0;", ["q 1;n 0;h 0;r 0 5;n 0;", "s 0 1 0;", ""]);
+    }
+
+    #[test]
+    fn it_ends_the_stretch_on_all_wires() {
+        gets("q 2;r 1 7;h 0;r 1 8;", ["q 2;r 1 7;h 0;r 1 8;", "s 0 2 0;", ""]);
+        gets("q 2;n 1;h 0;n 1;", ["q 2;n 1;h 0;n 1;", "s 0 0 0;", ""]);
+    }
+
+    #[test]
+    fn the_phases_are_summed() {
+        gets("q 1;n 0;r 0 5;n 0;h 0;n 0;r 0 6;n 0;", ["q 1;r 0 65531;h 0;r 0 65530;", "s 0 2 0;", "p 11;"]);
+        gets("q 1;n 0;r 0 5;n 0;h 0;n 0;r 0 65531;n 0;", ["q 1;r 0 65531;h 0;r 0 5;", "s 0 2 0;", ""]);
+    }
+
+    #[test]
+    fn the_depth_is_that_of_the_whole_list() {
+        // The CNOTs of the two stretches share no qubit, and then one.
+        gets("q 4;e 0 1;e 2 3;c 0 1;h 0;c 2 3;", ["q 4;e 0 1;e 2 3;c 0 1;h 0;c 2 3;", "s 2 0 1;", ""]);
+        gets("q 3;e 0 1;e 1 2;c 0 1;h 0;c 1 2;", ["q 3;e 0 1;e 1 2;c 0 1;h 0;c 1 2;", "s 2 0 2;", ""]);
+    }
+
+    #[test]
+    fn a_bad_one() {
+        is_refused("q 2;h 1;h 2;", "x 5 1;");
+        is_refused("q 2;h 0 0;", "x 10 2;");
+    }
+
+    #[test]
+    fn the_place_of_7() {
+        is_refused("q 3;e 0 1;r 0 1;h 0;r 1 2;c 0 2;", "x 7 2;");
+        is_refused("q 3;e 0 1;c 0 2;h 0;c 0 2;", "x 7 0;");
+        is_refused("q 3;e 0 1;h 0;c 0 2;r 2 40;c 0 2;", "x 7 1;");
+        is_refused("q 3;e 0 1;r 0 1;c 0 2;", "x 7 2;");
+    }
+
+    /// A walk on wire 0 whose rotations find this many parities.
+    fn walk(parities: usize) -> String {
+        (1..=parities).map(|i| format!("r 0 0;c {} 0;", 1 + i.trailing_zeros())).collect()
+    }
+
+    #[test]
+    fn the_parities_of_each_stretch() {
+        let (most, too_many) = (walk(256), walk(257));
+        // There are no couplers, so each of these fails 7 too; but all stretches pass 6 before it.
+        is_refused(&format!("q 10;h 0;{most}h 1;{most}"), "x 7 1;");
+        is_refused(&format!("q 10;h 0;{most}h 1;{too_many}"), "x 6 1026;");
+        is_refused(&format!("q 10;h 0;{too_many}h 1;{too_many}"), "x 6 513;");
+    }
+
+    #[test]
+    fn the_bound_is_summed() {
+        let job = |text: &str| read_job(spelled_out(text).as_bytes(), &ENOUGH).unwrap();
+        let needs = |text: &str, records: usize| {
+            assert!(lay(&job(text), &Lent { laid: records, ..ENOUGH }).is_ok());
+            assert_eq!(lay(&job(text), &Lent { laid: records - 1, ..ENOUGH }), refuse(8, 0));
+        };
+        needs("q 1;h 0;", 3);
+        needs("q 1;r 0 1;h 0;h 0;r 0 1;", 7);
+        needs("q 2;e 0 1;r 0 5;h 0;", 9 + 6 + 1);
     }
 }
