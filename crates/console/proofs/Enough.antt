@@ -3,7 +3,7 @@ use mathlib.Core.Path.{_≡_, refl, sym, ap, _∙_}
 use mathlib.Core.Logic.{_≢_}
 use mathlib.Core.Bool.{Bool, true, false}
 use mathlib.Core.List.{List, _∷_}
-use Prim.Native.Nat.{ℕ, _+_, _^_, _/_, _≤_, _<_}
+use Prim.Native.Nat.{ℕ, _+_, _/_, _≤_, _<_}
 use native.Mathlib.Omega.{arith}
 use lib.Dec.{eqb, leb, ltb}
 use lib.ListN.{length, getD, take}
@@ -15,20 +15,23 @@ use Rattle.verdicts.specs.declared.verdict.Verdict.the-variants.{LongText}
 use Rattle.verdicts.specs.Verdicts.{numberOf, placeOf}
 use Rattle.tallies.specs.Tally.{largest}
 use Rattle.laying.specs.Verdict.{verdictOf}
-use Rattle.laying.proofs.Demands.{demand-2-never-9}
-use Rattle.laying.proofs.Enough as lays
+use Rattle.stretches.specs.Cut.{Each}
+use Rattle.stretches.specs.Stretches.{stretchesOf}
+use Rattle.stretches.specs.Tests.{jobBound, judgedStretches}
+use Rattle.stretches.proofs.Passing.{job-passed}
+use Rattle.stretches.proofs.Demands.{demand-2-never-9}
+use Rattle.stretches.proofs.Enough.{job-never-8, judged-enough}
 use Rattle.lines.specs.Lines.{fieldsText, lineText, textOf, refusalText, countsText}
 use Rattle.lines.proofs.Digits.{digits-small, digits-big}
 use Rattle.reading.specs.Limits.{mostBytes}
 use Rattle.reading.specs.Parsing.{parsed}
 use Rattle.reading.specs.Readings.{couplersIn, gatesIn, jobIn, judgedReading, readVerdict}
 use Rattle.reading.proofs.Answers.{answer-long}
-use Rattle.reading.proofs.Sizes.{place-most}
 use Rattle.reading.proofs.Enough as reads
 use Rattle.text.proofs.Values.{reading-verdict}
-use Rattle.console.specs.Printed.{mostCouplerLines, mostGateLines, mostPrinted, refusalOf, unless, laidJob, countedJob, laidText, countedText}
+use Rattle.console.specs.Printed.{mostCouplerLines, mostGateLines, refusalOf, unless, laidJob, countedJob, laidText, countedText}
 use Rattle.console.proofs.Choosing.{unless-refused}
-use Rattle.console.proofs.Whole.{number-few, refusal-fits, job-fits, counts-fits}
+use Rattle.console.proofs.Whole.{number-few}
 
 -- ---- the records that are lent to the reader and to the laying
 
@@ -39,14 +42,23 @@ reading-never-8 s = reads.reads-never-8 s mostCouplerLines mostGateLines (omega 
 reading-never-9 : (s : List ℕ) → numberOf (judgedReading s mostCouplerLines mostGateLines) ≢ 9
 reading-never-9 s = reads.reads-never-9 s mostCouplerLines mostGateLines (omega arith) (omega arith)
 
-pub laying-never-8 : (n : ℕ) (couplers gates : List ℕ) → numberOf (verdictOf n couplers gates largest) ≢ 8
-laying-never-8 n couplers gates = lays.lays-never-8 n couplers gates largest (omega arith)
+-- tests 1 to 7 are those of laying with as much room as it needs
+pub judging-never-8 : (n : ℕ) (couplers gates : List ℕ) → numberOf (judgedStretches n couplers gates) ≢ 8
+judging-never-8 n couplers gates e =
+    job-never-8 n couplers gates (jobBound n gates) (omega arith) (ap numberOf (judged-enough n couplers gates (jobBound n gates) (omega arith)) ∙ e)
+
+judging-never-9 : (n : ℕ) (couplers gates : List ℕ) → numberOf (judgedStretches n couplers gates) ≢ 9
+judging-never-9 n couplers gates e =
+    demand-2-never-9 n couplers gates (jobBound n gates) (ap numberOf (judged-enough n couplers gates (jobBound n gates) (omega arith)) ∙ e)
+
+-- and a stretch of a job that passes them is never refused, so that no refusal comes behind the front
+pub part-never-refused : (n : ℕ) (couplers gates : List ℕ) → numberOf (judgedStretches n couplers gates) ≡ 0 → Each (λ s. numberOf (verdictOf n couplers s largest) ≡ 0) (stretchesOf n gates)
+part-never-refused n couplers gates z = job-passed n couplers gates z .accepts
 
 -- ---- what is printed
 
--- it goes into the memory that is lent, there is something of it, and it is no `x` line with number 8 or 9
+-- there is something of it, and it is no `x` line with number 8 or 9
 pub record Printable (text : List ℕ) : Type 0 where
-  pub fits : length text ≤ mostPrinted
   pub some : 0 < length text
   pub never-8 : (place : ℕ) → text ≢ refusalText 8 place
   pub never-9 : (place : ℕ) → text ≢ refusalText 9 place
@@ -71,20 +83,18 @@ other-number v k place a b ne e = go (ltb (numberOf v) 10) refl
     go true q = ne (omega (arith, same, digit (numberOf v) (placeOf v) (ltb-true (numberOf v) 10 q)))
     go false q = omega (arith, same, digit-ten (numberOf v) (placeOf v) (ltb-false (numberOf v) 10 q) (omega (arith, number-few v)))
 
-refusal-printable : (v : Verdict) → placeOf v < 2 ^ 64 → numberOf v ≢ 8 → numberOf v ≢ 9 → Printable (refusalOf v)
+refusal-printable : (v : Verdict) → numberOf v ≢ 8 → numberOf v ≢ 9 → Printable (refusalOf v)
 unfolding refusalOf refusalText lineText
-refusal-printable v h a b = record {
-  fits = refusal-fits v h;
+refusal-printable v a b = record {
   some = omega arith;
   never-8 = λ place. other-number v 8 place (omega arith) (omega arith) a;
   never-9 = λ place. other-number v 9 place (omega arith) (omega arith) b;
 }
 
 -- a text that begins with another letter
-letter-printable : (letter : ℕ) (text : List ℕ) → letter ≢ 120 → length (letter ∷ text) ≤ mostPrinted → Printable (letter ∷ text)
+letter-printable : (letter : ℕ) (text : List ℕ) → letter ≢ 120 → Printable (letter ∷ text)
 unfolding refusalText lineText
-letter-printable letter text ne h = record {
-  fits = h;
+letter-printable letter text ne = record {
   some = omega arith;
   never-8 = λ place e. ne (ap (λ (l : List ℕ). getD l 0 0) e);
   never-9 = λ place e. ne (ap (λ (l : List ℕ). getD l 0 0) e);
@@ -99,24 +109,21 @@ either-printable v text p q = go (eqb (numberOf v) 0) refl
     go false e = q
 
 module _ (n : ℕ) (couplers gates : List ℕ) where
-  refused-printable : Printable (refusalOf (verdictOf n couplers gates largest))
-  refused-printable =
-      refusal-printable (verdictOf n couplers gates largest) (omega (arith, lays.place-most n couplers gates largest)) (laying-never-8 n couplers gates)
-      (demand-2-never-9 n couplers gates largest)
+  refused-printable : Printable (refusalOf (judgedStretches n couplers gates))
+  refused-printable = refusal-printable (judgedStretches n couplers gates) (judging-never-8 n couplers gates) (judging-never-9 n couplers gates)
 
   job-printable : Printable (laidJob n couplers gates)
   unfolding laidJob textOf lineText
-  job-printable = either-printable (verdictOf n couplers gates largest) _ (λ z. letter-printable 113 _ (λ e. omega arith) (job-fits n couplers gates z)) refused-printable
+  job-printable = either-printable (judgedStretches n couplers gates) _ (λ z. letter-printable 113 _ (λ e. omega arith)) refused-printable
 
   counts-printable : Printable (countedJob n couplers gates)
   unfolding countedJob countsText lineText
-  counts-printable = either-printable (verdictOf n couplers gates largest) _ (λ z. letter-printable 115 _ (λ e. omega arith) (counts-fits n couplers gates z)) refused-printable
+  counts-printable = either-printable (judgedStretches n couplers gates) _ (λ z. letter-printable 115 _ (λ e. omega arith)) refused-printable
 
 module _ (s : List ℕ) where
   unread-printable : Printable (refusalOf (judgedReading s mostCouplerLines mostGateLines))
   unread-printable =
-      refusal-printable (judgedReading s mostCouplerLines mostGateLines) (omega (arith, place-most s mostCouplerLines mostGateLines)) (reading-never-8 s)
-      (reading-never-9 s)
+      refusal-printable (judgedReading s mostCouplerLines mostGateLines) (reading-never-8 s) (reading-never-9 s)
 
   pub laid-printable : Printable (laidText s)
   unfolding laidText

@@ -3,7 +3,7 @@ use mathlib.Core.Path.{_≡_, sym, ap, ap₂, _∙_}
 use mathlib.Core.List.{List}
 use Prim.Native.Nat.{ℕ, _≤_}
 use native.Mathlib.Omega.{arith}
-use lib.ListN.{length, take, drop, length-append}
+use lib.ListN.{length, take, drop, length-append, length-take}
 use lib.Seq.{take-append-seam, length-take-le}
 use Rattle.lines.specs.Lent.{onto}
 use Rattle.console.specs.Printed.{Prints}
@@ -17,6 +17,10 @@ module _ (new old now′ : List ℕ) (k : ℕ) (e : k ≡ length new) (h : now�
 
   pub front-is : take k now′ ≡ new
   front-is = ap₂ (λ (i : ℕ) (l : List ℕ). take i l) e h ∙ take-append-seam new (drop (length new) old)
+
+-- a front is no longer than what it is taken of
+pub front-short : {r : List ℕ} {m : ℕ} (xs : List ℕ) (k : ℕ) → r ≡ take k xs → length xs ≡ m → length r ≤ m
+front-short {r} {m} xs k e l = omega (arith, ap length e, length-take k xs, l)
 
 -- what was printed can be taken out again
 module _ {s out out′ : List ℕ} {r : ℕ} (p : Prints s out r out′) where

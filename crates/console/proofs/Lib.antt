@@ -3,6 +3,9 @@ pub mod Choosing
 pub mod Passing
 pub mod Whole
 pub mod Reading
-pub mod Laying
 pub mod Writing
+pub mod Partly
+pub mod Tallying
+pub mod Beginning
+pub mod InParts
 pub mod Enough

@@ -12,15 +12,15 @@ use Rattle.reading.specs.Readings.{couplersIn, gatesIn, jobIn, judgedReading, r
 use Rattle.reading.specs.declared.read.Reading.{Reading}
 use Rattle.reading.specs.declared.read.Reading.the-variants.{Read, Refused}
 use Rattle.reading.proofs.Said.{read-says, refused-says}
-use Rattle.console.specs.Printed.{mostCouplerLines, mostGateLines, refusalOf, laidJob, countedJob, laidText, countedText}
+use Rattle.console.specs.Printed.{mostCouplerLines, mostGateLines, refusalOf, unless}
 use Rattle.console.proofs.Fronts.{front-fits, front-long, front-is}
 use Rattle.console.proofs.Choosing.{unless-passed, unless-refused}
 
-couplers-counted : (p : Parsed) → jobIn p .couplers ≡ length (couplersIn p)
+pub couplers-counted : (p : Parsed) → jobIn p .couplers ≡ length (couplersIn p)
 couplers-counted (misfit k) = refl
 couplers-counted (job n es gs) = refl
 
-gates-counted : (p : Parsed) → jobIn p .gates ≡ length (gatesIn p)
+pub gates-counted : (p : Parsed) → jobIn p .gates ≡ length (gatesIn p)
 gates-counted (misfit k) = refl
 gates-counted (job n es gs) = refl
 
@@ -30,10 +30,10 @@ module _ (s cs₀ gs₀ cs gs : List ℕ) (lc : length cs₀ ≡ mostCouplerLine
   both-read : (numberOf (judgedReading s mostCouplerLines mostGateLines) ≡ 0) × (j ≡ jobIn (parsed s))
   both-read = read-says s mostCouplerLines mostGateLines j (sym (ap₂ (readingOf s) lc lg) ∙ sym e ∙ d)
 
-  the-job : j ≡ jobIn (parsed s)
+  pub the-job : j ≡ jobIn (parsed s)
   the-job = both-read .1
 
-  passed : numberOf (judgedReading s mostCouplerLines mostGateLines) ≡ 0
+  pub passed : numberOf (judgedReading s mostCouplerLines mostGateLines) ≡ 0
   passed = both-read .0
 
   couplers-count : j .couplers ≡ length (couplersIn (parsed s))
@@ -60,24 +60,18 @@ module _ (s cs₀ gs₀ cs gs : List ℕ) (lc : length cs₀ ≡ mostCouplerLine
   pub gates-long : j .gates ≡ length (take (j .gates) gs)
   gates-long = front-long (gatesIn (parsed s)) gs₀ gs (j .gates) gates-count gates-there
 
-  the-couplers : take (j .couplers) cs ≡ couplersIn (parsed s)
+  pub the-couplers : take (j .couplers) cs ≡ couplersIn (parsed s)
   the-couplers = front-is (couplersIn (parsed s)) cs₀ cs (j .couplers) couplers-count couplers-there
 
-  the-gates : take (j .gates) gs ≡ gatesIn (parsed s)
+  pub the-gates : take (j .gates) gs ≡ gatesIn (parsed s)
   the-gates = front-is (gatesIn (parsed s)) gs₀ gs (j .gates) gates-count gates-there
 
-  pub laid-read : laidJob (j .qubits) (take (j .couplers) cs) (take (j .gates) gs) ≡ laidText s
-  unfolding laidText
-  laid-read =
-      ap (λ (k : Job). laidJob (k .qubits) (take (j .couplers) cs) (take (j .gates) gs)) the-job
-      ∙ ap₂ (λ (x y : List ℕ). laidJob (jobIn (parsed s) .qubits) x y) the-couplers the-gates
-      ∙ unless-passed (judgedReading s mostCouplerLines mostGateLines) _ passed
-
-  pub counted-read : countedJob (j .qubits) (take (j .couplers) cs) (take (j .gates) gs) ≡ countedText s
-  unfolding countedText
-  counted-read =
-      ap (λ (k : Job). countedJob (k .qubits) (take (j .couplers) cs) (take (j .gates) gs)) the-job
-      ∙ ap₂ (λ (x y : List ℕ). countedJob (jobIn (parsed s) .qubits) x y) the-couplers the-gates
+  -- what is said of the job that was read is said of the text
+  pub text-read : (f : ℕ → List ℕ → List ℕ → List ℕ) → f (j .qubits) (take (j .couplers) cs) (take (j .gates) gs)
+      ≡ unless (judgedReading s mostCouplerLines mostGateLines) (f (jobIn (parsed s) .qubits) (couplersIn (parsed s)) (gatesIn (parsed s)))
+  text-read f =
+      ap (λ (k : Job). f (k .qubits) (take (j .couplers) cs) (take (j .gates) gs)) the-job
+      ∙ ap₂ (λ (x y : List ℕ). f (jobIn (parsed s) .qubits) x y) the-couplers the-gates
       ∙ unless-passed (judgedReading s mostCouplerLines mostGateLines) _ passed
 
 -- a text that was refused
@@ -85,10 +79,9 @@ module _ (s : List ℕ) (a b : ℕ) (la : a ≡ mostCouplerLines) (lb : b ≡ mo
   no : (numberOf (judgedReading s mostCouplerLines mostGateLines) ≡ 0 → ⊥) × (v ≡ judgedReading s mostCouplerLines mostGateLines)
   no = refused-says s mostCouplerLines mostGateLines v (sym (ap₂ (readingOf s) la lb) ∙ sym e ∙ d)
 
-  pub laid-unread : refusalOf v ≡ laidText s
-  unfolding laidText
-  laid-unread = ap refusalOf (no .1) ∙ unless-refused (judgedReading s mostCouplerLines mostGateLines) _ (no .0)
+  pub text-unread : (text : List ℕ) → refusalOf v ≡ unless (judgedReading s mostCouplerLines mostGateLines) text
+  text-unread text = ap refusalOf (no .1) ∙ unless-refused (judgedReading s mostCouplerLines mostGateLines) text (no .0)
 
-  pub counted-unread : refusalOf v ≡ countedText s
-  unfolding countedText
-  counted-unread = ap refusalOf (no .1) ∙ unless-refused (judgedReading s mostCouplerLines mostGateLines) _ (no .0)
+  -- a text that is no job's has none
+  pub none-read : (numberOf (judgedReading s mostCouplerLines mostGateLines) ≡ 0 → ⊥)
+  none-read = no .0

@@ -1,8 +1,8 @@
--- What is printed goes into the memory that is lent, whole: every line, and the text of every laid job, which the writer accepts. Assumes nothing.
+-- What is printed at a time goes into the memory that is lent, whole: every line, and the front of every job, which the writer accepts. Assumes nothing.
 use mathlib.Core.Path.{_≡_, sym, ap, ap₂, subst, _∙_}
 use mathlib.Core.Bool.{Bool, true}
-use mathlib.Core.List.{List, map}
-use Prim.Native.Nat.{ℕ, _^_, _≤_, _<_}
+use mathlib.Core.List.{List, []}
+use Prim.Native.Nat.{ℕ, _*_, _^_, _≤_, _<_}
 use native.Mathlib.Omega.{arith}
 use lib.Dec.{leb}
 use lib.ListN.{length, length-map}
@@ -10,28 +10,27 @@ use borrow.Author.Tests.{le-leb}
 use Rattle.sets.specs.Pick.{pick}
 use Rattle.gates.specs.declared.gate.Gate.{Gate}
 use Rattle.gates.specs.Limits.{mostQubits}
-use Rattle.gates.specs.Layout.{recordOf}
+use Rattle.gates.specs.Layout.{gateOf, gatesOf}
 use Rattle.verdicts.specs.declared.verdict.Verdict.{Verdict}
 use Rattle.verdicts.specs.declared.verdict.Verdict.the-variants.{Accepted, Qubits, ManyCouplers, WrongCoupler, ManyGates, BadGate, ManyParities, Unreachable, Room, Stuck, Line, LongText}
 use Rattle.verdicts.specs.Verdicts.{numberOf, placeOf}
-use Rattle.verdicts.specs.Rows.{Passes1}
-use Rattle.verdicts.proofs.Rows.{test-passed, tests-1}
-use Rattle.tallies.specs.Tally.{cnotsOf, rotationsOf, depthOf, boundOf, largest}
+use Rattle.verdicts.proofs.Passing.{drawn-accepted}
+use Rattle.tallies.specs.Tally.{cnotsOf, rotationsOf, depthOf, boundOf}
 use Rattle.tallies.proofs.Tallies.{cnots-most, rotations-most}
 use Rattle.tallies.proofs.DepthLaws.{depth-few}
 use Rattle.chip.specs.Couplers.{nearOf}
 use Rattle.chip.specs.Ordered.{orderedList}
 use Rattle.chip.proofs.Order.{ordered-few}
-use Rattle.laying.specs.Verdict.{verdictOf, circuitOf}
-use Rattle.laying.proofs.Demands.{demand-2, demand-2-fits}
-use Rattle.laying.proofs.Rows.{rows}
+use Rattle.stretches.specs.Tests.{judgedStretches}
+use Rattle.stretches.specs.Laid.{jobRecords}
+use Rattle.stretches.proofs.Passing.{job-passed, job-few}
 use Rattle.lines.specs.Lines.{textOf, refusalText, countsText}
 use Rattle.lines.specs.Lent.{onto, lineLength, lineAfter}
 use Rattle.reading.proofs.Sizes.{width-most, line-two, line-three, text-most}
 use Rattle.text.specs.Writings.{judgedText}
 use Rattle.text.proofs.Judging.{judged-room}
 use Rattle.console.specs.Printed.{mostPrinted, Prints, refusalOf}
-use Rattle.console.proofs.Passing.{order-accepted, records-accepted}
+use Rattle.console.proofs.Passing.{order-accepted}
 
 -- ---- lines of numbers that fit a word, which have at most 20 digits each
 
@@ -76,38 +75,31 @@ module _ (out out′ : List ℕ) (n : ℕ) (lent : length out ≡ mostPrinted) w
       line-whole (refusalOf v) (refusal-fits v (omega arith))
       (subst (λ (s : List ℕ). (n ≡ lineLength s (length out)) × (out′ ≡ lineAfter s out)) (ap₂ refusalText e d) q)
 
--- ---- an accepted job
+-- ---- a job that passed tests 1 to 7
 
-module _ (n : ℕ) (xs ys : List ℕ) (e : numberOf (verdictOf n xs ys largest) ≡ 0) where
-  abbrev circuit : List Gate
-  circuit = circuitOf n xs ys
-
+module _ (n : ℕ) (xs ys : List ℕ) (z : numberOf (judgedStretches n xs ys) ≡ 0) where
   abbrev es : List ℕ
   es = orderedList (nearOf n xs)
 
-  abbrev gs : List ℕ
-  gs = map recordOf circuit
-
-  passed : Passes1 n
-  passed = rows n xs ys largest .row-0 .exactly .0 e .0
+  abbrev laid : List Gate
+  laid = gatesOf n (jobRecords n xs ys)
 
   few : n ≤ mostQubits
-  few = passed .1
+  few = job-passed n xs ys z .few
 
-  short : length circuit ≤ largest
-  short = demand-2-fits n xs ys largest e
+  head-fits : length (textOf n es []) ≤ mostPrinted
+  head-fits = omega (arith, text-most n es [] (omega (arith, few)), ordered-few (nearOf n xs))
 
-  pub job-fits : length (textOf n es gs) ≤ mostPrinted
-  job-fits = omega (arith, text-most n es gs (omega (arith, few)), ordered-few (nearOf n xs), short, length-map circuit recordOf)
+  pub head-accepted : numberOf (judgedText n es [] mostPrinted) ≡ 0
+  head-accepted =
+      sym (ap numberOf (judged-room n es [] mostPrinted (job-passed n xs ys z .qubits) (ap numberOf (order-accepted n xs few)) (ap numberOf (drawn-accepted n [] (λ (k : ℕ) (l : k < 0). absurd (omega arith))))))
+      ∙ ap (λ (t : Bool). numberOf (pick t Accepted Room)) (le-leb (length (textOf n es [])) mostPrinted head-fits)
 
-  pub counts-fits : length (countsText (cnotsOf circuit) (rotationsOf circuit) (depthOf circuit)) ≤ mostPrinted
+  records-few : length laid ≤ 4097 * 10765
   unfolding boundOf
-  counts-fits =
-      counts-fit (cnotsOf circuit) (rotationsOf circuit) (depthOf circuit) (omega (arith, short, cnots-most circuit)) (omega (arith, short, rotations-most circuit))
-      (omega (arith, short, cnots-most circuit, depth-few circuit))
+  records-few = omega (arith, length-map (jobRecords n xs ys) (gateOf n), job-few n xs ys (job-passed n xs ys z))
 
-  pub writer-accepts : numberOf (judgedText n es gs mostPrinted) ≡ 0
-  writer-accepts =
-      sym (ap numberOf (judged-room n es gs mostPrinted (test-passed (tests-1 n) passed) (ap numberOf (order-accepted n xs few))
-      (ap numberOf (records-accepted n circuit (omega (arith, few)) (demand-2 n xs ys largest e .good)))))
-      ∙ ap (λ (t : Bool). numberOf (pick t Accepted Room)) (le-leb (length (textOf n es gs)) mostPrinted job-fits)
+  pub counts-fits : length (countsText (cnotsOf laid) (rotationsOf laid) (depthOf laid)) ≤ mostPrinted
+  counts-fits =
+      counts-fit (cnotsOf laid) (rotationsOf laid) (depthOf laid) (omega (arith, records-few, cnots-most laid)) (omega (arith, records-few, rotations-most laid))
+      (omega (arith, records-few, cnots-most laid, depth-few laid))

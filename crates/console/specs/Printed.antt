@@ -1,18 +1,19 @@
 -- What the laying and the counting program print for a text, and the memory that they lend (document 01, "The job text").
 use mathlib.Core.Path.{_≡_}
-use mathlib.Core.List.{List, map}
+use mathlib.Core.List.{List}
 use Prim.Native.Nat.{ℕ, _+_, _*_}
 use lib.Dec.{eqb}
 use lib.ListN.{length}
 use Rattle.sets.specs.Pick.{pick}
 use Rattle.gates.specs.Limits.{mostCouplers}
-use Rattle.gates.specs.Layout.{recordOf}
+use Rattle.gates.specs.Layout.{gatesOf}
 use Rattle.verdicts.specs.declared.verdict.Verdict.{Verdict}
 use Rattle.verdicts.specs.Verdicts.{numberOf, placeOf}
 use Rattle.tallies.specs.Tally.{cnotsOf, rotationsOf, depthOf, largest}
 use Rattle.chip.specs.Couplers.{nearOf}
 use Rattle.chip.specs.Ordered.{orderedList}
-use Rattle.laying.specs.Verdict.{verdictOf, circuitOf}
+use Rattle.stretches.specs.Tests.{judgedStretches}
+use Rattle.stretches.specs.Laid.{jobRecords}
 use Rattle.lines.specs.Lines.{textOf, refusalText, countsText}
 use Rattle.lines.specs.Lent.{onto}
 use Rattle.reading.specs.Parsing.{parsed}
@@ -48,16 +49,15 @@ refusalOf v = refusalText (numberOf v) (placeOf v)
 unfoldable pub unless : Verdict → List ℕ → List ℕ
 unless v text = pick (eqb (numberOf v) 0) text (refusalOf v)
 
--- "the `q` line, then couplers lower end first, ascending, each once, then the laid gates"; "lends the laying the largest B"
+-- "the `q` line, then couplers lower end first, ascending, each once, then the laid gates"; "The program prints stretch by stretch and never 8", so that tests 1 to 7 are all
 unfoldable pub laidJob : ℕ → List ℕ → List ℕ → List ℕ
-laidJob n couplers gates =
-    unless (verdictOf n couplers gates largest) (textOf n (orderedList (nearOf n couplers)) (map recordOf (circuitOf n couplers gates)))
+laidJob n couplers gates = unless (judgedStretches n couplers gates) (textOf n (orderedList (nearOf n couplers)) (jobRecords n couplers gates))
 
 -- "one line about the laid list, or the same `x` line: `s`, CNOTs, rotations, depth"
 unfoldable pub countedJob : ℕ → List ℕ → List ℕ → List ℕ
 countedJob n couplers gates =
-    unless (verdictOf n couplers gates largest)
-    (countsText (cnotsOf (circuitOf n couplers gates)) (rotationsOf (circuitOf n couplers gates)) (depthOf (circuitOf n couplers gates)))
+    let laid = gatesOf n (jobRecords n couplers gates) in
+    unless (judgedStretches n couplers gates) (countsText (cnotsOf laid) (rotationsOf laid) (depthOf laid))
 
 -- "The laying program reads a job"
 unfoldable pub laidText : List ℕ → List ℕ

@@ -1,4 +1,4 @@
--- An island that stands: it has no terms, and each of its wires is asked for its own parity.
+-- An island that stands: it has no terms, and each of its wires is asked for its own parity. It needs no gates, so nothing is searched for it.
 use mathlib.Core.Path.{_≡_}
 use mathlib.Core.Bool.{Bool, true, false, not}
 use mathlib.Core.List.{List, []}
@@ -13,18 +13,18 @@ use Rattle.gates.specs.Limits.{mostQubits}
 use Rattle.share.specs.declared.own.Own.{Own}
 use Rattle.ways.specs.Memory.{heldOwn}
 
--- wire i of the island Q is asked for x, another parity than its own
+-- wire i of the island Q is asked for x, which is not its own parity
 unfoldable pub offOf : ℕ → ℕ → ℕ → Bool
 offOf Q i x = both (has Q i) (not (eqb x (onlyOf i)))
 
--- some wire of Q is, where N has the parities asked for
+-- some wire of Q is asked for a parity that is not its own; N has what each wire is asked for
 unfoldable pub someOff : ℕ → List ℕ → Bool
 someOff Q N = someOf (λ i. offOf Q i (getD N i 0)) mostQubits
 
--- there are no terms, and no wire is
+-- no terms, and no such wire
 unfoldable pub standsOf : Own → Bool
 standsOf o = both (eqb (o .terms .len) 0) (not (someOff (o .set) (o .asked)))
 
--- where it stands, the two ways of laying come to no gates, and neither is stuck
+-- if the island stands, laying it in both ways comes to no gates and is not stuck: so it is on each island of a job that passed tests 1 to 7
 abbrev pub Idles : Own → Type 0
 Idles o = standsOf o ≡ true → (heldOwn o .laid ≡ []) × (heldOwn o .stuck ≡ false)

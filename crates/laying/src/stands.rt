@@ -4,7 +4,7 @@ use share::own::Own;
 ghost use mathlib.Core.Path.{_≡_};
 ghost use Rattle.laying.specs.Stands.{offOf, someOff, standsOf};
 
-// Wire i of the set is asked for x, another parity than its own.
+// Wire i of the set is asked for x, which is not its own parity.
 fn is_off(set: u32, i: usize, x: u32) -> bool
     ensures { λ r. ⌜ r ≡ offOf set i x ⌝ }
 {

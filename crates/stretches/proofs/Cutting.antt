@@ -18,6 +18,16 @@ module _ {A : Type 0} (h : A → Bool) where
       go true l = omega arith
       go false l = omega arith
 
+  -- the first such item is one
+  pub first-is : (d : A) (xs : List A) → firstAt h xs < length xs → h (getD xs (firstAt h xs) d) ≡ true
+  unfolding firstAt
+  first-is d [] l = absurd (omega arith)
+  first-is d (x ∷ xs) l = go (h x) (first-is d xs) refl l
+    where
+      go : (b : Bool) → (firstAt h xs < length xs → h (getD xs (firstAt h xs) d) ≡ true) → h x ≡ b → pick b 0 (suc (firstAt h xs)) < suc (length xs) → h (getD (x ∷ xs) (pick b 0 (suc (firstAt h xs))) d) ≡ true
+      go true r e l = e
+      go false r e l = r (omega arith)
+
   -- ---- no such item
 
   pub cut-last : (xs : List A) → firstAt h xs ≡ length xs → cutAt h xs ≡ xs ∷ []

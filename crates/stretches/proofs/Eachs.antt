@@ -2,7 +2,7 @@
 use mathlib.Core.Path.{_≡_, refl, ap}
 use mathlib.Core.Bool.{Bool, true, false}
 use mathlib.Core.List.{List, [], _∷_}
-use Prim.Native.Nat.{ℕ, zero, suc, _<_}
+use Prim.Native.Nat.{ℕ, zero, suc, _+_, _≤_, _<_}
 use native.Mathlib.Omega.{arith}
 use lib.ListN.{length, getD}
 use Rattle.sets.specs.Pick.{pick}
@@ -88,3 +88,14 @@ each-short h (x ∷ xs) m l = go (h x) (cutAt h xs) (each-short h xs (length (x 
     go true ss a b = (omega arith, b)
     go false [] a b = (omega arith, tt)
     go false (s ∷ ss) a b = (omega (arith, a .0), b .1)
+
+-- nor are there more pieces than items and one
+pub cut-few : {A : Type 0} (h : A → Bool) (xs : List A) → length (cutAt h xs) ≤ length xs + 1
+unfolding cutAt ahead
+cut-few h [] = omega arith
+cut-few h (x ∷ xs) = go (h x) (cutAt h xs) (cut-few h xs)
+  where
+    go : (b : Bool) (ss : List (List _)) → length ss ≤ length xs + 1 → length (pick b ([] ∷ ss) (ahead x ss)) ≤ suc (length xs) + 1
+    go true ss l = omega (arith, l)
+    go false [] l = omega arith
+    go false (s ∷ ss) l = omega (arith, l)

@@ -15,7 +15,7 @@ use Rattle.gates.specs.Hadamards.{isHadamard}
 use Rattle.stretches.specs.Cut.{firstAt, cutAt, those}
 use Rattle.stretches.specs.Stretches.{stretchesOf, hadamardsOf, endAt, stretchAt, restFrom, hadamardsFrom}
 use Rattle.stretches.specs.Parts.{hadamardAt}
-use Rattle.stretches.proofs.Cutting.{first-le, cut-last, those-last, cut-more, those-more}
+use Rattle.stretches.proofs.Cutting.{first-le, first-is, cut-last, those-last, cut-more, those-more}
 
 stretches-more : (n : ℕ) (ys : List ℕ) (f : ℕ) → f ≡ firstAt (isHadamard n) ys → f < length ys → stretchesOf n ys ≡ take f ys ∷ stretchesOf n (drop (suc f) ys)
 unfolding stretchesOf
@@ -124,6 +124,15 @@ module _ (n : ℕ) (xs : List ℕ) where
 
     pub behind-none : length xs ≤ e → hadamardAt n xs k ≡ []
     behind-none m = ap (take 1) (drop-of-length-le xs m)
+
+    pub end-hadamard : e < length xs → isHadamard n (getD xs e 0) ≡ true
+    unfolding endAt
+    end-hadamard m =
+        ap (λ (i : ℕ). isHadamard n (getD xs i 0)) (sym (place)) ∙ ap (isHadamard n) (sym (getD-drop k xs (e - k) 0)) ∙ ap (λ (i : ℕ). isHadamard n (getD (drop k xs) i 0)) (sym size)
+        ∙ first-is (isHadamard n) 0 (drop k xs) (omega (arith, size, length-drop k xs, end-ge k))
+      where
+        place : k + (e - k) ≡ e
+        place = omega (arith, end-ge k)
 
     pub hadamards-more : e < length xs → hadamardsFrom n xs k ≡ getD xs e 0 ∷ hadamardsFrom n xs (k + length (stretchAt n xs k) + 1)
     unfolding hadamardsFrom hadamardsOf

@@ -3,7 +3,7 @@ use mathlib.Core.Path.{_≡_, refl, sym, ap, ap₂, _∙_, subst}
 use mathlib.Core.Logic.{_⊎_, inl, inr}
 use mathlib.Core.Bool.{Bool, true, false, not}
 use mathlib.Core.List.{List, [], _∷_, _++_, map}
-use Prim.Native.Nat.{ℕ, suc, _+_, _≤_, _<_}
+use Prim.Native.Nat.{ℕ, suc, _+_, _*_, _≤_, _<_}
 use native.Mathlib.Omega.{arith}
 use lib.Dec.{eqb, ltb}
 use lib.ListN.{length, getD, length-map, length-append}
@@ -37,7 +37,7 @@ use Rattle.stretches.specs.Stretches.{stretchesOf, hadamardsOf}
 use Rattle.stretches.specs.Tests.{judgedDrawing, judgedParitiesAt, judgedParitiesFrom, judgedReachAt, judgedReachFrom, judgedReaches, boundsOf, jobBound, judgedStuckIn, judgedStretches}
 use Rattle.stretches.specs.Asked.{OnlyReach, Counted, Accepts}
 use Rattle.stretches.specs.Laid.{stretchRecords, jobRecords}
-use Rattle.stretches.proofs.Eachs.{each-head, each-one, each-map, each-both, each-at, at-each, each-cut, each-short}
+use Rattle.stretches.proofs.Eachs.{each-head, each-one, each-map, each-both, each-at, at-each, each-cut, each-short, cut-few}
 
 -- ---- 5, of a stretch
 
@@ -183,6 +183,7 @@ module _ (n : ℕ) (couplers : List ℕ) (qubits : numberOf (judgedQubits n) ≡
 -- ---- all of them
 
 pub record Passed (n : ℕ) (couplers gates : List ℕ) : Type 0 where
+  pub qubits : numberOf (judgedQubits n) ≡ 0
   pub few : n ≤ 20
   pub listed : judgedCouplers n couplers ≡ Accepted
   pub drawn : judgedDrawn n gates ≡ Accepted
@@ -233,6 +234,7 @@ module _ (n : ℕ) (couplers gates : List ℕ) where
       let isls : List ℕ = islandsOf (nearOf n couplers) in
       let c : Each (Counted n) (stretchesOf n gates) = parities-counted n 0 (stretchesOf n gates) (b .0) in
       record {
+        qubits = d .qubits;
         few = qubits-few n (d .qubits) .1;
         listed = zero-accepted (judgedCouplers n couplers) (d .couplers-listed);
         drawn = d .drawn;
@@ -259,6 +261,11 @@ module _ (n : ℕ) (couplers gates : List ℕ) where
   bounded : (s : List ℕ) → Accepts n couplers s → length (stretchRecords n couplers s) ≤ boundOf n (length (terms (gatesOf n s)))
   bounded s a = omega (arith, length-map (circuitOf n couplers s) recordOf, demand-2 n couplers s largest a .bound)
 
+  -- of a stretch that passed test 6, the largest B
+  pub part-few : (s : List ℕ) → Accepts n couplers s → Counted n s → n ≤ 20 → length (stretchRecords n couplers s) ≤ largest
+  part-few s a c few =
+      omega (arith, bounded s a, bound-most n (length (terms (gatesOf n s))) few (omega (arith, terms-few (gatesOf n s), over-few (gatesOf n s) c)))
+
   woven-length : (ss : List (List ℕ)) (hs : List ℕ) → Each (Accepts n couplers) ss → length (weave (map (stretchRecords n couplers) ss) hs) ≤ boundsOf n ss + length hs
   unfolding weave boundsOf Each
   woven-length [] hs a = omega arith
@@ -270,3 +277,16 @@ module _ (n : ℕ) (couplers gates : List ℕ) where
   pub job-bounded : Passed n couplers gates → length (jobRecords n couplers gates) ≤ jobBound n gates
   unfolding jobRecords jobBound
   job-bounded p = woven-length (stretchesOf n gates) (hadamardsOf n gates) (p .accepts)
+
+  -- and the whole is never longer than a part for each gate
+  woven-few : (ss : List (List ℕ)) (hs : List ℕ) → Each (Accepts n couplers) ss → Each (Counted n) ss → n ≤ 20 → length (weave (map (stretchRecords n couplers) ss) hs) ≤ 10765 * length ss
+  unfolding weave Each boundOf
+  woven-few [] hs a c few = omega arith
+  woven-few (s ∷ ss) [] a c few = omega (arith, part-few s (a .0) (c .0) few)
+  woven-few (s ∷ ss) (h ∷ hs) a c few =
+      omega (arith, part-few s (a .0) (c .0) few, length-append (stretchRecords n couplers s) (h ∷ weave (map (stretchRecords n couplers) ss) hs), woven-few ss hs (a .1) (c .1) few)
+
+  pub job-few : Passed n couplers gates → length (jobRecords n couplers gates) ≤ (mostGates + 1) * (largest + 1)
+  unfolding jobRecords stretchesOf boundOf
+  job-few p =
+      omega (arith, woven-few (stretchesOf n gates) (hadamardsOf n gates) (p .accepts) (p .counted) (p .few), cut-few (isHadamard n) gates, p .short)

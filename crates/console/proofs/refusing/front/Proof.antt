@@ -1,10 +1,10 @@
--- `console::front` meets its contract. Assumes nothing.
+-- `console::refusing::front` meets its contract. Assumes nothing.
 use mathlib.Core.Path.{sym}
 use native.Mathlib.Omega.{arith}
 use lib.Seq.{take-all, length-take-le}
 use borrow.Author.Needs.{needs}
-use Rattle.console.proofs.front.Statement.{statement}
-use Rattle.console.proofs.front.Tie as tie
+use Rattle.console.proofs.refusing.front.Statement.{statement}
+use Rattle.console.proofs.refusing.front.Tie as tie
 
 returns : tie.Need-returns
 returns c = sym (take-all (c .before .args .n) (c .before .args .bytes .now) (omega arith))

@@ -1,13 +1,17 @@
--- `console::count_text` meets its contract. Assumes nothing.
+-- `console::counting::count_text` meets its contract. Assumes nothing.
 use mathlib.Core.Path.{ap, _∙_}
 use Prim.Native.Nat.{ℕ}
 use lib.ListN.{length-replicate}
-use Rattle.console.specs.Printed.{mostCouplerLines, mostGateLines, countedText}
+use Rattle.console.specs.Printed.{mostCouplerLines, mostGateLines, countedJob, countedText}
 use Rattle.console.proofs.Choosing.{prints-same}
-use Rattle.console.proofs.Reading.{couplers-fit, couplers-long, gates-fit, gates-long, counted-read, counted-unread}
+use Rattle.console.proofs.Reading.{couplers-fit, couplers-long, gates-fit, gates-long, text-read, text-unread}
 use borrow.Author.Needs.{needs}
-use Rattle.console.proofs.count_text.Statement.{statement}
-use Rattle.console.proofs.count_text.Tie as tie
+use Rattle.console.proofs.counting.count_text.Statement.{statement}
+use Rattle.console.proofs.counting.count_text.Tie as tie
+use Rattle.console.proofs.counting.count_job.Reads as count-job-reads
+use Rattle.console.proofs.refusing.front.Reads as front-reads
+use Rattle.console.proofs.refusing.print_refusal.Reads as print-refusal-reads
+use Rattle.reading.proofs.read.read.Reads as read-reads
 
 front-requires : tie.Need-front-requires
 front-requires c κs = search needs
@@ -46,10 +50,12 @@ print-refusal-requires : tie.Need-print-refusal-requires
 print-refusal-requires c κs = search needs
 
 returns : tie.Need-returns
-returns c = (c .before .before .before .before .before .before .before .before .before .before .before .before .before .front-arg .given .0, prints-same (counted-read _ _ _ _ _ (length-replicate {A = ℕ} mostCouplerLines 0) (length-replicate {A = ℕ} mostGateLines 0) _ _ (c .before .before .before .before .before .before .before .before .before .read .ensures .0) (c .before .before .before .before .before .job .given .1) (c .before .before .before .before .before .before .before .before .before .read .ensures .1) (c .before .before .before .before .before .before .before .before .before .read .ensures .2) ∙ ap countedText (c .before .before .before .before .before .before .before .before .before .before .before .before .front .ensures)) (c .count-job .ensures))
+unfolding countedText
+returns c = (c .before .before .before .before .before .before .before .before .before .before .before .before .before .front-arg .given .0, prints-same (text-read _ _ _ _ _ (length-replicate {A = ℕ} mostCouplerLines 0) (length-replicate {A = ℕ} mostGateLines 0) _ _ (c .before .before .before .before .before .before .before .before .before .read .ensures .0) (c .before .before .before .before .before .job .given .1) (c .before .before .before .before .before .before .before .before .before .read .ensures .1) (c .before .before .before .before .before .before .before .before .before .read .ensures .2) countedJob ∙ ap countedText (c .before .before .before .before .before .before .before .before .before .before .before .before .front .ensures)) (c .count-job .ensures))
 
 returns-2 : tie.Need-returns-2
-returns-2 c = (c .before .before .before .before .before .before .before .before .before .before .before .front-arg .given .0, prints-same (counted-unread _ _ _ (length-replicate {A = ℕ} mostCouplerLines 0) (length-replicate {A = ℕ} mostGateLines 0) _ _ (c .before .before .before .before .before .before .before .read .ensures .0) (c .before .before .before .verdict .given .1) ∙ ap countedText (c .before .before .before .before .before .before .before .before .before .before .front .ensures)) (c .print-refusal .ensures))
+unfolding countedText
+returns-2 c = (c .before .before .before .before .before .before .before .before .before .before .before .front-arg .given .0, prints-same (text-unread _ _ _ (length-replicate {A = ℕ} mostCouplerLines 0) (length-replicate {A = ℕ} mostGateLines 0) _ _ (c .before .before .before .before .before .before .before .read .ensures .0) (c .before .before .before .verdict .given .1) _ ∙ ap countedText (c .before .before .before .before .before .before .before .before .before .before .front .ensures)) (c .print-refusal .ensures))
 
 pub count-text-spec : {M : Type 1} → statement M
 count-text-spec =

@@ -1,9 +1,12 @@
--- `console::print_refusal` meets its contract. Assumes nothing.
+-- `console::refusing::print_refusal` meets its contract. Assumes nothing.
 use Rattle.tallies.specs.Tally.{boundOf}
 use Rattle.console.proofs.Whole.{refusal-whole}
 use borrow.Author.Needs.{needs}
-use Rattle.console.proofs.print_refusal.Statement.{statement}
-use Rattle.console.proofs.print_refusal.Tie as tie
+use Rattle.console.proofs.refusing.print_refusal.Statement.{statement}
+use Rattle.console.proofs.refusing.print_refusal.Tie as tie
+use Rattle.lines.proofs.print.refusal.Reads as refusal-reads
+use Rattle.verdicts.proofs.verdict.number.Reads as number-reads
+use Rattle.verdicts.proofs.verdict.place.Reads as place-reads
 
 number-requires : tie.Need-number-requires
 number-requires c κs = search needs
