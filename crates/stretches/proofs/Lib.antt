@@ -9,3 +9,4 @@ pub mod Answering
 pub mod Bounding
 pub mod Alone
 pub mod Drawing
+pub mod Weaving
