@@ -10,3 +10,5 @@ pub mod Bounding
 pub mod Alone
 pub mod Drawing
 pub mod Weaving
+pub mod Records
+pub mod One

@@ -153,7 +153,7 @@ room-passed n s few c =
     ap (λ (b : Bool). pick b Room Accepted)
     (le-ltb largest (boundOf n (length (terms (gatesOf n s)))) (bound-most n (length (terms (gatesOf n s))) few (omega (arith, terms-few (gatesOf n s), over-few (gatesOf n s) c))))
 
-then-accepted : (v : Verdict) → andThen v Accepted ≡ v
+pub then-accepted : (v : Verdict) → andThen v Accepted ≡ v
 then-accepted v = go (eqb (numberOf v) 0) refl
   where
     go : (b : Bool) → eqb (numberOf v) 0 ≡ b → pick b Accepted v ≡ v
