@@ -37,7 +37,7 @@ use Rattle.laying.proofs.Demands.{reach-tests, demand-2-never-9}
 
 -- ---- tests 4, 6 and 8
 
-tests-4 : (gates : List ℕ) → Tests (judgedCount gates) 4 (Passes4 gates) (mostGates < length gates) Nowhere
+pub tests-4 : (gates : List ℕ) → Tests (judgedCount gates) 4 (Passes4 gates) (mostGates < length gates) Nowhere
 unfolding judgedCount
 tests-4 gates = limit-tests mostGates (length gates) ManyGates (omega arith) refl
 
@@ -62,7 +62,7 @@ brings gs l = record { within = l; before = before (overAt gs) refl; here = ltb-
         subst (λ (m : ℕ). length (borne (take m gs)) ≤ mostParities) {x = k + 1} {y = suc k} (omega arith)
         (ltb-false mostParities (length (borne (take (k + 1) gs))) (first-before over (length gs) 0 k (omega arith) (omega (arith, e))))
 
-tests-6 : (gs : List Gate) → Tests (judgedParities gs) 6 (Passes6 gs) (mostParities < length (borne gs)) (Brings gs)
+pub tests-6 : (gs : List Gate) → Tests (judgedParities gs) 6 (Passes6 gs) (mostParities < length (borne gs)) (Brings gs)
 unfolding judgedParities
 tests-6 gs = record { decided = go (ltb (overAt gs) (length gs)) refl; apart = λ (p : Passes6 gs) (f : mostParities < length (borne gs)). omega arith; refuses = omega arith }
   where
@@ -76,14 +76,14 @@ tests-6 gs = record { decided = go (ltb (overAt gs) (length gs)) refl; apart = �
 -- ---- the tests in order
 
 -- the number j is 0 or that of a test behind k
-abbrev Later : ℕ → ℕ → Type 0
+abbrev pub Later : ℕ → ℕ → Type 0
 Later k j = (j ≡ 0) ⊎ (k < j)
 
-later-not : (k j : ℕ) → 0 < k → Later k j → j ≢ k
+pub later-not : (k j : ℕ) → 0 < k → Later k j → j ≢ k
 later-not k j h (inl z) e = omega (arith, h, z, e)
 later-not k j h (inr l) e = omega (arith, l, e)
 
-later-than : (k j : ℕ) → Later (k + 1) j → Later k j
+pub later-than : (k j : ℕ) → Later (k + 1) j → Later k j
 later-than k j (inl z) = inl z
 later-than k j (inr l) = inr (omega (arith, l))
 

@@ -12,3 +12,5 @@ pub mod Drawing
 pub mod Weaving
 pub mod Records
 pub mod One
+pub mod Testing
+pub mod Rows

@@ -30,6 +30,7 @@ use Rattle.isles.specs.Islands.{islandsOf}
 use Rattle.judging.specs.Tests.{judgedCount, judgedParities, judgedReach, judgedRoom, judgedMeaning, judgedJob}
 use Rattle.judging.proofs.Judging.{over-le, over-few, qubits-few, parities-pass}
 use Rattle.laying.specs.Verdict.{judgedStuck, verdictOf, circuitOf}
+use Rattle.laying.specs.Demands.{judgedSix}
 use Rattle.laying.proofs.Accepted.{job-accepted}
 use Rattle.laying.proofs.Demands.{demand-2}
 use Rattle.stretches.specs.Cut.{ahead, cutAt, those, weave, Each}
@@ -177,6 +178,17 @@ module _ (n : ℕ) (couplers : List ℕ) (qubits : numberOf (judgedQubits n) ≡
       ∙ sym (then-on (judgedParities (gatesOf n s)) r (ap numberOf (parities-pass (gatesOf n s) c)))
       ∙ ap (andThen reach) (room-passed n s (qubits-few n qubits .1) c) ∙ then-accepted reach
 
+  stretch-six : numberOf (judgedSix n couplers s) ≡ 0
+  unfolding judgedSix
+  stretch-six =
+      let p : Verdict = judgedParities (gatesOf n s) in
+      let g : Verdict = andThen (judgedGates n s) p in
+      let k : Verdict = andThen (judgedCount s) g in
+      ap numberOf
+      (sym (then-on (judgedQubits n) (andThen (judgedCouplers n couplers) k) qubits) ∙ sym (then-on (judgedCouplers n couplers) k listed)
+      ∙ sym (then-on (judgedCount s) g (ap numberOf (count-passed s (omega (arith, short))))) ∙ sym (then-on (judgedGates n s) p (ap numberOf (fair-accepted n s fair)))
+      ∙ parities-pass (gatesOf n s) c)
+
   stretch-accepted : Reaches n (islandsOf (nearOf n couplers)) s → Accepts n couplers s
   stretch-accepted z = ap numberOf (job-accepted n couplers s largest (ap numberOf only-reach ∙ z))
 
@@ -219,11 +231,16 @@ module _ (n : ℕ) (couplers gates : List ℕ) where
     stretches P f =
         each-both (Each (Fair n)) (λ s. length s < mostGates + 1) P f (stretchesOf n gates) (stretches-fair n gates (drawing d .drawn)) (stretches-short n gates (drawing d .short))
 
-    pub only-reaches : numberOf (judgedParitiesFrom n 0 (stretchesOf n gates)) ≡ 0 → Each (OnlyReach n couplers) (stretchesOf n gates)
-    only-reaches p =
-        each-both (λ s. Counted n s → OnlyReach n couplers s) (Counted n) (OnlyReach n couplers) (λ s f c. f c) (stretchesOf n gates)
-        (stretches (λ s. Counted n s → OnlyReach n couplers s) (λ s f l. only-reach n couplers (drawing d .qubits) (drawing d .couplers-listed) s f l))
-        (parities-counted n 0 (stretchesOf n gates) p)
+    module _ (p : numberOf (judgedParitiesFrom n 0 (stretchesOf n gates)) ≡ 0) where
+      past-six : (P : List ℕ → Type 0) → ((s : List ℕ) → Each (Fair n) s → length s < mostGates + 1 → Counted n s → P s) → Each P (stretchesOf n gates)
+      past-six P f = each-both (λ s. Counted n s → P s) (Counted n) P (λ s g c. g c) (stretchesOf n gates) (stretches (λ s. Counted n s → P s) f) (parities-counted n 0 (stretchesOf n gates) p)
+
+      pub only-reaches : Each (OnlyReach n couplers) (stretchesOf n gates)
+      only-reaches = past-six (OnlyReach n couplers) (only-reach n couplers (drawing d .qubits) (drawing d .couplers-listed))
+
+      -- each stretch by itself is past tests 1 to 6
+      pub stretches-six : Each (λ s. numberOf (judgedSix n couplers s) ≡ 0) (stretchesOf n gates)
+      stretches-six = past-six (λ s. numberOf (judgedSix n couplers s) ≡ 0) (stretch-six n couplers (drawing d .qubits) (drawing d .couplers-listed))
 
   pub job-passed : numberOf (judgedStretches n couplers gates) ≡ 0 → Passed n couplers gates
   unfolding judgedStretches
