@@ -41,7 +41,7 @@ module _ (n : ℕ) (xs ys : List ℕ) where
     unfolding judgedStretches
     judge-reaches b = then-on (judgedParitiesFrom n 0 (stretchesOf n ys)) _ b ∙ then-on (judgedDrawing n xs ys) _ a
 
-  room-enough : (room : ℕ) → numberOf (judgedBound n ys room) ≡ 0 → jobBound n ys ≤ room
+  pub room-enough : (room : ℕ) → numberOf (judgedBound n ys room) ≡ 0 → jobBound n ys ≤ room
   unfolding judgedBound
   room-enough room e = go (ltb room (jobBound n ys)) refl e
     where

@@ -1,7 +1,7 @@
 -- Properties of every member of a list, and of the lists that another is cut into. Assumes nothing.
-use mathlib.Core.Path.{_≡_, refl, ap}
+use mathlib.Core.Path.{_≡_, refl}
 use mathlib.Core.Bool.{Bool, true, false}
-use mathlib.Core.List.{List, [], _∷_}
+use mathlib.Core.List.{List, [], _∷_, map}
 use Prim.Native.Nat.{ℕ, zero, suc, _+_, _≤_, _<_}
 use native.Mathlib.Omega.{arith}
 use lib.ListN.{length, getD}
@@ -29,6 +29,11 @@ pub each-map : {A : Type 0} (P Q : A → Type 0) → ((x : A) → P x → Q x) �
 unfolding Each
 each-map P Q f [] a = tt
 each-map P Q f (x ∷ xs) a = (f x (a .0), each-map P Q f xs (a .1))
+
+pub each-mapped : {A B : Type 0} (P : A → Type 0) (Q : B → Type 0) (f : A → B) → ((x : A) → P x → Q (f x)) → (xs : List A) → Each P xs → Each Q (map f xs)
+unfolding Each
+each-mapped P Q f g [] a = tt
+each-mapped P Q f g (x ∷ xs) a = (g x (a .0), each-mapped P Q f g xs (a .1))
 
 pub each-both : {A : Type 0} (P Q R : A → Type 0) → ((x : A) → P x → Q x → R x) → (xs : List A) → Each P xs → Each Q xs → Each R xs
 unfolding Each

@@ -65,7 +65,7 @@ module _ (n : ℕ) (couplers xs : List ℕ) where
     pub small : phase < 65536
     pub due : phases phase (phasesOf n (restFrom n xs k)) ≡ jobPhase n xs
 
-  phases-small : (ss : List (List ℕ)) → phasesOf n ss < 65536
+  pub phases-small : (ss : List (List ℕ)) → phasesOf n ss < 65536
   unfolding phasesOf phases
   phases-small [] = omega arith
   phases-small (s ∷ ss) = omega arith

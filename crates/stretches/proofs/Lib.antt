@@ -14,3 +14,8 @@ pub mod Records
 pub mod One
 pub mod Testing
 pub mod Rows
+pub mod Paired
+pub mod Islands
+pub mod Demands
+pub mod Archive
+pub mod Enough

@@ -1,0 +1,140 @@
+-- A job is never answered 8 where its B is lent, and is answered by tests 1 to 7 alone; the place of a refusal is no larger than a job's limits. Assumes nothing.
+use mathlib.Core.Path.{_≡_, refl, sym, ap, _∙_, subst}
+use mathlib.Core.Logic.{_≢_, _⊎_, inl, inr}
+use mathlib.Core.Bool.{Bool, true, false}
+use mathlib.Core.List.{List, [], _∷_}
+use Prim.Native.Nat.{ℕ, _+_, _≤_, _<_}
+use native.Mathlib.Omega.{arith}
+use native.Mathlib.Decide.{ℕ-discrete}
+use lib.ListN.{length, length-map}
+use Rattle.sets.specs.Pick.{pick}
+use Rattle.gates.specs.Limits.{mostQubits, mostGates}
+use Rattle.gates.specs.Layout.{gateOf}
+use Rattle.gates.specs.Hadamards.{isHadamard}
+use Rattle.verdicts.specs.declared.verdict.Verdict.{Verdict}
+use Rattle.verdicts.specs.Verdicts.{numberOf, placeOf, judgedQubits, judgedCouplers}
+use Rattle.verdicts.specs.InOrder.{andThen}
+use Rattle.verdicts.specs.Rows.{Nowhere}
+use Rattle.verdicts.proofs.Judged.{zero-accepted, then-on, then-stop, then-zero}
+use Rattle.verdicts.proofs.Rows.{Tests, test-passed, row-passes, tests-1, tests-2, tests-3, tests-drawn, judgedMany, judgedWrong, couplers-parted}
+use Rattle.judging.specs.Tests.{judgedCount}
+use Rattle.laying.proofs.Rows.{tests-4}
+use Rattle.stretches.specs.Cut.{ahead, cutAt}
+use Rattle.stretches.specs.Stretches.{stretchesOf, hadamardsOf}
+use Rattle.stretches.specs.Tests.{judgedDrawing, judgedParitiesFrom, judgedReaches, jobBound, judgedBound, judgedStretches, jobVerdict}
+use Rattle.stretches.specs.Rows.{BringsFrom, UnreachedFrom, Unreached}
+use Rattle.stretches.proofs.Passing.{then-accepted, stretches-six}
+use Rattle.stretches.proofs.Testing.{parities-tests, reaches-tests, bound-tests}
+use Rattle.stretches.proofs.Rows.{judged-all, job-rows}
+
+-- ---- 8
+
+-- where B is lent, 8 is never answered
+pub job-never-8 : (n : ℕ) (couplers gates : List ℕ) (room : ℕ) → jobBound n gates ≤ room → numberOf (jobVerdict n couplers gates room) ≢ 8
+job-never-8 n couplers gates room lent e = omega (arith, lent, job-rows n couplers gates room .row-8 .exactly .0 e .1 .1 .1 .1 .1 .1 .1)
+
+-- there tests 1 to 7 decide
+pub judged-enough : (n : ℕ) (couplers gates : List ℕ) (room : ℕ) → jobBound n gates ≤ room → jobVerdict n couplers gates room ≡ judgedStretches n couplers gates
+judged-enough n couplers gates room lent =
+    sym (judged-all n couplers gates room) ∙ ap (andThen (judgedStretches n couplers gates)) (zero-accepted (judgedBound n gates room) (test-passed (bound-tests n gates room) lent))
+    ∙ then-accepted (judgedStretches n couplers gates)
+
+-- ---- places
+
+-- the place is no larger than a job's limits
+abbrev Low : Verdict → Type 0
+Low v = placeOf v ≤ mostGates
+
+low-test : {v : Verdict} {k : ℕ} {Pass Fail : Type 0} {At : ℕ → Type 0} → Tests v k Pass Fail At → ((p : ℕ) → At p → p ≤ mostGates) → Low v
+low-test {v} {k} {Pass} {Fail} {At} t f = go (t .decided)
+  where
+    go : ((numberOf v ≡ 0) × Pass) ⊎ ((numberOf v ≡ k) × Fail × At (placeOf v)) → Low v
+    go (inl d) = omega (arith, ap placeOf (zero-accepted v (d .0)))
+    go (inr d) = f (placeOf v) (d .2)
+
+low-then : (v w : Verdict) → Low v → (numberOf v ≡ 0 → Low w) → Low (andThen v w)
+low-then v w p q = go (ℕ-discrete (numberOf v) 0)
+  where
+    go : Dec (numberOf v ≡ 0) → Low (andThen v w)
+    go (yes z) = subst Low (then-on v w z) (q z)
+    go (no ne) = subst Low (then-stop v w ne) p
+
+nowhere : (p : ℕ) → Nowhere p → p ≤ mostGates
+nowhere p e = omega (arith, e)
+
+-- ---- places of stretches
+
+-- the gates of stretches, and one more for each
+span : List (List ℕ) → ℕ
+span [] = 0
+span (s ∷ ss) = length s + 1 + span ss
+
+span-cut : (h : ℕ → Bool) (xs : List ℕ) → span (cutAt h xs) ≡ length xs + 1
+unfolding cutAt ahead span
+span-cut h [] = omega arith
+span-cut h (x ∷ xs) = go (h x) (cutAt h xs) (span-cut h xs)
+  where
+    go : (b : Bool) (ss : List (List ℕ)) → span ss ≡ length xs + 1 → span (pick b ([] ∷ ss) (ahead x ss)) ≡ length (x ∷ xs) + 1
+    go true ss e = omega (arith, e)
+    go false [] e = absurd (omega (arith, e))
+    go false (s ∷ ss) e = omega (arith, e)
+
+module _ (n : ℕ) where
+  brings-below : (k : ℕ) (ss : List (List ℕ)) (p : ℕ) → BringsFrom n k ss p → p < k + span ss
+  unfolding BringsFrom span
+  brings-below k [] p b = absurd b
+  brings-below k (s ∷ ss) p (inl (i, e, b)) = omega (arith, e, b .within, length-map s (gateOf n))
+  brings-below k (s ∷ ss) p (inr b) = omega (arith, brings-below (k + length s + 1) ss p (b .1))
+
+  unreached-below : (couplers : List ℕ) (k : ℕ) (ss : List (List ℕ)) (p : ℕ) → UnreachedFrom n couplers k ss p → p < k + span ss
+  unfolding UnreachedFrom span
+  unreached-below couplers k [] p u = absurd u
+  unreached-below couplers k (s ∷ ss) p (inl u) = omega (arith, u .0)
+  unreached-below couplers k (s ∷ ss) p (inr u) = omega (arith, unreached-below couplers (k + length s + 1) ss p (u .1))
+
+  span-all : (gates : List ℕ) → span (stretchesOf n gates) ≡ length gates + 1
+  unfolding stretchesOf
+  span-all gates = span-cut (isHadamard n) gates
+
+-- ---- in order
+
+module _ (n : ℕ) (couplers gates : List ℕ) where
+  low-couplers : Low (judgedCouplers n couplers)
+  low-couplers =
+      subst Low (couplers-parted n couplers)
+      (low-then (judgedMany couplers) (judgedWrong n couplers) (low-test (tests-2 couplers) nowhere)
+      (λ z. low-test (tests-3 n couplers) (λ p f. omega (arith, f .within, row-passes (tests-2 couplers) .exactly .0 z))))
+
+  low-drawing : Low (judgedDrawing n couplers gates)
+  unfolding judgedDrawing
+  low-drawing =
+      low-then (judgedQubits n) _ (low-test (tests-1 n) nowhere)
+      (λ q. low-then (judgedCouplers n couplers) _ low-couplers
+      (λ c. low-then (judgedCount gates) _ (low-test (tests-4 gates) nowhere)
+      (λ k. low-test (tests-drawn n gates) (λ p f. omega (arith, f .within, row-passes (tests-4 gates) .exactly .0 k)))))
+
+  module _ (d : numberOf (judgedDrawing n couplers gates) ≡ 0) where
+    few : n ≤ mostQubits
+    unfolding judgedDrawing
+    few = row-passes (tests-1 n) .exactly .0 (then-zero (judgedQubits n) _ d .0) .1
+
+    short : length gates ≤ mostGates
+    unfolding judgedDrawing
+    short = row-passes (tests-4 gates) .exactly .0 (then-zero (judgedCount gates) _ (then-zero (judgedCouplers n couplers) _ (then-zero (judgedQubits n) _ d .1) .1) .0)
+
+    low-parities : Low (judgedParitiesFrom n 0 (stretchesOf n gates))
+    low-parities = low-test (parities-tests n 0 (stretchesOf n gates)) (λ p b. omega (arith, brings-below n 0 (stretchesOf n gates) p b, span-all n gates, short))
+
+    low-reaches : numberOf (judgedParitiesFrom n 0 (stretchesOf n gates)) ≡ 0 → Low (judgedReaches n couplers gates)
+    low-reaches z = low-test (reaches-tests n couplers gates (stretches-six n couplers gates d z)) (λ p u. go p u (hadamardsOf n gates) refl)
+      where
+        go : (p : ℕ) → Unreached n couplers gates p → (hs : List ℕ) → hadamardsOf n gates ≡ hs → p ≤ mostGates
+        go p u [] e = omega (arith, u .one e .most, few)
+        go p u (h ∷ hs) e = omega (arith, unreached-below n couplers 0 (stretchesOf n gates) p (u .more (λ z. omega (arith, ap length (sym e ∙ z)))), span-all n gates, short)
+
+  -- every place is at most 4,096
+  pub place-most : placeOf (judgedStretches n couplers gates) ≤ mostGates
+  unfolding judgedStretches
+  place-most =
+      low-then (judgedDrawing n couplers gates) _ low-drawing
+      (λ d. low-then (judgedParitiesFrom n 0 (stretchesOf n gates)) (judgedReaches n couplers gates) (low-parities d) (low-reaches d))
