@@ -119,7 +119,7 @@ module _ (n : ℕ) (couplers gates : List ℕ) (p : Passed n couplers gates) whe
   no-hadamards : Each (Each (λ x. isHadamard n x ≡ false)) pieces
   no-hadamards = each-mapped (Accepts n couplers) (Each (λ x. isHadamard n x ≡ false)) (stretchRecords n couplers) (λ s a. stretch-between n couplers s largest a) (stretchesOf n gates) (p .accepts)
 
-  all-hadamards : Each (λ x. isHadamard n x ≡ true) (hadamardsOf n gates)
+  pub all-hadamards : Each (λ x. isHadamard n x ≡ true) (hadamardsOf n gates)
   unfolding hadamardsOf
   all-hadamards = each-true (isHadamard n) gates
 

@@ -19,3 +19,4 @@ pub mod Islands
 pub mod Demands
 pub mod Archive
 pub mod Enough
+pub mod Depth
