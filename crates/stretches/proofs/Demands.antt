@@ -109,6 +109,7 @@ unfolding jobVerdict
 accepted-passed n couplers gates room z = job-passed n couplers gates (then-zero (judgedStretches n couplers gates) _ z .0)
 
 module _ (n : ℕ) (couplers gates : List ℕ) (p : Passed n couplers gates) where
+  -- what the stretches get: one piece more than there are Hadamards, and no Hadamard in any
   abbrev pieces : List (List ℕ)
   pieces = map (stretchRecords n couplers) (stretchesOf n gates)
 
@@ -119,6 +120,7 @@ module _ (n : ℕ) (couplers gates : List ℕ) (p : Passed n couplers gates) whe
   no-hadamards : Each (Each (λ x. isHadamard n x ≡ false)) pieces
   no-hadamards = each-mapped (Accepts n couplers) (Each (λ x. isHadamard n x ≡ false)) (stretchRecords n couplers) (λ s a. stretch-between n couplers s largest a) (stretchesOf n gates) (p .accepts)
 
+  -- every Hadamard drawn is one
   pub all-hadamards : Each (λ x. isHadamard n x ≡ true) (hadamardsOf n gates)
   unfolding hadamardsOf
   all-hadamards = each-true (isHadamard n) gates
@@ -139,11 +141,13 @@ module _ (n : ℕ) (couplers : List ℕ) where
   abbrev sharesOf : List (List ℕ) → List ℕ
   sharesOf ss = map (λ s. phaseOf (gatesOf n s)) ss
 
+  -- the shares together are the common phase of the stretches
   shares-sum : (ss : List (List ℕ)) → sumOfShares (sharesOf ss) ≡ phasesOf n ss
   unfolding sumOfShares phasesOf
   shares-sum [] = refl
   shares-sum (s ∷ ss) = ap (phases (phaseOf (gatesOf n s))) (shares-sum ss)
 
+  -- demand 2 of each stretch
   faithfuls : (ss : List (List ℕ)) → Each (Accepts n couplers) ss → Faithfuls n couplers (sharesOf ss) ss (map (stretchRecords n couplers) ss)
   unfolding Faithfuls Each
   faithfuls [] a = tt
@@ -159,6 +163,7 @@ module _ (n : ℕ) (couplers : List ℕ) where
     abbrev drawn : List (List ℕ)
     drawn = stretchesOf n gates
 
+    -- the same meaning, common phases aside
     laid-alike : AlikeJob n gates (jobRecords n couplers gates)
     laid-alike = record {
       hadamards = sym (laid-hadamards n couplers gates p);
@@ -166,10 +171,12 @@ module _ (n : ℕ) (couplers : List ℕ) where
           (pairs-self (Accepts n couplers) (stretchRecords n couplers) (λ s t. Alike n (gatesOf n s) (gatesOf n t)) (λ s a. stretch-faithful n couplers s largest a .same .alike) drawn (p .accepts));
     }
 
+    -- the common phase
     laid-phase : jobPhase n gates ≡ phases (jobPhase n (jobRecords n couplers gates)) (jobPhase n gates)
     unfolding jobPhase phases
     laid-phase = omega (arith, ap (phasesOf n) (laid-stretches n couplers gates p), silent drawn (p .accepts), phases-small n couplers gates drawn)
 
+    -- all of demand 2
     laid-faithful : FaithfulJob n couplers (jobPhase n gates) gates (jobRecords n couplers gates)
     laid-faithful = record {
       same = record { alike = laid-alike; phase = laid-phase };

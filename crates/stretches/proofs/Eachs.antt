@@ -30,6 +30,7 @@ unfolding Each
 each-map P Q f [] a = tt
 each-map P Q f (x ∷ xs) a = (f x (a .0), each-map P Q f xs (a .1))
 
+-- what becomes of the members
 pub each-mapped : {A B : Type 0} (P : A → Type 0) (Q : B → Type 0) (f : A → B) → ((x : A) → P x → Q (f x)) → (xs : List A) → Each P xs → Each Q (map f xs)
 unfolding Each
 each-mapped P Q f g [] a = tt

@@ -49,16 +49,19 @@ module _ (n : ℕ) (couplers gates : List ℕ) (none : hadamardsOf n gates ≡ [
 
   -- ---- what is laid
 
+  -- its records are those of its circuit
   pub one-records : jobRecords n couplers gates ≡ map recordOf circuit
   unfolding jobRecords weave
   one-records = ap₂ (λ (ss : List (List ℕ)) (hs : List ℕ). weave (map (stretchRecords n couplers) ss) hs) one none
 
+  -- its common phase is that of its gates
   pub one-phase : jobPhase n gates ≡ phaseOf gs
   unfolding jobPhase phasesOf phases
   one-phase = ap (phasesOf n) one ∙ omega (arith, phase-small gs)
 
   -- ---- test by test
 
+  -- no record is a Hadamard
   between : (k : ℕ) → k < length gates → isHadamard n (getD gates k 0) ≡ false
   unfolding stretchesOf
   between k l =
@@ -88,7 +91,7 @@ module _ (n : ℕ) (couplers gates : List ℕ) (none : hadamardsOf n gates ≡ [
 
   -- ---- all of them
 
-  -- tests 1 to 9 are those of one stretch, with its place of 7
+  -- the same verdict: tests 1 to 9 are those of one stretch, with its place of 7
   pub one-verdict : (room : ℕ) → jobVerdict n couplers gates room ≡ verdictOf n couplers gates room
   unfolding jobVerdict judgedStretches judgedDrawing verdictOf judgedJob judgedMeaning
   one-verdict room =
@@ -100,6 +103,8 @@ module _ (n : ℕ) (couplers gates : List ℕ) (none : hadamardsOf n gates ≡ [
       let r : Verdict = judgedReach n isls gs in
       let m : Verdict = judgedRoom n gs room in
       let t : Verdict = judgedStuck n (nearOf n couplers) gs in
+      let a : Verdict = andThen (judgedParitiesFrom n 0 (stretchesOf n gates)) (judgedReaches n couplers gates) in
+      let b : Verdict = andThen (judgedBound n gates room) (judgedStuckIn n (nearOf n couplers) (stretchesOf n gates)) in
       let l : Verdict = andThen q (andThen c (andThen k g)) in
       let left : andThen (andThen l (andThen p r)) (andThen m t) ≡ andThen l (andThen p (andThen r (andThen m t))) =
       then-assoc l (andThen p r) (andThen m t) ∙ ap (andThen l) (then-assoc p r (andThen m t)) in
@@ -107,10 +112,11 @@ module _ (n : ℕ) (couplers gates : List ℕ) (none : hadamardsOf n gates ≡ [
       then-assoc l (andThen p (andThen r m)) t ∙ ap (andThen l) (then-assoc p (andThen r m) t ∙ ap (andThen p) (then-assoc r m t)) in
       let flat : andThen l (andThen p (andThen r m)) ≡ andThen q (andThen c (andThen k (andThen g (andThen p (andThen r m))))) =
       then-assoc q (andThen c (andThen k g)) (andThen p (andThen r m)) ∙ ap (andThen q) (then-assoc c (andThen k g) (andThen p (andThen r m)) ∙ ap (andThen c) (then-assoc k g (andThen p (andThen r m)))) in
-      ap (λ (d : Verdict). andThen (andThen (andThen q (andThen c (andThen k d))) (andThen (judgedParitiesFrom n 0 (stretchesOf n gates)) (judgedReaches n couplers gates))) (andThen (judgedBound n gates room) (judgedStuckIn n (nearOf n couplers) (stretchesOf n gates)))) (drawn-gates n gates between)
-      ∙ ap₂ (λ (a b : Verdict). andThen (andThen l a) b) (ap₂ andThen one-six one-seven) (ap₂ andThen (one-eight room) one-nine)
+      ap (λ (d : Verdict). andThen (andThen (andThen q (andThen c (andThen k d))) a) b) (drawn-gates n gates between)
+      ∙ ap₂ (λ (v w : Verdict). andThen (andThen l v) w) (ap₂ andThen one-six one-seven) (ap₂ andThen (one-eight room) one-nine)
       ∙ left ∙ sym right ∙ ap (λ (v : Verdict). andThen v t) flat
 
+  -- the same answer
   pub one-answer : (room : ℕ) → jobAnswered n couplers gates room ≡ answered n couplers gates room
   unfolding jobAnswered answered
   one-answer room =
@@ -124,6 +130,7 @@ module _ (n : ℕ) (couplers gates : List ℕ) (none : hadamardsOf n gates ≡ [
       go true e = ap (λ (hs : List Gate). countsOf hs (phaseOf gs)) (ap (gatesOf n) one-records ∙ stretch-gates n couplers gates room (eqb-true (numberOf v) 0 e))
       go false e = refl
 
+  -- the same output
   pub one-output : (out : List ℕ) → jobOutput n couplers gates out ≡ outputOf n couplers gates out
   unfolding jobOutput outputOf
   one-output out =

@@ -5,6 +5,7 @@ use Prim.Native.Nat.{ℕ}
 use native.Mathlib.Omega.{arith}
 use Rattle.stretches.specs.Cut.{Each, Pairs}
 
+-- members that have properties too
 pub pairs-both : {A B : Type 0} (P : A → Type 0) (Q : B → Type 0) (R S : A → B → Type 0) → ((x : A) (y : B) → P x → Q y → R x y → S x y)
     → (xs : List A) (ys : List B) → Each P xs → Each Q ys → Pairs R xs ys → Pairs S xs ys
 unfolding Each Pairs
@@ -13,6 +14,7 @@ pairs-both P Q R S f [] (y ∷ ys) a b r = absurd r
 pairs-both P Q R S f (x ∷ xs) [] a b r = absurd r
 pairs-both P Q R S f (x ∷ xs) (y ∷ ys) a b r = (f x y (a .0) (b .0) (r .0), pairs-both P Q R S f xs ys (a .1) (b .1) (r .1))
 
+-- what becomes of the members
 pub pairs-mapped : {A B C D : Type 0} (f : A → C) (g : B → D) (R : C → D → Type 0) (xs : List A) (ys : List B) → Pairs (λ x y. R (f x) (g y)) xs ys → Pairs R (map f xs) (map g ys)
 unfolding Pairs
 pairs-mapped f g R [] [] r = tt

@@ -144,6 +144,7 @@ module _ (n : ℕ) (couplers gates : List ℕ) (room : ℕ) where
 
   -- ---- the table
 
+  -- 9 is answered by no test
   bound-never-9 : numberOf bound ≢ 9
   bound-never-9 e = go (bound-tests n gates room .decided)
     where
@@ -172,5 +173,6 @@ module _ (n : ℕ) (couplers gates : List ℕ) (room : ℕ) where
     row-9 = record { exactly = (never-9, λ f. absurd f); place = λ e. absurd (never-9 e) };
   }
 
+  -- every row holds of the verdict of a job
   pub job-rows : JobRows n couplers gates room (jobVerdict n couplers gates room)
   job-rows = subst (JobRows n couplers gates room) (all-judged ∙ judged-all) all-rows

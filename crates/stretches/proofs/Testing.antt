@@ -37,10 +37,10 @@ use Rattle.stretches.specs.Rows.{PassesSix, BringsFrom, UnreachedFrom, U
 use Rattle.stretches.proofs.Eachs.{each-head, each-one}
 use Rattle.stretches.proofs.Passing.{none-one}
 
--- ---- of one verdict the other's words
+-- ---- tests in other words, and one behind another
 
--- a test, said otherwise
 module _ {v : Verdict} {k : ℕ} {Pass Fail : Type 0} {At : ℕ → Type 0} (t : Tests v k Pass Fail At) where
+  -- a test in other words
   tests-as : {Pass′ : Type 0} {At′ : ℕ → Type 0} → (Pass → Pass′) → (Pass′ → Pass) → ((p : ℕ) → Fail → At p → At′ p) → Tests v k Pass′ (Pass′ → ⊥) At′
   tests-as {Pass′} {At′} there back at = record { decided = go (t .decided); apart = λ p f. f p; refuses = t .refuses }
     where
@@ -71,6 +71,7 @@ module _ (n : ℕ) where
   abbrev BringsAt : ℕ → List ℕ → ℕ → Type 0
   BringsAt k s p = (i : ℕ) × (p ≡ k + i) × Brings (gatesOf n s) i
 
+  -- of a stretch whose first gate has the place k
   parities-at : (k : ℕ) (s : List ℕ) → Tests (judgedParitiesAt n k s) 6 (Passes6 (gatesOf n s)) (Passes6 (gatesOf n s) → ⊥) (BringsAt k s)
   unfolding judgedParitiesAt
   parities-at k s = record { decided = go (ltb (overAt gs) (length s)) refl; apart = λ p f. f p; refuses = omega arith }
@@ -104,6 +105,7 @@ module _ (n : ℕ) (couplers : List ℕ) where
   abbrev Reaches : List ℕ → Type 0
   Reaches s = Reachable n couplers (gatesOf n s)
 
+  -- of a stretch whose first gate has the place k, past test 6
   reach-at : (k : ℕ) (s : List ℕ) → Six s → Tests (judgedReachAt n isls k s) 7 (Reaches s) (Reaches s → ⊥) (λ p. p ≡ k)
   unfolding judgedReachAt
   reach-at k s z = record { decided = go (eqb (numberOf reach) 0) refl; apart = λ p f. f p; refuses = omega arith }
@@ -115,6 +117,7 @@ module _ (n : ℕ) (couplers : List ℕ) where
       go true e = inl (refl, row-passes (reach-tests n couplers s largest z) .exactly .0 (eqb-true (numberOf reach) 0 e))
       go false e = inr (refl, λ r. eqb-false (numberOf reach) 0 e (row-passes (reach-tests n couplers s largest z) .exactly .1 r), refl)
 
+  -- of stretches with a Hadamard between each and the next
   reach-from : (k : ℕ) (ss : List (List ℕ)) → Each Six ss → Tests (judgedReachFrom n isls k ss) 7 (Each Reaches ss) (Each Reaches ss → ⊥) (UnreachedFrom n couplers k ss)
   unfolding judgedReachFrom UnreachedFrom Each
   reach-from k [] z = tests-end 7 (omega arith)
@@ -143,6 +146,7 @@ module _ (n : ℕ) (couplers : List ℕ) where
 
 -- ---- 8
 
+-- test 8 is passed where B is lent
 pub bound-tests : (n : ℕ) (gates : List ℕ) (room : ℕ) → Tests (judgedBound n gates room) 8 (jobBound n gates ≤ room) (room < jobBound n gates) Nowhere
 unfolding judgedBound
 bound-tests n gates room = limit-tests room (jobBound n gates) Room (omega arith) refl

@@ -20,6 +20,7 @@ module _ {A : Type 0} (h : A → Bool) where
       go false [] e = absurd (omega (arith, e))
       go false (s ∷ ss) e = e
 
+  -- an item in front of the first piece stands in front of all
   weave-ahead : (x : A) (ss : List (List A)) (hs : List A) → length ss ≡ suc (length hs) → weave (ahead x ss) hs ≡ x ∷ weave ss hs
   unfolding ahead weave
   weave-ahead x [] hs e = absurd (omega (arith, e))
@@ -38,6 +39,7 @@ module _ {A : Type 0} (h : A → Bool) where
 
   -- ---- a piece, and what follows it
 
+  -- a piece has no cut in it
   abbrev Whole : List A → Type 0
   Whole s = Each (λ x. h x ≡ false) s
 
