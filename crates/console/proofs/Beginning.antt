@@ -1,9 +1,11 @@
 -- The front of what is printed, and where the first part begins. Assumes nothing.
-use mathlib.Core.Path.{_≡_, sym, ap, ap₂, _∙_, subst}
+use mathlib.Core.Path.{_≡_, refl, sym, ap, ap₂, _∙_, subst}
 use mathlib.Core.Bool.{Bool}
 use mathlib.Core.List.{List, []}
-use Prim.Native.Nat.{ℕ, _+_}
+use Prim.Native.Nat.{ℕ, _+_, _≤_}
+use native.Mathlib.Omega.{arith}
 use lib.ListN.{length, take}
+use lib.Seq.{length-take-le}
 use borrow.Author.Tests.{eq-eqb, ne-eqb}
 use Rattle.sets.specs.Pick.{pick}
 use Rattle.gates.specs.declared.job.Job.{Job}
@@ -17,11 +19,13 @@ use Rattle.reading.specs.Parsing.{parsed}
 use Rattle.reading.specs.Readings.{couplersIn, gatesIn, jobIn, readJob, judgedReading, readingOf, listAfter}
 use Rattle.reading.specs.declared.read.Reading.{Reading}
 use Rattle.reading.specs.declared.read.Reading.the-variants.{Read, Refused}
+use Rattle.reading.proofs.Said.{read-says}
 use Rattle.console.specs.Printed.{mostCouplerLines, mostGateLines, Prints, refusalOf}
 use Rattle.console.specs.Parts.{headJob, headText, firstPart, firstOfText, Begins}
 use Rattle.console.specs.declared.printing.Begun.{Begun}
 use Rattle.console.proofs.Choosing.{unless-passed, unless-refused, prints-same}
-use Rattle.console.proofs.Reading.{the-job, passed, the-couplers, the-gates, text-read, text-unread, none-read}
+use Rattle.console.proofs.Fronts.{front-fits}
+use Rattle.console.proofs.Reading.{couplers-counted, gates-counted, the-job, passed, the-couplers, the-gates, text-read, text-unread, none-read}
 
 module _ (n : ℕ) (xs ys : List ℕ) where
   pub head-refused : (v : Verdict) → v ≡ judgedStretches n xs ys → (numberOf (judgedStretches n xs ys) ≡ 0 → ⊥) → refusalOf v ≡ headJob n xs ys
@@ -82,3 +86,31 @@ module _ (s cs₀ gs₀ cs gs : List ℕ) (lc : length cs₀ ≡ mostCouplerLine
 -- under another name of the text
 pub begins-same : {s t cs gs out cs′ gs′ out′ : List ℕ} {r : Begun} → s ≡ t → Begins s cs gs out r cs′ gs′ out′ → Begins t cs gs out r cs′ gs′ out′
 begins-same {cs = cs} {gs = gs} {out = out} {cs′ = cs′} {gs′ = gs′} {out′ = out′} {r = r} e b = subst (λ (x : List ℕ). Begins x cs gs out r cs′ gs′ out′) e b
+
+-- ---- what beginning leaves can be lent on: the lists of the job, at the front of their memories
+
+module _ {s cs gs out cs′ gs′ out′ : List ℕ} {r : Begun} (b : Begins s cs gs out r cs′ gs′ out′) where
+  abbrev said : Reading
+  said = readingOf s mostCouplerLines mostGateLines
+
+  counted : (w : Reading) → said ≡ w → (r .job .couplers ≤ length cs′) × (r .job .gates ≤ length gs′)
+  counted (Read j) e =
+      let q : r .job ≡ jobIn (parsed s) = b .job ∙ ap readJob e ∙ read-says s mostCouplerLines mostGateLines j e .1 in (
+        front-fits (couplersIn (parsed s)) cs cs′ (r .job .couplers) (ap (λ (i : Job). i .couplers) q ∙ couplers-counted (parsed s)) (b .couplers-read ∙ ap (λ (x : Reading). listAfter x (couplersIn (parsed s)) cs) e),
+        front-fits (gatesIn (parsed s)) gs gs′ (r .job .gates) (ap (λ (i : Job). i .gates) q ∙ gates-counted (parsed s)) (b .gates-read ∙ ap (λ (x : Reading). listAfter x (gatesIn (parsed s)) gs) e),
+      )
+  counted (Refused v) e =
+      let q : r .job ≡ record { qubits = 0; couplers = 0; gates = 0 } = b .job ∙ ap readJob e in
+      (omega (arith, ap (λ (i : Job). i .couplers) q), omega (arith, ap (λ (i : Job). i .gates) q))
+
+  pub couplers-lent : r .job .couplers ≤ length cs′
+  couplers-lent = counted said refl .0
+
+  pub couplers-whole : r .job .couplers ≡ length (take (r .job .couplers) cs′)
+  couplers-whole = sym (length-take-le (r .job .couplers) cs′ couplers-lent)
+
+  pub gates-lent : r .job .gates ≤ length gs′
+  gates-lent = counted said refl .1
+
+  pub gates-whole : r .job .gates ≡ length (take (r .job .gates) gs′)
+  gates-whole = sym (length-take-le (r .job .gates) gs′ gates-lent)

@@ -122,6 +122,11 @@ module _ (n : ℕ) (xs ys : List ℕ) (k : ℕ) where
     pub behind-one : length h ≤ 1
     behind-one = omega (arith, ap length d, length-take 1 (drop (endAt n ys k) ys))
 
+-- the next part begins later, so that the program ends: m is the place of the next part, g the number of gates
+pub next-later : (n : ℕ) (ys : List ℕ) (k g m : ℕ) → g ≡ length ys → k ≤ g → m ≡ nextPart n ys k → k < m
+unfolding nextPart
+next-later n ys k g m e l d = omega (arith, d ∙ ap (λ (b : Bool). pick b (k + length (stretchAt n ys k) + 1) k) (le-leb k (length ys) (omega (arith, e, l))))
+
 -- no lines are printed
 pub prints-none : (out out′ : List ℕ) (r : ℕ) → length out ≡ mostPrinted → (r ≡ recordsEnd [] 0 (length out)) × (out′ ≡ recordsAt [] 0 out) → Prints [] out r out′
 unfolding recordsEnd recordsAt

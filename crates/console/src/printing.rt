@@ -135,7 +135,13 @@ pub fn begin(
 }
 
 // A stretch laid, and the Hadamard behind it.
-fn print_part(n: usize, couplers: &[u32], stretch: &[u32], hadamard: &[u32], out: &mut [u8; OUTPUT]) -> Printed
+fn print_part(
+    n: usize,
+    couplers: &[u32],
+    stretch: &[u32],
+    hadamard: &[u32],
+    out: &mut [u8; OUTPUT],
+) -> Printed
     requires { ⌜ length (now hadamard) ≤ 1 ⌝ }
     ensures { λ r. ⌜ Prints (unless (verdictOf n (now (couplers .entry)) (now (stretch .entry)) largest) (recordsText (stretchRecords n (now (couplers .entry)) (now (stretch .entry)) ++ now (hadamard .entry)))) (now (out .entry)) (r .bytes) (now (out .exit)) × (r .phase ≡ phaseIn (answered n (now (couplers .entry)) (now (stretch .entry)) largest)) ⌝ }
 {
@@ -160,7 +166,13 @@ fn print_part(n: usize, couplers: &[u32], stretch: &[u32], hadamard: &[u32], out
 }
 
 // Prints the part of the stretch that begins at `from`; nothing behind the last gate.
-pub fn lay_part(n: usize, couplers: &[u32], gates: &[u32], from: usize, out: &mut [u8; OUTPUT]) -> Part
+pub fn lay_part(
+    n: usize,
+    couplers: &[u32],
+    gates: &[u32],
+    from: usize,
+    out: &mut [u8; OUTPUT],
+) -> Part
     ensures { λ r. ⌜ Prints (partText n (now (couplers .entry)) (now (gates .entry)) from) (now (out .entry)) (r .bytes) (now (out .exit)) × (r .next ≡ nextPart n (now (gates .entry)) from) × (r .phase ≡ sharePart n (now (couplers .entry)) (now (gates .entry)) from) ⌝ }
 {
     if gates.len() < from {

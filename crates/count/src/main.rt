@@ -6,6 +6,6 @@ fn main() {
     let mut input = [0u8; console::INPUT];
     let n = io::read_full(STDIN_FILENO, &mut input);
     let mut out = [0u8; console::OUTPUT];
-    let k = console::count_text(&input, n, &mut out);
+    let k = console::counting::count_text(&input, n, &mut out);
     io::write_all(STDOUT_FILENO, &out[..k]);
 }

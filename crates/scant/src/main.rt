@@ -1,13 +1,13 @@
 // Too little lent: for each text of the bundle on standard input, what reading, laying and writing answer, an `x` line each. An acceptance is number 0 at place 0.
 use console::COUPLER_LINES;
 use console::GATE_LINES;
-use laying::lay;
 use laying::lay::Answer;
 use libc::STDIN_FILENO;
 use libc::STDOUT_FILENO;
 use lines::print;
 use reading::read;
 use reading::read::Reading;
+use stretches::job;
 use text::write;
 use text::write::Writing;
 use verdicts::verdict;
@@ -16,7 +16,7 @@ ghost use Prim.Native.Nat.{_≤_};
 ghost use lib.ListN.{length};
 
 // Room for the stored bundle.
-const BUNDLE: usize = 65536;
+const BUNDLE: usize = 131072;
 
 // Lent to reading for the couplers.
 const COUPLERS: usize = 3;
@@ -50,7 +50,7 @@ fn read_scant(text: &[u8]) {
 
 fn lay_scant(n: usize, couplers: &[u32], gates: &[u32]) {
     let mut laid = [0u32; RECORDS];
-    match lay::lay(n, couplers, gates, &mut laid) {
+    match job::lay_job(n, couplers, gates, &mut laid) {
         Answer::Laid {
             records: _,
             cnots: _,
@@ -92,7 +92,7 @@ fn turn(text: &[u8]) {
 
 // A line `--` closes each text, and no text has a `-` of its own: it ends at the first one.
 fn each(bundle: &[u8])
-    requires { ⌜ length (now bundle) ≤ 65536 ⌝ }
+    requires { ⌜ length (now bundle) ≤ 131072 ⌝ }
 {
     let mut start: usize = 0;
     for i in 0..bundle.len() {

@@ -1,16 +1,18 @@
 // The stored jobs: for each text of the bundle on standard input, what the laying and then the counting program print.
-// Neither prints the common phase that an acceptance returns: where it is not 0, a `p` line with it follows.
-use laying::lay::Answer;
+// Neither prints the common phase that an acceptance returns, which is the sum over the stretches: where it is not 0, a `p` line with it follows.
+use circuit::wires;
+use console::counting;
+use console::printing;
 use libc::STDIN_FILENO;
 use libc::STDOUT_FILENO;
 use lines::put;
-use reading::read::Reading;
-use tallies::tally;
 ghost use Prim.Native.Nat.{_≤_};
 ghost use lib.ListN.{length};
 
-// Room for the stored bundle.
-const BUNDLE: usize = 524288;
+// Room for the stored bundle, which is read in pieces.
+const BUNDLE: usize = 1048576;
+
+const PIECE: usize = 65536;
 
 // Room for one text and the line that closes it: twice what a job's text may have, so that the stored texts that are too long reach the reader.
 const TEXT: usize = 131072;
@@ -48,58 +50,47 @@ fn read(text: &[u8], input: &mut [u8]) {
     }
 }
 
-fn lay(text: &[u8]) {
+// What the laying program prints; the sum of the phases that laying returns for the parts.
+fn lay(text: &[u8]) -> u32 {
     let mut input = [0u8; console::INPUT];
     read(text, &mut input);
+    let mut couplers = [0u32; console::COUPLER_LINES];
+    let mut gates = [0u32; console::GATE_LINES];
     let mut out = [0u8; console::OUTPUT];
-    let k = console::lay_text(&input, text.len(), &mut out);
+    let begun = printing::begin(&input, text.len(), &mut couplers, &mut gates, &mut out);
+    let k = begun.bytes;
     io::write_all(STDOUT_FILENO, &out[..k]);
+    let job = begun.job;
+    let c = job.couplers;
+    let g = job.gates;
+    let mut from = begun.from;
+    let mut phase = 0;
+    while from <= g {
+        let part = printing::lay_part(job.qubits, &couplers[..c], &gates[..g], from, &mut out);
+        let k = part.bytes;
+        io::write_all(STDOUT_FILENO, &out[..k]);
+        phase = wires::together(phase, part.phase);
+        from = part.next;
+    }
+    phase
 }
 
 fn count(text: &[u8]) {
     let mut input = [0u8; console::INPUT];
     read(text, &mut input);
     let mut out = [0u8; console::OUTPUT];
-    let k = console::count_text(&input, text.len(), &mut out);
+    let k = counting::count_text(&input, text.len(), &mut out);
     io::write_all(STDOUT_FILENO, &out[..k]);
 }
 
 fn say_phase(phase: u32) {
+    if phase == 0 {
+        return;
+    }
     let mut out = [0u8; LINE];
     let numbers = [phase as usize];
     let k = put::put_line(&mut out, 0, b'p', &numbers);
     io::write_all(STDOUT_FILENO, &out[..k]);
-}
-
-fn job_phase(n: usize, couplers: &[u32], gates: &[u32]) {
-    let mut laid = [0u32; tally::LARGEST];
-    match laying::lay::lay(n, couplers, gates, &mut laid) {
-        Answer::Laid {
-            records: _,
-            cnots: _,
-            rotations: _,
-            depth: _,
-            phase,
-        } => {
-            if phase != 0 {
-                say_phase(phase);
-            }
-        }
-        Answer::Refused { verdict: _ } => {}
-    }
-}
-
-fn phase(text: &[u8]) {
-    let mut couplers = [0u32; console::COUPLER_LINES];
-    let mut gates = [0u32; console::GATE_LINES];
-    match reading::read::read(text, &mut couplers, &mut gates) {
-        Reading::Read { job } => {
-            let c = job.couplers;
-            let g = job.gates;
-            job_phase(job.qubits, &couplers[..c], &gates[..g]);
-        }
-        Reading::Refused { verdict: _ } => {}
-    }
 }
 
 // Prints for a text that is closed; how many of its bytes stay for the next turn.
@@ -112,28 +103,33 @@ fn turn(text: &[u8]) -> usize
     }
     if closes(text) {
         let body = n - 3;
-        lay(&text[..body]);
+        let phase = lay(&text[..body]);
         count(&text[..body]);
-        phase(&text[..body]);
+        say_phase(phase);
         return 0;
     }
     n
 }
 
-fn each(bundle: &[u8]) {
-    let mut text = [0u8; TEXT];
-    let mut k: usize = 0;
-    for i in 0..bundle.len() {
-        if k < TEXT {
-            text[k] = bundle[i];
+// Goes over a piece of the bundle; the first k bytes of `text` came before it. How many stay for the next piece.
+fn each(piece: &[u8], text: &mut [u8], k: usize) -> usize {
+    let mut k = k;
+    for i in 0..piece.len() {
+        if k < text.len() {
+            text[k] = piece[i];
             let m = k + 1;
             k = turn(&text[..m]);
         }
     }
+    k
 }
 
 fn main() {
-    let mut bundle = [0u8; BUNDLE];
-    let n = io::read_full(STDIN_FILENO, &mut bundle);
-    each(&bundle[..n]);
+    let mut text = [0u8; TEXT];
+    let mut k = 0;
+    for _ in 0..BUNDLE / PIECE {
+        let mut piece = [0u8; PIECE];
+        let n = io::read_full(STDIN_FILENO, &mut piece);
+        k = each(&piece[..n], &mut text, k);
+    }
 }

@@ -1,8 +1,11 @@
--- What is counted of a text is printed: safe, and it ends. Assumes nothing.
+-- What the counting program prints for a text: safe, and it ends. Assumes nothing.
 use Rattle.console.proofs.Fronts.{printed-fits, printed-long}
 use borrow.Author.Needs.{needs}
 use Rattle.vectors.proofs.count.Statement.{statement}
 use Rattle.vectors.proofs.count.Tie as tie
+use Rattle.console.proofs.counting.count_text.Reads as count-text-reads
+use Rattle.io.proofs.write_all.Reads as write-all-reads
+use Rattle.vectors.proofs.read.Reads as read-reads
 
 slice-aggregate-read : tie.Need-slice-aggregate-read
 slice-aggregate-read c = search needs

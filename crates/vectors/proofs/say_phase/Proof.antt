@@ -1,4 +1,4 @@
--- A common phase is printed: safe, and it ends. Assumes nothing.
+-- A common phase is printed where it is not 0: safe, and it ends. Assumes nothing.
 use Prim.Native.Nat.{ℕ}
 use lib.ListN.{replicate}
 use Rattle.lines.specs.Lines.{lineText}
@@ -6,6 +6,11 @@ use Rattle.lines.proofs.Writes.{lined-front, line-within, line-whole}
 use borrow.Author.Needs.{needs}
 use Rattle.vectors.proofs.say_phase.Statement.{statement}
 use Rattle.vectors.proofs.say_phase.Tie as tie
+use Rattle.io.proofs.write_all.Reads as write-all-reads
+use Rattle.lines.proofs.put.put_line.Reads as put-line-reads
+
+returns : tie.Need-returns
+returns c = search needs
 
 slice-aggregate-put-line : tie.Need-slice-aggregate-put-line
 slice-aggregate-put-line c = search needs
@@ -25,17 +30,18 @@ slice-aggregate-write-all c = line-whole (lineText _ _) (replicate {A = ℕ} 32 
 write-all-requires : tie.Need-write-all-requires
 write-all-requires c κs = search needs
 
-returns : tie.Need-returns
-returns c = search needs
+returns-2 : tie.Need-returns-2
+returns-2 c = search needs
 
 pub say-phase-spec : {M : Type 1} → statement M
 say-phase-spec =
     tie.close
     (tie.spec
+    returns
     slice-aggregate-put-line
     slice-aggregate-put-line-2
     put-line-requires
     array-share-prefix-out
     slice-aggregate-write-all
     write-all-requires
-    returns)
+    returns-2)

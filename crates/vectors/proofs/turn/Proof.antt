@@ -5,6 +5,10 @@ use native.Mathlib.Omega.{arith}
 use borrow.Author.Needs.{needs}
 use Rattle.vectors.proofs.turn.Statement.{statement}
 use Rattle.vectors.proofs.turn.Tie as tie
+use Rattle.vectors.proofs.closes.Reads as closes-reads
+use Rattle.vectors.proofs.count.Reads as count-reads
+use Rattle.vectors.proofs.lay.Reads as lay-reads
+use Rattle.vectors.proofs.say_phase.Reads as say-phase-reads
 
 returns : tie.Need-returns
 returns c = search needs
@@ -24,11 +28,8 @@ slice-aggregate-count c = sym (length-take-le _ _ (omega arith))
 count-requires : tie.Need-count-requires
 count-requires c κs = search needs
 
-slice-aggregate-phase : tie.Need-slice-aggregate-phase
-slice-aggregate-phase c = sym (length-take-le _ _ (omega arith))
-
-phase-requires : tie.Need-phase-requires
-phase-requires c κs = search needs
+say-phase-requires : tie.Need-say-phase-requires
+say-phase-requires c κs = search needs
 
 returns-2 : tie.Need-returns-2
 returns-2 c = search needs
@@ -46,7 +47,6 @@ turn-spec =
     lay-requires
     slice-aggregate-count
     count-requires
-    slice-aggregate-phase
-    phase-requires
+    say-phase-requires
     returns-2
     returns-3)

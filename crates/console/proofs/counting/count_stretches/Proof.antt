@@ -19,11 +19,13 @@ abbrev μ-loop : tie.MeasureT-loop
 
 none-requires : tie.Need-none-requires Inv-loop μ-loop
 none-requires c κs = search needs
+
 loop-holds : tie.Need-loop-holds Inv-loop μ-loop
 loop-holds c = counting-none _ _ _ (c .before .before .before .pre .0) _ (c .none .ensures)
 
 stretch-at-requires : tie.Need-stretch-at-requires Inv-loop μ-loop
 stretch-at-requires c κs = search needs
+
 count-stretch-requires : tie.Need-count-stretch-requires Inv-loop μ-loop
 count-stretch-requires c κs = let l = c .before .before .loop in let f = counting-fits _ _ _ (l .from) (l .counts .cnots) (l .counts .rotations) (l .counts .layers .last) (l .inv) (c .before .loop-test .taken) _ (c .stretch-at .ensures) (c .before .before .before .before .before .before .pre .1) in (counting-accepts _ _ _ (l .from) (l .counts .cnots) (l .counts .rotations) (l .counts .layers .last) (l .inv) (c .before .loop-test .taken) _ (c .stretch-at .ensures), f .0, f .1)
 

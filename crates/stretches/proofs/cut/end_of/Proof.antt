@@ -20,17 +20,22 @@ loop-holds c = refl
 
 mul-is-hadamard : tie.Need-mul-is-hadamard Inv-loop μ-loop
 mul-is-hadamard c = search needs
+
 shared-slice-read-is-hadamard : tie.Need-shared-slice-read-is-hadamard Inv-loop μ-loop
 shared-slice-read-is-hadamard c = search needs
+
 is-hadamard-requires : tie.Need-is-hadamard-requires Inv-loop μ-loop
 is-hadamard-requires c κs = search needs
+
 returns : tie.Need-returns Inv-loop μ-loop
 returns c = sym (end-here _ _ (c .before .before .before .before .loop .k) (search needs) _ (c .before .is-hadamard .ensures) (c .if1 .taken)) ∙ c .before .before .before .before .loop .inv
 
 add-k : tie.Need-add-k Inv-loop μ-loop
 add-k c = search needs
+
 loop-less : tie.Need-loop-less Inv-loop μ-loop
 loop-less c = search needs
+
 loop-again : tie.Need-loop-again Inv-loop μ-loop
 loop-again c = sym (end-next _ _ (c .before .before .before .before .loop .k) (search needs) _ (c .before .is-hadamard .ensures) (c .if1 .left)) ∙ c .before .before .before .before .loop .inv
 

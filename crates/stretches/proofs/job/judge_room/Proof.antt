@@ -21,6 +21,7 @@ loop-holds c = eighth-none _ _ _ (c .before .pre .1)
 
 stretch-at-requires : tie.Need-stretch-at-requires Inv-loop μ-loop
 stretch-at-requires c κs = search needs
+
 bound-of-requires : tie.Need-bound-of-requires Inv-loop μ-loop
 bound-of-requires c κs = (c .before .before .before .before .pre .0, eighth-counted _ _ (c .before .before .before .before .args .room) (c .before .before .loop .left) (c .before .before .loop .from) (c .before .loop-test .taken) _ (c .stretch-at .ensures) (c .before .before .loop .inv))
 
@@ -29,6 +30,7 @@ returns c = eighth-short _ _ (c .before .before .before .before .before .before 
 
 hadamard-at-requires : tie.Need-hadamard-at-requires Inv-loop μ-loop
 hadamard-at-requires c κs = search needs
+
 returns-2 : tie.Need-returns-2 Inv-loop μ-loop
 returns-2 c = eighth-full _ _ (c .before .before .before .before .before .before .before .before .args .room) (c .before .before .before .before .before .before .loop .left) (c .before .before .before .before .before .before .loop .from) (c .before .before .before .before .before .loop-test .taken) _ (c .before .before .before .before .stretch-at .ensures) (c .before .before .before .before .before .before .loop .inv) _ (c .before .before .before .bound-of .ensures) (c .before .before .if1 .left) _ (c .before .hadamard-at .ensures) (c .if2 .taken)
 

@@ -24,16 +24,19 @@ loop-holds c = laying-none _ _ _ _ (c .before .before .before .pre .0)
 
 stretch-at-requires : tie.Need-stretch-at-requires Inv-loop μ-loop
 stretch-at-requires c κs = search needs
+
 lay-stretch-requires : tie.Need-lay-stretch-requires Inv-loop μ-loop
 lay-stretch-requires c κs = (laying-accepts _ _ _ (c .before .before .before .before .before .before .before .args .out .now) (c .before .before .before .loop .from) (c .before .before .before .loop .out) (c .before .before .before .loop .at) (c .before .before .before .loop .phase) (c .before .before .before .loop .inv) (c .before .before .loop-test .taken) _ (c .before .stretch-at .ensures), laying-fits _ _ _ (c .before .before .before .before .before .before .before .args .out .now) (c .before .before .before .loop .from) (c .before .before .before .loop .out) (c .before .before .before .loop .at) (c .before .before .before .loop .phase) (c .before .before .before .loop .inv) (c .before .before .loop-test .taken) _ (c .before .stretch-at .ensures) (c .before .before .before .before .before .before .before .pre .1))
 
 hadamard-at-requires : tie.Need-hadamard-at-requires Inv-loop μ-loop
 hadamard-at-requires c κs = search needs
+
 put-records-requires : tie.Need-put-records-requires Inv-loop μ-loop
 put-records-requires c κs = behind-fits _ _ _ (c .before .before .before .before .before .before .before .before .before .before .before .before .args .out .now) (c .before .before .before .before .before .before .before .before .loop .from) (c .before .before .before .before .before .before .before .before .loop .out) (c .before .before .before .before .before .before .before .before .loop .at) (c .before .before .before .before .before .before .before .before .loop .phase) (c .before .before .before .before .before .before .before .before .loop .inv) (c .before .before .before .before .before .before .before .loop-test .taken) _ (c .before .before .before .before .before .before .stretch-at .ensures) (c .before .before .before .before .before .before .before .before .before .before .before .before .pre .1) _ (c .before .before .before .before .lay-stretch .ensures .2) _ (c .before .hadamard-at .ensures) _ (c .before .before .before .before .lay-stretch .ensures .0)
 
 together-requires : tie.Need-together-requires Inv-loop μ-loop
 together-requires c κs = search needs
+
 add-from : tie.Need-add-from Inv-loop μ-loop
 add-from c = search (needs, lent-within _ _ (c .before .before .before .before .before .before .before .before .before .before .before .before .loop .from) _ (c .before .before .before .before .before .before .before .before .before .before .stretch-at .ensures) (c .before .before .before .before .before .before .before .before .before .before .before .loop-test .taken))
 

@@ -19,8 +19,10 @@ loop-holds c = stored-none _ _ _
 
 mul-out : tie.Need-mul-out Inv-loop μ-loop
 mul-out c = search needs
+
 shared-slice-read-out : tie.Need-shared-slice-read-out Inv-loop μ-loop
 shared-slice-read-out c = search needs
+
 add-out : tie.Need-add-out Inv-loop μ-loop
 add-out c = search (needs, c .before .before .loop .inv .size)
 
@@ -32,13 +34,16 @@ slice-write-out c = omega (arith, c .before .before .loop .inv .size, c .before 
 
 add-i : tie.Need-add-i Inv-loop μ-loop
 add-i c = search needs
+
 loop-less : tie.Need-loop-less Inv-loop μ-loop
 loop-less c = search needs
+
 loop-again : tie.Need-loop-again Inv-loop μ-loop
 loop-again c = stored-next _ _ _ (c .before .before .loop .i) (c .before .before .loop .out) _ (c .before .before .loop .inv) (search needs) refl
 
 add-result : tie.Need-add-result Inv-loop μ-loop
 add-result c = search needs
+
 same-length : tie.Need-same-length Inv-loop μ-loop
 same-length c = c .before .loop .inv .size
 

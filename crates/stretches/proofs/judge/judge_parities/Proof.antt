@@ -20,8 +20,10 @@ loop-holds c = sixth-none _ _
 
 stretch-at-requires : tie.Need-stretch-at-requires Inv-loop μ-loop
 stretch-at-requires c κs = search needs
+
 over-at-requires : tie.Need-over-at-requires Inv-loop μ-loop
 over-at-requires c κs = search needs
+
 add-t8 : tie.Need-add-t8 Inv-loop μ-loop
 add-t8 c = search (needs, lent-within _ _ (c .before .before .before .before .loop .from) _ (c .before .before .stretch-at .ensures) (c .before .before .before .loop-test .taken))
 

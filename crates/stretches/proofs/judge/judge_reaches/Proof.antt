@@ -20,8 +20,10 @@ abbrev μ-loop : tie.MeasureT-loop
 
 hadamard-at-requires : tie.Need-hadamard-at-requires Inv-loop μ-loop
 hadamard-at-requires c κs = search needs
+
 judge-requires : tie.Need-judge-requires Inv-loop μ-loop
 judge-requires c κs = search needs
+
 returns : tie.Need-returns Inv-loop μ-loop
 unfolding boundOf
 returns c = reaches-one _ _ _ _ (c .before .before .hadamard-at .ensures) (c .before .if1 .taken) (c .before .before .before .before .before .pre) _ (c .judge .ensures)
@@ -31,10 +33,13 @@ loop-holds c = seventh-none _ _ _ (c .before .before .before .before .pre)
 
 stretch-at-requires : tie.Need-stretch-at-requires Inv-loop μ-loop
 stretch-at-requires c κs = search needs
+
 judge-requires-2 : tie.Need-judge-requires-2 Inv-loop μ-loop
 judge-requires-2 c κs = search needs
+
 number-requires : tie.Need-number-requires Inv-loop μ-loop
 number-requires c κs = search needs
+
 returns-2 : tie.Need-returns-2 Inv-loop μ-loop
 unfolding boundOf
 returns-2 c = reaches-more _ _ _ _ (c .before .before .before .before .before .before .before .hadamard-at .ensures) (c .before .before .before .before .before .before .if1 .left) _ (seventh-not _ _ (c .before .before .before .before .before .before .before .before .before .before .args .couplers .now) (c .before .before .before .before .before .loop .from) (c .before .before .before .before .loop-test .taken) _ (c .before .before .before .stretch-at .ensures) _ _ (c .before .before .judge2 .ensures) (c .before .number .ensures) (c .before .before .before .before .before .loop .inv) (c .if2 .taken))
