@@ -16,7 +16,7 @@ use Rattle.chip.specs.Couplers.{nearOf}
 use Rattle.chip.specs.Ordered.{orderedList}
 use Rattle.laying.specs.Verdict.{verdictOf}
 use Rattle.stretches.specs.Cut.{Each}
-use Rattle.stretches.specs.Stretches.{stretchesOf, stretchAt, restFrom}
+use Rattle.stretches.specs.Stretches.{stretchAt, restFrom}
 use Rattle.stretches.specs.Tests.{judgedStretches}
 use Rattle.stretches.specs.Asked.{Accepts}
 use Rattle.stretches.specs.Laid.{stretchRecords, jobRecords}
@@ -32,7 +32,7 @@ use Rattle.reading.specs.Parsing.{parsed}
 use Rattle.reading.specs.Readings.{couplersIn, gatesIn, jobIn, readJob, judgedReading, readingOf, listAfter}
 use Rattle.reading.specs.declared.read.Reading.{Reading}
 use Rattle.reading.specs.declared.read.Reading.the-variants.{Read, Refused}
-use Rattle.console.specs.Printed.{mostCouplerLines, mostGateLines, refusalOf, unless, laidJob, laidText}
+use Rattle.console.specs.Printed.{mostCouplerLines, mostGateLines, unless, laidJob, laidText}
 use Rattle.console.specs.Parts.{headJob, headText, firstPart, firstOfText, Begins, partText, nextPart, partsFrom}
 use Rattle.console.specs.declared.printing.Begun.{Begun}
 use Rattle.reading.proofs.Said.{read-says, refused-says}

@@ -1,17 +1,17 @@
 -- A part as the program prints it: the lines of a stretch, and behind them that of a Hadamard. Assumes nothing.
-use mathlib.Core.Path.{_≡_, refl, sym, ap, ap₂, _∙_}
+use mathlib.Core.Path.{_≡_, sym, ap, ap₂, _∙_}
 use mathlib.Core.Bool.{Bool}
-use mathlib.Core.List.{List, [], _∷_, _++_, map}
-use Prim.Native.Nat.{ℕ, _+_, _*_, _≤_, _<_}
+use mathlib.Core.List.{List, [], _++_}
+use Prim.Native.Nat.{ℕ, _+_, _≤_, _<_}
 use native.Mathlib.Omega.{arith}
-use lib.ListN.{length, take, drop, length-map, length-append, length-take}
+use lib.ListN.{length, drop, length-map, length-append, length-take}
 use lib.Seq.{sets, length-sets}
 use borrow.Author.Tests.{le-leb, lt-leb}
 use Rattle.sets.specs.Pick.{pick}
 use Rattle.gates.specs.Layout.{recordOf}
 use Rattle.verdicts.specs.declared.verdict.Verdict.{Verdict}
 use Rattle.verdicts.specs.Verdicts.{numberOf}
-use Rattle.tallies.specs.Tally.{boundOf, largest}
+use Rattle.tallies.specs.Tally.{largest}
 use Rattle.laying.specs.declared.lay.Answer.{Answer}
 use Rattle.laying.specs.declared.lay.Answer.the-variants.{Laid, Refused}
 use Rattle.laying.specs.Verdict.{verdictOf, circuitOf, answered, outputOf, phaseIn}
@@ -20,19 +20,15 @@ use Rattle.laying.proofs.Said.{refused-says}
 use Rattle.stretches.specs.Stretches.{endAt, stretchAt}
 use Rattle.stretches.specs.Laid.{stretchRecords}
 use Rattle.stretches.specs.Parts.{hadamardAt}
-use Rattle.stretches.proofs.Alone.{alone-counts, alone-is}
-use Rattle.lines.specs.Lines.{recordsText, textOf}
+use Rattle.stretches.proofs.Alone.{alone-counts}
+use Rattle.lines.specs.Lines.{recordsText}
 use Rattle.lines.specs.Lent.{recordsEnd, recordsAt}
 use Rattle.lines.proofs.Writes.{Wrote, wrote-then, sets-onto, records-append, text-length}
 use Rattle.lines.proofs.Recorded.{records-fit}
 use Rattle.reading.proofs.Sizes.{text-most}
 use Rattle.console.specs.Printed.{mostPrinted, Prints, refusalOf, unless}
 use Rattle.console.specs.Parts.{partText, nextPart, sharePart}
-use Rattle.console.proofs.Choosing.{unless-passed, unless-refused, prints-same}
-
--- lines of records have at most 12 bytes each
-lines-most : (xs : List ℕ) → length (recordsText xs) ≤ 6 + 12 * length xs
-lines-most xs = omega (arith, text-length 0 [] xs, text-most 0 [] xs (omega arith))
+use Rattle.console.proofs.Choosing.{unless-passed, unless-refused}
 
 -- two lists of records written one behind the other
 module _ (R h L out out₁ out₂ : List ℕ) (at bytes : ℕ) (lent : length out ≡ mostPrinted) (is : L ≡ R) (few : length R ≤ largest) (one : length h ≤ 1)

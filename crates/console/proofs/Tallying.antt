@@ -1,6 +1,6 @@
 -- The loop that counts the stretches: what is counted already, and what is still to come. Assumes nothing.
 use mathlib.Core.Path.{_≡_, sym, ap, ap₂, _∙_, subst}
-use mathlib.Core.List.{List, [], _∷_, _++_, map}
+use mathlib.Core.List.{List, [], _∷_, _++_}
 use Prim.Native.Nat.{ℕ, _+_, _*_, _≤_, _<_}
 use native.Mathlib.Omega.{arith}
 use native.Mathlib.Decide.{decLt}
@@ -11,7 +11,6 @@ use Rattle.gates.specs.declared.gate.Gate.the-variants.{Bad}
 use Rattle.gates.specs.Limits.{mostQubits, mostGates}
 use Rattle.gates.specs.Layout.{gateOf, gatesOf, recordOf}
 use Rattle.gates.proofs.Hadamards.{hadamard-bad}
-use Rattle.gates.proofs.Alls.{records-gates}
 use Rattle.verdicts.specs.declared.verdict.Verdict.{Verdict}
 use Rattle.verdicts.specs.Verdicts.{numberOf}
 use Rattle.tallies.specs.Tally.{tally, oneCnot, oneRotation, cnotsOf, rotationsOf, layered, layersFrom, layersAfter, highest, depthOf, boundOf, largest}
@@ -19,8 +18,7 @@ use Rattle.tallies.proofs.Tallies.{cnots-append, rotations-append, cnots-most, 
 use Rattle.tallies.proofs.DepthLaws.{highest-layers}
 use Rattle.tallies.proofs.InParts.{layers-append, after-fits}
 use Rattle.laying.specs.Verdict.{circuitOf}
-use Rattle.laying.proofs.Demands.{demand-2, demand-2-fits}
-use Rattle.laying.proofs.Rows.{rows}
+use Rattle.laying.proofs.Demands.{demand-2-fits}
 use Rattle.stretches.specs.Cut.{Each}
 use Rattle.stretches.specs.Stretches.{stretchesOf, endAt, stretchAt, restFrom}
 use Rattle.stretches.specs.Tests.{judgedStretches}
@@ -30,6 +28,7 @@ use Rattle.stretches.specs.Parts.{hadamardAt, partAt, laidFrom}
 use Rattle.stretches.proofs.Eachs.{each-head, each-tail}
 use Rattle.stretches.proofs.Going.{rest-start, behind-some, behind-none, end-hadamard}
 use Rattle.stretches.proofs.Judging.{lent-step, lent-within}
+use Rattle.stretches.proofs.Records.{stretch-gates}
 use Rattle.stretches.proofs.Parting.{parts-all, parts-none, parts-step}
 use Rattle.lines.specs.Lines.{countsText}
 use Rattle.console.specs.Printed.{mostPrinted, refusalOf, countedJob}
@@ -52,12 +51,7 @@ behind-quiet n xs k l = go (decLt (endAt n xs k) (length xs))
         let e : gatesOf n (hadamardAt n xs k) ≡ [] = ap (gatesOf n) (behind-none n xs k l (omega (arith, m))) in
         (ap (tally oneCnot) e, ap (tally oneRotation) e, λ L. ap (λ (gs : List Gate). layersFrom gs L) e)
 
--- a stretch's records are its circuit's
-stretch-gates : (n : ℕ) (couplers s : List ℕ) → Accepts n couplers s → gatesOf n (stretchRecords n couplers s) ≡ circuitOf n couplers s
-stretch-gates n couplers s a =
-    records-gates n (circuitOf n couplers s) (omega (arith, rows n couplers s largest .row-0 .exactly .0 a .0 .1)) (demand-2 n couplers s largest a .good)
-
--- and its counts are no larger than the largest B
+-- the counts of a stretch are no larger than the largest B
 pub counts-few : (n : ℕ) (couplers s : List ℕ) → Accepts n couplers s → (cnotsOf (circuitOf n couplers s) ≤ largest) × (rotationsOf (circuitOf n couplers s) ≤ largest)
 counts-few n couplers s a =
     (omega (arith, cnots-most (circuitOf n couplers s), demand-2-fits n couplers s largest a), omega (arith, rotations-most (circuitOf n couplers s), demand-2-fits n couplers s largest a))
@@ -145,7 +139,7 @@ module _ (n : ℕ) (couplers xs : List ℕ) where
 
       module _ (c′ t′ : ℕ) (L′ : List ℕ) (a : c′ ≡ c + cnotsOf (circuitOf n couplers s)) (b : t′ ≡ t + rotationsOf (circuitOf n couplers s)) (d : L′ ≡ layersAfter S L) where
         same : S ≡ circuitOf n couplers s
-        same = stretch-gates n couplers s counting-accepts
+        same = stretch-gates n couplers s largest counting-accepts
 
         layers-are : L′ ≡ layersFrom S L
         layers-are = d ∙ after-fits S L (omega (arith, r .few .2, short, l, most))

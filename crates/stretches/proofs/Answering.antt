@@ -1,29 +1,26 @@
 -- What the entry point answers and leaves is what the definitions say. Assumes nothing.
 use mathlib.Core.Path.{_≡_, refl, sym, ap, ap₂, _∙_}
 use mathlib.Core.Bool.{Bool, true, false}
-use mathlib.Core.List.{List, _++_, map}
+use mathlib.Core.List.{List, _++_}
 use Prim.Native.Nat.{ℕ, _+_, _≤_}
 use native.Mathlib.Omega.{arith}
 use lib.Dec.{eqb, ltb}
-use lib.ListN.{length, take, drop, length-map}
+use lib.ListN.{length, take, drop}
 use lib.Seq.{sets, sets-eq, length-sets, take-append-seam, length-take-le}
 use borrow.Author.Tests.{eq-eqb, ne-eqb, ltb-false}
 use Rattle.sets.specs.Pick.{pick}
-use Rattle.gates.specs.Layout.{gatesOf, recordOf}
+use Rattle.gates.specs.Layout.{gatesOf}
 use Rattle.verdicts.specs.declared.verdict.Verdict.{Verdict}
 use Rattle.verdicts.specs.declared.verdict.Verdict.the-variants.{Accepted, Room}
 use Rattle.verdicts.specs.Verdicts.{numberOf}
-use Rattle.verdicts.specs.InOrder.{andThen}
 use Rattle.verdicts.proofs.Judged.{then-on, then-stop}
-use Rattle.circuit.specs.Phase.{phaseOf}
-use Rattle.laying.specs.Verdict.{circuitOf, countsOf, answered, outputOf}
+use Rattle.laying.specs.Verdict.{countsOf}
 use Rattle.laying.specs.declared.lay.Answer.{Answer}
-use Rattle.laying.specs.declared.lay.Answer.the-variants.{Laid, Refused}
-use Rattle.laying.proofs.Demands.{demand-1-verdict, demand-1-accepted}
+use Rattle.laying.specs.declared.lay.Answer.the-variants.{Refused}
 use Rattle.stretches.specs.Stretches.{stretchesOf}
 use Rattle.stretches.specs.Tests.{judgedDrawing, judgedParitiesFrom, judgedReaches, jobBound, judgedBound, judgedStretches, jobVerdict}
 use Rattle.stretches.specs.Laid.{jobRecords, jobPhase, jobAnswered, jobOutput}
-use Rattle.stretches.proofs.Passing.{Passed, job-passed, stuck-none, job-bounded}
+use Rattle.stretches.proofs.Passing.{job-passed, stuck-none, job-bounded}
 
 module _ (n : ℕ) (xs ys : List ℕ) where
   -- ---- 1 to 7

@@ -9,7 +9,6 @@ use Rattle.gates.specs.Layout.{gatesOf}
 use Rattle.table.specs.declared.sums.Sums.{Sums}
 use Rattle.table.specs.Table.{termsIn}
 use Rattle.meaning.specs.declared.told.Told.{Told}
-use Rattle.meaning.specs.declared.told.Meaning.{Meaning}
 use Rattle.meaning.specs.Borne.{overAt, terms}
 use Rattle.meaning.specs.Told.{tableOf, meaningOf, toldOf}
 use Rattle.meaning.proofs.Bearing.{terms-few}

@@ -1,18 +1,17 @@
 -- Going over the stretches of a job from the first gate to the last, as the code does. Assumes nothing.
-use mathlib.Core.Path.{_≡_, refl, sym, ap, ap₂, _∙_, subst}
+use mathlib.Core.Path.{_≡_, refl, sym, ap, ap₂, _∙_}
 use mathlib.Core.Bool.{Bool, true, false}
 use mathlib.Core.List.{List, [], _∷_}
 use Prim.Native.Nat.{ℕ, suc, _+_, _-_, _≤_, _<_}
 use native.Mathlib.Omega.{arith}
 use native.Mathlib.Numerals.{add-one}
 use native.Mathlib.Decide.{decLt}
-use lib.Dec.{leb}
 use lib.ListN.{length, getD, take, drop, length-drop, drop-of-length-le}
 use lib.Seq.{take-all, take-nil, drop-cons, drop-drop, getD-drop, length-take-le}
 use borrow.Author.Tests.{le-leb, lt-leb}
 use Rattle.sets.specs.Pick.{pick}
 use Rattle.gates.specs.Hadamards.{isHadamard}
-use Rattle.stretches.specs.Cut.{firstAt, cutAt, those}
+use Rattle.stretches.specs.Cut.{firstAt, those}
 use Rattle.stretches.specs.Stretches.{stretchesOf, hadamardsOf, endAt, stretchAt, restFrom, hadamardsFrom}
 use Rattle.stretches.specs.Parts.{hadamardAt}
 use Rattle.stretches.proofs.Cutting.{first-le, first-is, cut-last, those-last, cut-more, those-more}

@@ -8,7 +8,7 @@ use lib.ListN.{length, getD}
 use Rattle.stretches.specs.Cut.{weave}
 use Rattle.stretches.specs.Stretches.{endAt, stretchAt, restFrom, hadamardsFrom}
 use Rattle.stretches.specs.Laid.{stretchRecords, jobRecords}
-use Rattle.stretches.specs.Parts.{hadamardAt, partAt, laidFrom}
+use Rattle.stretches.specs.Parts.{partAt, laidFrom}
 use Rattle.stretches.proofs.Going.{stretch-end, rest-start, rest-past, rest-step, hadamards-start, hadamards-past, hadamards-more, hadamards-last, behind-some, behind-none}
 
 module _ (n : ℕ) (couplers gates : List ℕ) where

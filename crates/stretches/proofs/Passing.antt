@@ -1,9 +1,9 @@
 -- A job that passed tests 1 to 7: each of its stretches is a job of its own that is accepted, and what is laid fits B. Assumes nothing.
-use mathlib.Core.Path.{_≡_, refl, sym, ap, ap₂, _∙_, subst}
+use mathlib.Core.Path.{_≡_, refl, sym, ap, _∙_, subst}
 use mathlib.Core.Logic.{_⊎_, inl, inr}
 use mathlib.Core.Bool.{Bool, true, false, not}
-use mathlib.Core.List.{List, [], _∷_, _++_, map}
-use Prim.Native.Nat.{ℕ, suc, _+_, _*_, _≤_, _<_}
+use mathlib.Core.List.{List, [], _∷_, map}
+use Prim.Native.Nat.{ℕ, _+_, _*_, _≤_, _<_}
 use native.Mathlib.Omega.{arith}
 use lib.Dec.{eqb, ltb}
 use lib.ListN.{length, getD, length-map, length-append}
@@ -38,7 +38,7 @@ use Rattle.stretches.specs.Stretches.{stretchesOf, hadamardsOf}
 use Rattle.stretches.specs.Tests.{judgedDrawing, judgedParitiesAt, judgedParitiesFrom, judgedReachAt, judgedReachFrom, judgedReaches, boundsOf, jobBound, judgedStuckIn, judgedStretches}
 use Rattle.stretches.specs.Asked.{OnlyReach, Counted, Accepts}
 use Rattle.stretches.specs.Laid.{stretchRecords, jobRecords}
-use Rattle.stretches.proofs.Eachs.{each-head, each-one, each-map, each-both, each-at, at-each, each-cut, each-short, cut-few}
+use Rattle.stretches.proofs.Eachs.{each-one, each-both, each-at, at-each, each-cut, each-short, cut-few}
 
 -- ---- 5, of a stretch
 

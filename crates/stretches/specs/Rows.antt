@@ -4,11 +4,10 @@ use mathlib.Core.Logic.{_⊎_}
 use mathlib.Core.List.{List, [], _∷_}
 use Prim.Native.Nat.{ℕ, _+_, _≤_, _<_}
 use lib.ListN.{length}
-use Rattle.gates.specs.Limits.{mostCouplers, mostParities, mostGates}
+use Rattle.gates.specs.Limits.{mostCouplers, mostGates}
 use Rattle.gates.specs.Layout.{gatesOf}
 use Rattle.verdicts.specs.declared.verdict.Verdict.{Verdict}
 use Rattle.verdicts.specs.Rows.{Row, Nowhere, Some, First, Passes1, Passes2, WrongRecord, Passes3, BadDrawn, PassesDrawn}
-use Rattle.meaning.specs.Borne.{borne}
 use Rattle.meaning.specs.Same.{Reachable}
 use Rattle.laying.specs.Demands.{Strays}
 use Rattle.laying.specs.Rows.{Passes4, Passes6, Brings}

@@ -1,5 +1,4 @@
 -- The tests of a job, in which Hadamards may stand (document 01, "Records and refusals"; request E12). Each of 6 to 9 is the test of one stretch, made of every stretch.
-use mathlib.Core.Path.{_≡_}
 use mathlib.Core.List.{List, [], _∷_}
 use Prim.Native.Nat.{ℕ, _+_}
 use lib.Dec.{eqb, ltb}

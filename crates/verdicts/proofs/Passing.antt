@@ -10,7 +10,6 @@ use lib.ListN.{length, getD}
 use borrow.Author.Tests.{ltb-false, le-ltb, not-false}
 use Rattle.sets.specs.Pick.{pick, both}
 use Rattle.sets.proofs.Finding.{first-le, first-true, first-before, first-is}
-use Rattle.sets.proofs.Deciding.{both-not}
 use Rattle.gates.specs.declared.gate.Gate.the-variants.{Bad}
 use Rattle.verdicts.specs.declared.verdict.Verdict.the-variants.{Accepted, BadGate}
 use Rattle.gates.specs.Layout.{gateOf, gatesOf, isBad, recordOf, Good}
@@ -70,10 +69,6 @@ unfolding judgedDrawn neitherAt firstFailing
 drawn-accepted n xs h =
     let w : neitherAt n xs ≡ length xs = first-is (λ k. isNeither n (getD xs k 0)) (length xs) (length xs) (omega arith) (λ (z : length xs < length xs). absurd (omega arith)) h in
     ap (λ (t : Bool). pick t (BadGate (neitherAt n xs)) Accepted) (le-ltb (neitherAt n xs) (length xs) (omega (arith, w)))
-
-pub gates-drawn : (n : ℕ) (xs : List ℕ) → judgedGates n xs ≡ Accepted → judgedDrawn n xs ≡ Accepted
-unfolding judgedGates badAt isNeither
-gates-drawn n xs e = drawn-accepted n xs (λ k l. both-not _ _ (none-fails (λ x. isBad (gateOf n x)) xs e k l))
 
 -- without a Hadamard the two are one test
 pub drawn-gates : (n : ℕ) (xs : List ℕ) → ((k : ℕ) → k < length xs → isHadamard n (getD xs k 0) ≡ false) → judgedDrawn n xs ≡ judgedGates n xs

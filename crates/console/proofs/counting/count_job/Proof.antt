@@ -1,5 +1,5 @@
 -- `console::counting::count_job` meets its contract. Assumes nothing.
-use mathlib.Core.Path.{sym, ap, ap₂, _∙_}
+use mathlib.Core.Path.{_∙_}
 use Rattle.tallies.specs.Tally.{boundOf}
 use Rattle.verdicts.proofs.Judged.{passed, refused}
 use Rattle.stretches.proofs.Passing.{job-passed}

@@ -1,5 +1,4 @@
 -- `console::printing::begin_job` meets its contract. Assumes nothing.
-use mathlib.Core.Path.{ap, _∙_}
 use Rattle.verdicts.proofs.Judged.{passed, refused}
 use Rattle.console.proofs.Whole.{head-accepted}
 use Rattle.console.proofs.Choosing.{prints-same}

@@ -2,7 +2,6 @@
 use mathlib.Core.Path.{sym, ap, subst}
 use Prim.Native.Nat.{ℕ, _-_, _≤_, _<_}
 use lib.ListN.{length, take, drop}
-use native.Mathlib.Omega.{arith}
 use Rattle.stretches.proofs.Going.{end-ge, stretch-none}
 use borrow.Author.Needs.{needs}
 use Rattle.stretches.proofs.cut.stretch_at.Statement.{statement}

@@ -1,6 +1,5 @@
 -- `stretches::job::bound_of` meets its contract. Assumes nothing.
 use mathlib.Core.Path.{ap, _∙_}
-use Prim.Native.Nat.{ℕ}
 use native.Mathlib.Omega.{arith}
 use Rattle.tallies.specs.Tally.{boundOf}
 use Rattle.stretches.proofs.Bounding.{terms-counted, terms-within}

@@ -2,11 +2,10 @@
 use mathlib.Core.Path.{sym, ap, subst, _∙_}
 use mathlib.Core.List.{List}
 use Prim.Native.Nat.{ℕ, _+_, _≤_}
-use native.Mathlib.Omega.{arith}
 use lib.ListN.{length, length-replicate}
 use lib.Seq.{sets}
 use Rattle.tallies.specs.Tally.{boundOf, largest}
-use Rattle.stretches.proofs.Alone.{alone-accepted, alone-count, alone-fits, alone-long, alone-is, alone-share}
+use Rattle.stretches.proofs.Alone.{alone-accepted, alone-fits, alone-long, alone-is, alone-share}
 use borrow.Author.Needs.{needs}
 use Rattle.stretches.proofs.job.lay_stretch.Statement.{statement}
 use Rattle.stretches.proofs.job.lay_stretch.Tie as tie
