@@ -43,7 +43,7 @@ use Rattle.console.proofs.Beginning.{first-passed, first-refused}
 use Rattle.console.proofs.Partly.{past-text, past-next, part-text, part-next}
 
 module _ (n : ℕ) (xs ys : List ℕ) where
-  -- behind the last gate nothing more is printed, however long the program goes on
+  -- above the number of gates nothing more is printed, however long the program goes on
   parts-past : (f k : ℕ) → length ys < k → partsFrom n xs ys f k ≡ []
   unfolding partsFrom
   parts-past zero k l = refl

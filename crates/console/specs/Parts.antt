@@ -29,7 +29,7 @@ unfoldable pub headText : List ℕ → List ℕ
 headText s =
     unless (judgedReading s mostCouplerLines mostGateLines) (headJob (jobIn (parsed s) .qubits) (couplersIn (parsed s)) (gatesIn (parsed s)))
 
--- the place where the first part begins: 0, or behind the last gate where the job is refused
+-- the place where the first part begins: 0, or above the number of gates where the job is refused
 unfoldable pub firstPart : ℕ → List ℕ → List ℕ → ℕ
 firstPart n couplers gates = pick (eqb (numberOf (judgedStretches n couplers gates)) 0) 0 (length gates + 1)
 
@@ -46,7 +46,7 @@ pub record Begins (s couplers gates out : List ℕ) (r : Begun) (couplers′ gat
   pub couplers-read : couplers′ ≡ listAfter (readingOf s mostCouplerLines mostGateLines) (couplersIn (parsed s)) couplers
   pub gates-read : gates′ ≡ listAfter (readingOf s mostCouplerLines mostGateLines) (gatesIn (parsed s)) gates
 
--- ---- the part of the stretch that begins at k: its lines, and that of the Hadamard behind it; nothing behind the last gate
+-- ---- the part of the stretch that begins at k: its lines, and that of the Hadamard behind it; nothing above the number of gates
 
 unfoldable pub partText : ℕ → List ℕ → List ℕ → ℕ → List ℕ
 partText n couplers gates k =

@@ -30,10 +30,10 @@ ghost use Rattle.stretches.specs.Laid.{stretchRecords};
 ghost use Rattle.lines.specs.Lines.{recordsText, textOf};
 ghost use Rattle.reading.specs.Limits.{mostBytes};
 ghost use Rattle.text.specs.Writings.{judgedText};
-ghost use Rattle.console.specs.Printed.{mostPrinted, Prints, unless};
+ghost use Rattle.console.specs.Printed.{mostGateLines, mostPrinted, Prints, unless};
 ghost use Rattle.console.specs.Parts.{headJob, firstPart, Begins, partText, nextPart, sharePart};
 
-// A job that was read: what is printed first, and where its first part begins, which is behind the last gate where the job is refused.
+// What was read, what is printed first, and where the first part begins, which is above the number of gates where the text or the job is refused.
 pub struct Begun {
     pub job: Job,
     pub bytes: usize,
@@ -74,7 +74,7 @@ fn print_head(n: usize, couplers: &[u32], out: &mut [u8; OUTPUT]) -> usize
 }
 
 fn begin_job(n: usize, couplers: &[u32], gates: &[u32], out: &mut [u8; OUTPUT]) -> Front
-    requires { ⌜ length (now gates) ≤ 16383 ⌝ }
+    requires { ⌜ length (now gates) ≤ mostGateLines ⌝ }
     ensures { λ r. ⌜ Prints (headJob n (now (couplers .entry)) (now (gates .entry))) (now (out .entry)) (r .bytes) (now (out .exit)) × (r .from ≡ firstPart n (now (couplers .entry)) (now (gates .entry))) ⌝ }
 {
     let verdict = judge::judge(n, couplers, gates);
@@ -165,7 +165,7 @@ fn print_part(
     }
 }
 
-// Prints the part of the stretch that begins at `from`; nothing behind the last gate.
+// Prints the part of the stretch that begins at `from`; nothing above the number of gates.
 pub fn lay_part(
     n: usize,
     couplers: &[u32],

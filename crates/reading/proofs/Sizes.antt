@@ -1,26 +1,18 @@
--- How many bytes a number, a line and a text have, at least and at most; and how large the place of a refusal can be. Assumes nothing.
+-- How many bytes a number, a line and a text have, at least and at most. Assumes nothing.
 use mathlib.Core.Path.{_≡_, refl, ap, _∙_}
 use mathlib.Core.Bool.{Bool, true, false}
 use mathlib.Core.List.{List, [], _∷_}
-use mathlib.Core.Option.{Option, none, some}
 use Prim.Native.Nat.{ℕ, zero, suc, _+_, _*_, _^_, _/_, _≤_, _<_}
 use native.Mathlib.Omega.{arith}
-use lib.Dec.{ltb, leb}
+use lib.Dec.{ltb}
 use lib.ListN.{length, length-append}
-use borrow.Author.Tests.{ltb-true, ltb-false, leb-true}
-use Rattle.sets.specs.Pick.{pick, both}
+use borrow.Author.Tests.{ltb-true, ltb-false}
 use Rattle.gates.specs.Layout.{kindIn, aIn, bIn}
-use Rattle.verdicts.specs.declared.verdict.Verdict.the-variants.{Accepted, Room, LongText}
-use Rattle.verdicts.specs.Verdicts.{placeOf}
-use Rattle.verdicts.specs.InOrder.{andThen}
 use Rattle.lines.specs.Lines.{digits, fieldsText, lineText, letter, recordText, recordsText, textOf}
 use Rattle.lines.proofs.Layouts.{a-lt, b-lt}
 use Rattle.lines.proofs.Writes.{width-small, width-big, line-length, record-two, record-one, text-length}
-use Rattle.reading.specs.Limits.{mostBytes, mostFirst}
+use Rattle.reading.specs.Limits.{mostFirst}
 use Rattle.reading.specs.Misfit.{Fit, AllFit}
-use Rattle.reading.specs.Parsing.{headOf, Parsed, misfit, job, endOf, bodyOf, parsed}
-use Rattle.reading.specs.Readings.{judgedLines, judgedLists, judgedReading}
-use Rattle.reading.proofs.Runs.{Taken, taken}
 
 -- ---- numbers
 
@@ -113,36 +105,3 @@ pub text-most : (n : ℕ) (es gs : List ℕ) → n ≤ mostFirst → length (tex
 text-most n es gs few =
     let h : n < 1000 = omega arith in
     omega (arith, text-length n es gs, line-one 113 n, width-most 2 n h, records-most es, records-most gs)
-
--- ---- the place of a refusal
-
--- each line before the refused one has a byte
-misfit-most : (s : List ℕ) (k : ℕ) → parsed s ≡ misfit k → k ≤ length s + 1
-unfolding parsed bodyOf endOf
-misfit-most s k e = go (headOf s .rest) refl e
-  where
-    end : (n : ℕ) (es gs l : List ℕ) → Taken s n es gs l → endOf n es gs l ≡ misfit k → k ≤ length s + 1
-    end n es gs [] t e = let z : _≡_ {A = ℕ} 0 1 = cc e in absurd (omega arith)
-    end n es gs (x ∷ l) t e =
-        let z : 2 + length es + length gs ≡ k = cc e in
-        omega (arith, ap length (t .same), length-append (textOf n es gs) (x ∷ l), text-least n es gs (t .couplers))
-
-    go : (o : Option (List ℕ)) → headOf s .rest ≡ o → bodyOf (headOf s .value) o ≡ misfit k → k ≤ length s + 1
-    go none d e = let z : 1 ≡ k = cc e in omega arith
-    go (some t) d e = end _ _ _ _ (taken s t d) e
-
-pub place-most : (s : List ℕ) (a b : ℕ) → placeOf (judgedReading s a b) ≤ mostBytes + 1
-unfolding judgedReading
-place-most s a b = go (leb (length s) mostBytes) refl
-  where
-    lists : (t : Bool) → placeOf (pick t Accepted Room) ≤ mostBytes + 1
-    lists true = omega arith
-    lists false = omega arith
-
-    within : length s ≤ mostBytes → (p : Parsed) → parsed s ≡ p → placeOf (andThen (judgedLines p) (judgedLists p a b)) ≤ mostBytes + 1
-    within h (misfit k) e = omega (arith, misfit-most s k e)
-    within h (job n es gs) e = lists (both (leb (length es) a) (leb (length gs) b))
-
-    go : (t : Bool) → leb (length s) mostBytes ≡ t → placeOf (andThen (pick t Accepted LongText) (andThen (judgedLines (parsed s)) (judgedLists (parsed s) a b))) ≤ mostBytes + 1
-    go true e = within (leb-true (length s) mostBytes e) (parsed s) refl
-    go false e = omega arith

@@ -182,7 +182,6 @@ module _ (n : ℕ) (couplers : List ℕ) where
       same = record { alike = laid-alike; phase = laid-phase };
       shares = sharesOf drawn;
       summed = unfold jobPhase in shares-sum drawn;
-      hadamards = sym (laid-hadamards n couplers gates p);
       stretches = subst (Faithfuls n couplers (sharesOf drawn) drawn) (sym (laid-stretches n couplers gates p)) (faithfuls drawn (p .accepts));
       bound = job-bounded n couplers gates p;
     }
@@ -217,7 +216,7 @@ module _ (n : ℕ) (couplers : List ℕ) where
   pub demand-2-never-9 : (gates : List ℕ) (room : ℕ) → numberOf (jobVerdict n couplers gates room) ≢ 9
   demand-2-never-9 gates room = job-rows n couplers gates room .row-9 .exactly .0
 
-  -- refused as unreachable only where some stretch has the meaning of no circuit of coupler CNOTs and rotations
+  -- refused as unreachable only where some stretch has the meaning of no circuit of coupler CNOTs, rotations and X gates
   pub demand-2-unreachable : (gates : List ℕ) (room : ℕ) → numberOf (jobVerdict n couplers gates room) ≡ 7 → ReachableJob n couplers gates → ⊥
   demand-2-unreachable gates room e = job-rows n couplers gates room .row-7 .exactly .0 e .1 .1 .1 .1 .1 .1
 

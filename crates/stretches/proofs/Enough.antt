@@ -15,7 +15,7 @@ use Rattle.verdicts.specs.declared.verdict.Verdict.{Verdict}
 use Rattle.verdicts.specs.Verdicts.{numberOf, placeOf, judgedQubits, judgedCouplers}
 use Rattle.verdicts.specs.InOrder.{andThen}
 use Rattle.verdicts.specs.Rows.{Nowhere}
-use Rattle.verdicts.proofs.Judged.{zero-accepted, then-on, then-stop, then-zero}
+use Rattle.verdicts.proofs.Judged.{then-accepted, zero-accepted, then-on, then-stop, then-zero}
 use Rattle.verdicts.proofs.Rows.{Tests, test-passed, row-passes, tests-1, tests-2, tests-3, tests-drawn, judgedMany, judgedWrong, couplers-parted}
 use Rattle.judging.specs.Tests.{judgedCount}
 use Rattle.laying.proofs.Rows.{tests-4}
@@ -23,7 +23,7 @@ use Rattle.stretches.specs.Cut.{ahead, cutAt}
 use Rattle.stretches.specs.Stretches.{stretchesOf, hadamardsOf}
 use Rattle.stretches.specs.Tests.{judgedDrawing, judgedParitiesFrom, judgedReaches, jobBound, judgedBound, judgedStretches, jobVerdict}
 use Rattle.stretches.specs.Rows.{BringsFrom, UnreachedFrom, Unreached}
-use Rattle.stretches.proofs.Passing.{then-accepted, stretches-six}
+use Rattle.stretches.proofs.Passing.{stretches-six}
 use Rattle.stretches.proofs.Testing.{parities-tests, reaches-tests, bound-tests}
 use Rattle.stretches.proofs.Rows.{judged-all, job-rows}
 

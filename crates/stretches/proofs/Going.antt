@@ -54,7 +54,7 @@ module _ (n : ℕ) (xs : List ℕ) where
   unfolding endAt firstAt
   end-past k l = let f : firstAt (isHadamard n) (drop k xs) ≡ 0 = ap (firstAt (isHadamard n)) (drop-of-length-le xs l) in omega arith
 
-  -- behind the last gate there is no stretch
+  -- above the number of gates there is no stretch
   pub stretch-none : (k : ℕ) → length xs < endAt n xs k → stretchAt n xs k ≡ []
   stretch-none k l = ap (take (endAt n xs k - k)) (drop-of-length-le xs (past (decLt (length xs) k))) ∙ take-nil (endAt n xs k - k)
     where

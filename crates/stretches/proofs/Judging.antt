@@ -1,12 +1,11 @@
 -- The loops of tests 6, 7 and 8 over the stretches. Assumes nothing.
-use mathlib.Core.Path.{_≡_, refl, sym, ap, ap₂, _∙_, subst}
+use mathlib.Core.Path.{_≡_, sym, ap, ap₂, _∙_, subst}
 use mathlib.Core.Bool.{Bool}
 use mathlib.Core.List.{List, [], _∷_}
 use Prim.Native.Nat.{ℕ, _+_, _-_, _≤_, _<_}
 use native.Mathlib.Omega.{arith}
 use native.Mathlib.Decide.{decLt}
 use lib.ListN.{length}
-use lib.Seq.{take-all}
 use borrow.Author.Tests.{lt-ltb, le-ltb, eq-eqb, ne-eqb}
 use Rattle.sets.specs.Pick.{pick}
 use Rattle.gates.specs.Layout.{gatesOf}
@@ -26,7 +25,8 @@ use Rattle.stretches.specs.Tests.{judgedParitiesAt, judgedParitiesFrom, 
 use Rattle.stretches.specs.Asked.{OnlyReach, Counted}
 use Rattle.stretches.specs.Parts.{hadamardAt}
 use Rattle.stretches.proofs.Eachs.{each-head, each-tail}
-use Rattle.stretches.proofs.Going.{stretch-end, stretch-within, rest-start, rest-past, rest-step, hadamards-start, hadamards-past, hadamards-more, hadamards-last, behind-some, behind-none, hadamards-count}
+use Rattle.stretches.proofs.Passing.{none-one}
+use Rattle.stretches.proofs.Going.{stretch-within, rest-start, rest-past, rest-step, hadamards-start, hadamards-past, hadamards-more, hadamards-last, behind-some, behind-none, hadamards-count}
 
 module _ (n : ℕ) (xs : List ℕ) where
   abbrev all : List (List ℕ)
@@ -157,14 +157,9 @@ module _ (n : ℕ) (xs : List ℕ) where
     reaches-one h d z only v a =
         let m = first-none h d z in
         let none : hs ≡ [] = sym (hadamards-start n xs) ∙ hadamards-last n xs 0 (omega arith) m in
-        let one : all ≡ xs ∷ [] =
-        sym (rest-start n xs) ∙ lent-step 0 (stretchAt n xs 0) refl (omega arith)
-        ∙ ap₂ (λ (s : List ℕ) (ss : List (List ℕ)). s ∷ ss) whole (rest-past n xs (0 + length (stretchAt n xs 0) + 1) (omega (arith, stretch-end n xs 0 (omega arith), m))) in
+        let one : all ≡ xs ∷ [] = none-one n xs (ap length none) in
         a ∙ each-head (OnlyReach n couplers) xs [] (subst (Each (OnlyReach n couplers)) one only)
         ∙ sym (ap (λ (b : Bool). pick b (judgedReach n isls (gatesOf n xs)) (judgedReachFrom n isls 0 all)) (eq-eqb (length hs) 0 (ap length none)))
-      where
-        whole : stretchAt n xs 0 ≡ xs
-        whole = take-all (endAt n xs 0 - 0) xs (omega (arith, first-none h d z))
 
     pub reaches-more : (h : List ℕ) → h ≡ hadamardAt n xs 0 → (length h ≡ 0 → ⊥) → (v : Verdict) → v ≡ judgedReachFrom n isls 0 all → v ≡ judgedReaches n couplers xs
     unfolding judgedReaches

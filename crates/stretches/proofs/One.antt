@@ -15,7 +15,7 @@ use Rattle.verdicts.specs.declared.verdict.Verdict.{Verdict}
 use Rattle.verdicts.specs.declared.verdict.Verdict.the-variants.{Accepted, ManyParities, Room}
 use Rattle.verdicts.specs.Verdicts.{numberOf, judgedQubits, judgedCouplers, judgedGates}
 use Rattle.verdicts.specs.InOrder.{andThen}
-use Rattle.verdicts.proofs.Judged.{then-assoc}
+use Rattle.verdicts.proofs.Judged.{then-assoc, then-accepted}
 use Rattle.verdicts.proofs.Passing.{drawn-gates}
 use Rattle.circuit.specs.Phase.{phaseOf, phases}
 use Rattle.circuit.proofs.Phases.{phase-small}
@@ -31,7 +31,7 @@ use Rattle.stretches.specs.Stretches.{stretchesOf, hadamardsOf}
 use Rattle.stretches.specs.Tests.{judgedDrawing, judgedParitiesAt, judgedParitiesFrom, judgedReachFrom, judgedReaches, boundsOf, jobBound, judgedBound, judgedStuckIn, judgedStretches, jobVerdict}
 use Rattle.stretches.specs.Laid.{stretchRecords, jobRecords, phasesOf, jobPhase, jobAnswered, jobOutput}
 use Rattle.stretches.proofs.Eachs.{each-head, at-each, each-false}
-use Rattle.stretches.proofs.Passing.{none-one, then-accepted}
+use Rattle.stretches.proofs.Passing.{none-one}
 use Rattle.stretches.proofs.Records.{stretch-gates}
 
 module _ (n : ℕ) (couplers gates : List ℕ) (none : hadamardsOf n gates ≡ []) where

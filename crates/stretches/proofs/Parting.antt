@@ -20,7 +20,7 @@ module _ (n : ℕ) (couplers gates : List ℕ) where
   unfolding laidFrom jobRecords
   parts-all = ap₂ woven (rest-start n gates) (hadamards-start n gates)
 
-  -- behind the last gate nothing
+  -- above the number of gates nothing
   pub parts-none : (k : ℕ) → length gates < k → laidFrom n couplers gates k ≡ []
   unfolding laidFrom weave
   parts-none k l = ap₂ woven (rest-past n gates k l) (hadamards-past n gates k l)

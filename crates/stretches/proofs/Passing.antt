@@ -19,7 +19,8 @@ use Rattle.verdicts.specs.declared.verdict.Verdict.{Verdict}
 use Rattle.verdicts.specs.declared.verdict.Verdict.the-variants.{Accepted, ManyGates, ManyParities, Unreachable, Room}
 use Rattle.verdicts.specs.Verdicts.{numberOf, judgedQubits, judgedCouplers, judgedGates, isNeither, judgedDrawn}
 use Rattle.verdicts.specs.InOrder.{andThen}
-use Rattle.verdicts.proofs.Judged.{zero-accepted, then-zero, then-on}
+use Rattle.verdicts.proofs.Judged.{zero-accepted, then-zero, then-on, then-accepted}
+use Rattle.verdicts.proofs.Rows.{row-passes}
 use Rattle.verdicts.proofs.Passing.{accepted-drawn, drawn-accepted, drawn-gates}
 use Rattle.tallies.specs.Tally.{boundOf, largest}
 use Rattle.tallies.proofs.Tallies.{bound-most}
@@ -33,6 +34,7 @@ use Rattle.laying.specs.Verdict.{judgedStuck, verdictOf, circuitOf}
 use Rattle.laying.specs.Demands.{judgedSix}
 use Rattle.laying.proofs.Accepted.{job-accepted}
 use Rattle.laying.proofs.Demands.{demand-2}
+use Rattle.laying.proofs.Rows.{tests-4}
 use Rattle.stretches.specs.Cut.{ahead, cutAt, those, weave, Each}
 use Rattle.stretches.specs.Stretches.{stretchesOf, hadamardsOf}
 use Rattle.stretches.specs.Tests.{judgedDrawing, judgedParitiesAt, judgedParitiesFrom, judgedReachAt, judgedReachFrom, judgedReaches, boundsOf, jobBound, judgedStuckIn, judgedStretches}
@@ -154,13 +156,6 @@ room-passed n s few c =
     ap (λ (b : Bool). pick b Room Accepted)
     (le-ltb largest (boundOf n (length (terms (gatesOf n s)))) (bound-most n (length (terms (gatesOf n s))) few (omega (arith, terms-few (gatesOf n s), over-few (gatesOf n s) c))))
 
-pub then-accepted : (v : Verdict) → andThen v Accepted ≡ v
-then-accepted v = go (eqb (numberOf v) 0) refl
-  where
-    go : (b : Bool) → eqb (numberOf v) 0 ≡ b → pick b Accepted v ≡ v
-    go true e = sym (zero-accepted v (eqb-true (numberOf v) 0 e))
-    go false e = refl
-
 -- past tests 1 to 6
 module _ (n : ℕ) (couplers : List ℕ) (qubits : numberOf (judgedQubits n) ≡ 0) (listed : numberOf (judgedCouplers n couplers) ≡ 0)
     (s : List ℕ) (fair : Each (Fair n) s) (short : length s < mostGates + 1) (c : Counted n s) where
@@ -203,14 +198,6 @@ pub record Passed (n : ℕ) (couplers gates : List ℕ) : Type 0 where
   pub counted : Each (Counted n) (stretchesOf n gates)
   pub accepts : Each (Accepts n couplers) (stretchesOf n gates)
 
-count-few : (s : List ℕ) → numberOf (judgedCount s) ≡ 0 → length s ≤ mostGates
-unfolding judgedCount
-count-few s z = go (ltb mostGates (length s)) refl z
-  where
-    go : (b : Bool) → ltb mostGates (length s) ≡ b → numberOf (pick b ManyGates Accepted) ≡ 0 → length s ≤ mostGates
-    go true e z = absurd (let y : _≡_ {A = ℕ} 4 0 = z in omega arith)
-    go false e z = ltb-false mostGates (length s) e
-
 module _ (n : ℕ) (couplers gates : List ℕ) where
   record Drawing : Type 0 where
     qubits : numberOf (judgedQubits n) ≡ 0
@@ -224,7 +211,7 @@ module _ (n : ℕ) (couplers gates : List ℕ) where
       let a = then-zero (judgedQubits n) _ z in
       let b = then-zero (judgedCouplers n couplers) _ (a .1) in
       let c = then-zero (judgedCount gates) _ (b .1) in
-      record { qubits = a .0; couplers-listed = b .0; short = count-few gates (c .0); drawn = zero-accepted (judgedDrawn n gates) (c .1) }
+      record { qubits = a .0; couplers-listed = b .0; short = row-passes (tests-4 gates) .exactly .0 (c .0); drawn = zero-accepted (judgedDrawn n gates) (c .1) }
 
   module _ (d : numberOf (judgedDrawing n couplers gates) ≡ 0) where
     stretches : (P : List ℕ → Type 0) → ((s : List ℕ) → Each (Fair n) s → length s < mostGates + 1 → P s) → Each P (stretchesOf n gates)

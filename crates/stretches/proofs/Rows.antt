@@ -9,7 +9,7 @@ use Rattle.verdicts.specs.declared.verdict.Verdict.{Verdict}
 use Rattle.verdicts.specs.Verdicts.{numberOf, placeOf, judgedQubits, judgedCouplers, judgedDrawn}
 use Rattle.verdicts.specs.InOrder.{andThen}
 use Rattle.verdicts.specs.Rows.{Row, Nowhere, Passes1, Passes2, Passes3, PassesDrawn}
-use Rattle.verdicts.proofs.Judged.{then-on, then-stop, then-assoc}
+use Rattle.verdicts.proofs.Judged.{then-accepted, then-on, then-stop, then-assoc}
 use Rattle.verdicts.proofs.Rows.{Tests, test-passed, row-fails, row-passes, row-then, row-first, Beyond, beyond-not, beyond-test, beyond-then, tests-1, tests-2, tests-3, tests-drawn, judgedMany, judgedWrong, couplers-parted}
 use Rattle.chip.specs.Couplers.{nearOf}
 use Rattle.judging.specs.Tests.{judgedCount}
@@ -19,7 +19,7 @@ use Rattle.stretches.specs.Stretches.{stretchesOf}
 use Rattle.stretches.specs.Tests.{judgedDrawing, judgedParitiesFrom, judgedReaches, jobBound, judgedBound, judgedStuckIn, judgedStretches, jobVerdict}
 use Rattle.stretches.specs.Meaning.{ReachableJob}
 use Rattle.stretches.specs.Rows.{PassesSix, Unreached, JobRows}
-use Rattle.stretches.proofs.Passing.{then-accepted, stretches-six, job-passed, stuck-none}
+use Rattle.stretches.proofs.Passing.{stretches-six, job-passed, stuck-none}
 use Rattle.stretches.proofs.Testing.{parities-tests, reaches-tests, bound-tests}
 
 module _ (n : ℕ) (couplers gates : List ℕ) (room : ℕ) where

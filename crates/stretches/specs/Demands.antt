@@ -31,12 +31,11 @@ Faithfuls n couplers (a ∷ shares) [] laid = ⊥
 Faithfuls n couplers (a ∷ shares) (d ∷ drawn) [] = ⊥
 Faithfuls n couplers (a ∷ shares) (d ∷ drawn) (l ∷ laid) = Faithful n couplers a (gatesOf n d) (gatesOf n l) × Faithfuls n couplers shares drawn laid
 
--- the records laid: the job's meaning with the returned phase, whose shares are the stretches'; the same Hadamards; each stretch faithful; no more than B
+-- the records laid: the job's meaning, Hadamards and all, with the returned phase, whose shares are the stretches'; each stretch faithful with its share; no more than B
 pub record FaithfulJob (n : ℕ) (couplers : List ℕ) (phase : ℕ) (drawn laid : List ℕ) : Type 0 where
   pub same : SameJob n phase drawn laid
   pub shares : List ℕ
   pub summed : sumOfShares shares ≡ phase
-  pub hadamards : hadamardsOf n drawn ≡ hadamardsOf n laid
   pub stretches : Faithfuls n couplers shares (stretchesOf n drawn) (stretchesOf n laid)
   pub bound : length laid ≤ jobBound n drawn
 

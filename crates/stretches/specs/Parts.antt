@@ -14,6 +14,6 @@ hadamardAt n gates k = take 1 (drop (endAt n gates k) gates)
 unfoldable pub partAt : ℕ → List ℕ → List ℕ → ℕ → List ℕ
 partAt n couplers gates k = stretchRecords n couplers (stretchAt n gates k) ++ hadamardAt n gates k
 
--- all that is laid from the place k on: nothing behind the last gate
+-- all that is laid from the place k on: nothing above the number of gates
 unfoldable pub laidFrom : ℕ → List ℕ → List ℕ → ℕ → List ℕ
 laidFrom n couplers gates k = weave (map (stretchRecords n couplers) (restFrom n gates k)) (hadamardsFrom n gates k)

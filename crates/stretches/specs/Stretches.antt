@@ -24,7 +24,7 @@ endAt n gates k = k + firstAt (isHadamard n) (drop k gates)
 abbrev pub stretchAt : ℕ → List ℕ → ℕ → List ℕ
 stretchAt n gates k = take (endAt n gates k - k) (drop k gates)
 
--- the stretches that begin there or later; none behind the last gate
+-- the stretches that begin there or later; none above the number of gates, where the last one may begin and be empty
 unfoldable pub restFrom : ℕ → List ℕ → ℕ → List (List ℕ)
 restFrom n gates k = pick (leb k (length gates)) (stretchesOf n (drop k gates)) []
 

@@ -1,4 +1,4 @@
--- The tests of a job, in which Hadamards may stand (document 01, "Records and refusals"; request E12). Each of 6 to 9 is the test of one stretch, made of every stretch.
+-- The tests of a job, in which Hadamards may stand (document 01, "Records and refusals"; request E12). Tests 6, 7 and 9 are those of one stretch, made of every stretch; test 8 is of all together.
 use mathlib.Core.List.{List, [], _∷_}
 use Prim.Native.Nat.{ℕ, _+_}
 use lib.Dec.{eqb, ltb}

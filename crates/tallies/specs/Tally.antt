@@ -71,6 +71,6 @@ depthOf gs = highest (layersFrom gs (replicate mostQubits 0))
 unfoldable pub boundOf : ℕ → ℕ → ℕ
 boundOf n t = 2 * (n - 1) * t + t + 2 * n * (n - 1) + n
 
--- "For n = 20, t = 256, B is" 10,764: the largest B of a job
+-- "For n = 20, t = 256, B is" 10,764: the largest B of a stretch
 abbrev pub largest : ℕ
 largest = boundOf mostQubits mostParities

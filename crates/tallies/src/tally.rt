@@ -54,7 +54,7 @@ pub fn rotations(records: &[u32], n: usize) -> usize
     count
 }
 
-// The largest B of a job.
+// The largest B of a stretch.
 pub const LARGEST: usize = 2 * (Job::QUBITS - 1) * Job::PARITIES
     + Job::PARITIES
     + 2 * Job::QUBITS * (Job::QUBITS - 1)

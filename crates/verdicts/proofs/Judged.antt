@@ -53,3 +53,11 @@ then-assoc u v w = go (eqb (numberOf u) 0) refl
     go : (t : Bool) → eqb (numberOf u) 0 ≡ t → andThen (pick t v u) w ≡ pick t (andThen v w) u
     go true e = refl
     go false e = ap (λ (b : Bool). pick b w u) e
+
+-- an accepting test behind another changes nothing
+pub then-accepted : (v : Verdict) → andThen v Accepted ≡ v
+then-accepted v = go (eqb (numberOf v) 0) refl
+  where
+    go : (b : Bool) → eqb (numberOf v) 0 ≡ b → pick b Accepted v ≡ v
+    go true e = sym (zero-accepted v (eqb-true (numberOf v) 0 e))
+    go false e = refl
