@@ -145,6 +145,33 @@ fn tree(dice: &mut Dice, n: usize) -> Vec<(usize, usize)> {
     (1..n).map(|i| (dice.below(i), i)).collect()
 }
 
+fn star(n: usize) -> Vec<(usize, usize)> {
+    (1..n).map(|i| (0, i)).collect()
+}
+
+fn ring(n: usize) -> Vec<(usize, usize)> {
+    let closing = (n > 2).then_some((0, n - 1));
+    line(n).into_iter().chain(closing).collect()
+}
+
+/// Each qubit has two below it.
+fn binary_tree(n: usize) -> Vec<(usize, usize)> {
+    (1..n).map(|i| ((i - 1) / 2, i)).collect()
+}
+
+/// A line of the even qubits, with an odd one at each.
+fn comb(n: usize) -> Vec<(usize, usize)> {
+    (1..n).map(|i| if i % 2 == 0 { (i - 2, i) } else { (i - 1, i) }).collect()
+}
+
+/// Two rings, joined by one coupler.
+fn joined_rings(n: usize) -> Vec<(usize, usize)> {
+    let half = n / 2;
+    let second = ring(n - half).into_iter().map(|(a, b)| (half + a, half + b));
+    let joint = (half > 0).then_some((0, half));
+    ring(half).into_iter().chain(second).chain(joint).collect()
+}
+
 /// Pieces of random size, each a tree with perhaps some more couplers.
 fn many_islands(dice: &mut Dice, n: usize) -> Vec<(usize, usize)> {
     let (mut couplers, mut start) = (vec![], 0);
@@ -172,8 +199,8 @@ fn any_coupling(dice: &mut Dice, n: usize) -> Vec<(usize, usize)> {
         4 | 5 => tree(dice, n),
         6 => all_to_all(n),
         7 | 8 => many_islands(dice, n),
-        9 => (1..n).map(|i| (0, i)).collect(),
-        10 if n > 2 => line(n).into_iter().chain([(0, n - 1)]).collect(),
+        9 => star(n),
+        10 if n > 2 => ring(n),
         _ if n == 20 => singapore(),
         _ if n == 16 => aspen(),
         _ => scattered(dice, n),
@@ -356,6 +383,111 @@ fn crooked(dice: &mut Dice) -> Draft {
     let thin = |(parity, angle): (usize, usize), dice: &mut Dice| (parity & dice.below(1 << n), angle);
     let terms: Vec<_> = random_terms(dice, n, count).into_iter().map(|term| thin(term, dice)).collect();
     Draft::new(n, &couplers, &draw_terms(&terms))
+}
+
+// ------------------------------------------------------------ few spare qubits, few neighbours
+
+/// A chip and the parities of its terms.
+#[derive(Clone)]
+struct Sketch {
+    n: usize,
+    couplers: Vec<(usize, usize)>,
+    parities: Vec<usize>,
+}
+
+impl Sketch {
+    /// The other chip's qubits come behind this one's; no coupler joins the two.
+    fn beside(mut self, other: Sketch) -> Sketch {
+        self.couplers.extend(other.couplers.iter().map(|(a, b)| (self.n + a, self.n + b)));
+        self.parities.extend(other.parities.iter().map(|parity| parity << self.n));
+        self.n += other.n;
+        self
+    }
+
+    /// The same with another number for each qubit.
+    fn renamed(&self, name: impl Fn(usize) -> usize) -> Sketch {
+        let members = |parity: usize| (0..self.n).filter(move |q| parity >> q & 1 == 1);
+        Sketch {
+            n: self.n,
+            couplers: self.couplers.iter().map(|&(a, b)| (name(a), name(b))).collect(),
+            parities: self.parities.iter().map(|&parity| members(parity).map(|q| 1 << name(q)).sum()).collect(),
+        }
+    }
+
+    fn draft(&self, mut angle: impl FnMut() -> usize) -> Draft {
+        let terms: Vec<_> = self.parities.iter().map(|&parity| (parity, angle())).collect();
+        Draft::new(self.n, &self.couplers, &draw_terms(&terms))
+    }
+}
+
+/// The parity of all qubits.
+fn whole(n: usize) -> Vec<usize> {
+    vec![(1 << n) - 1]
+}
+
+/// The lowest qubit, the two lowest, and so on.
+fn nested(n: usize) -> Vec<usize> {
+    (1..=n).map(|length| (1 << length) - 1).collect()
+}
+
+fn all_pairs(n: usize) -> Vec<usize> {
+    all_to_all(n).into_iter().map(|(a, b)| 1 << a | 1 << b).collect()
+}
+
+/// All qubits but one, whichever. Of a single qubit nothing is left, and nothing is drawn for it.
+fn all_but_one(n: usize) -> Vec<usize> {
+    (0..n).map(|q| (1 << n) - 1 - (1 << q)).collect()
+}
+
+fn every_parity(n: usize) -> Vec<usize> {
+    (1..1 << n).collect()
+}
+
+fn random_parities(dice: &mut Dice, n: usize, count: usize) -> Vec<usize> {
+    random_terms(dice, n, count).into_iter().map(|(parity, _)| parity).collect()
+}
+
+/// An island in which few qubits are spare or most have few neighbours.
+fn narrow_island(dice: &mut Dice, n: usize) -> Sketch {
+    let couplers = match dice.below(7) {
+        0 => line(n),
+        1 => star(n),
+        2 => ring(n),
+        3 => tree(dice, n),
+        4 => binary_tree(n),
+        5 => comb(n),
+        _ => joined_rings(n),
+    };
+    let count = dice.between(1, 5 * n);
+    let parities = match dice.below(6) {
+        0 => whole(n),
+        1 => nested(n),
+        2 => all_pairs(n),
+        3 => all_but_one(n),
+        4 if n <= 6 => every_parity(n),
+        _ => random_parities(dice, n, count),
+    };
+    Sketch { n, couplers, parities }
+}
+
+/// Such islands beside each other. They never have more than 256 parities.
+fn narrow(dice: &mut Dice) -> Draft {
+    let n = dice.between(1, 20);
+    let size = dice.between(1, n);
+    let mut chip = narrow_island(dice, size);
+    while chip.n < n {
+        let size = dice.between(1, n - chip.n);
+        chip = chip.beside(narrow_island(dice, size));
+    }
+    let mut names: Vec<usize> = (0..n).collect();
+    if dice.percent(70) {
+        dice.shuffle(&mut names);
+    }
+    let mut draft = chip.renamed(|q| names[q]).draft(|| any_angle(dice));
+    if dice.percent(30) {
+        draft.gates.extend(gates_inside(dice, &draft, n));
+    }
+    draft
 }
 
 // ------------------------------------------------------------ flips
@@ -955,7 +1087,8 @@ fn random_drawings(dice: &mut Dice, any: usize) -> Vec<Vec<u8>> {
 fn random_jobs(dice: &mut Dice) -> Vec<Vec<u8>> {
     let (small, any) = (dice.between(1, 6), dice.between(1, 20));
     let draft = match dice.below(1_000) {
-        0..260 => reachable(dice, small, 30),
+        0..225 => reachable(dice, small, 30),
+        225..260 => narrow(dice),
         260..350 => reachable(dice, any, 150),
         350..440 => crooked(dice),
         440..452 => reachable(dice, any, 1_500),
@@ -1472,6 +1605,87 @@ fn stretched_list() -> Vec<Vec<u8>> {
     texts
 }
 
+type Shape = fn(usize) -> Vec<(usize, usize)>;
+type Parities = fn(usize) -> Vec<usize>;
+
+fn island(n: usize, shape: Shape, parities: Parities) -> Sketch {
+    Sketch { n, couplers: shape(n), parities: parities(n) }
+}
+
+/// The highest number for the lowest qubit, and so on.
+fn reversed(sketch: Sketch) -> Sketch {
+    sketch.renamed(|q| sketch.n - 1 - q)
+}
+
+/// On 20 qubits; the numbers of an island lie among those of the others.
+fn dealt(islands: &[Sketch]) -> Sketch {
+    let chip = islands.iter().cloned().reduce(Sketch::beside).expect("there is an island");
+    chip.renamed(|q| 7 * q % 20)
+}
+
+/// Jobs in which a spare qubit or a neighbour is scarce, and with terms for which the steps look for one
+/// often. In most of them it is the steps that are laid.
+fn scarce() -> Vec<Sketch> {
+    vec![
+        // Islands of one qubit have no neighbour, and their terms ask for none.
+        island(1, line, whole).beside(island(1, line, whole)),
+        dealt(&vec![island(1, line, whole); 20]),
+        // Pairs: each qubit has one neighbour, and none once the other is gone.
+        island(2, line, every_parity),
+        island(2, line, whole).beside(island(1, line, whole)).beside(island(2, line, every_parity)),
+        dealt(&vec![island(2, line, every_parity); 10]),
+        // Lines: only the two ends are spare, and each has one neighbour.
+        island(3, line, every_parity),
+        island(4, line, every_parity),
+        island(8, line, every_parity),
+        island(10, line, |n| random_parities(&mut Dice(40), n, 40)),
+        island(13, line, all_but_one),
+        island(20, line, nested),
+        island(20, line, all_pairs),
+        // Stars: the centre is not spare until one other is left, and the others have no neighbour but it.
+        island(4, star, every_parity),
+        reversed(island(4, star, every_parity)),
+        reversed(island(8, star, every_parity)),
+        island(10, star, all_pairs),
+        reversed(island(16, star, all_but_one)),
+        island(20, star, whole),
+        reversed(island(20, star, nested)),
+        // Rings: all are spare at first, then only the two ends of what is left.
+        island(3, ring, every_parity),
+        island(5, ring, all_but_one),
+        island(8, ring, nested),
+        reversed(island(13, ring, all_but_one)),
+        island(20, ring, nested),
+        // Trees: only the leaves are spare.
+        reversed(island(5, binary_tree, every_parity)),
+        reversed(island(8, binary_tree, every_parity)),
+        island(10, binary_tree, all_pairs),
+        island(20, binary_tree, all_but_one),
+        island(5, comb, every_parity),
+        island(13, comb, all_but_one),
+        reversed(island(20, comb, nested)),
+        // Two joined rings: the ends of the joint are not spare until one of the rings is gone.
+        island(6, joined_rings, all_pairs),
+        reversed(island(8, joined_rings, all_pairs)),
+        reversed(island(10, joined_rings, all_but_one)),
+        island(20, joined_rings, nested),
+        // Such islands beside each other: what is spare or a neighbour on one is none of another's.
+        dealt(&[island(5, line, all_but_one), island(5, star, nested), island(5, ring, whole), island(5, comb, all_pairs)]),
+        dealt(&vec![island(4, star, every_parity); 5]),
+        dealt(&[island(10, joined_rings, nested), island(9, ring, all_but_one), island(1, line, whole)]),
+        dealt(&[island(6, binary_tree, every_parity), island(2, line, whole), island(12, line, nested)]),
+    ]
+}
+
+/// Each term has an angle of its own.
+fn scarce_texts() -> Vec<Vec<u8>> {
+    let text = |sketch: Sketch| {
+        let mut angles = 1..;
+        sketch.draft(|| angles.next().expect("angles go on")).text()
+    };
+    scarce().into_iter().map(text).collect()
+}
+
 /// The fixed list can only hold texts that are empty or end with LF.
 fn ends_with_lf(text: &[u8]) -> bool {
     text.is_empty() || text.ends_with(b"\n")
@@ -1494,6 +1708,7 @@ fn vectors() -> Vec<Vec<u8>> {
     texts.extend(flipped());
     texts.extend(LAYERED.iter().map(|text| spelled_out(text)));
     texts.extend(stretched_list());
+    texts.extend(scarce_texts());
     texts.retain(|text| ends_with_lf(text));
     texts
 }

@@ -1,4 +1,4 @@
-//! The judge: knows what document 01, with document 02's E2, E3 and E12, means and nothing of how
+//! The judge: knows what document 01, with document 02's E2, E3, E7 and E12, means and nothing of how
 //! gates are laid. It says whether the texts that the laying and the counting program printed are
 //! right for a job.
 //!

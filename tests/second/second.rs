@@ -1,5 +1,5 @@
 //! The independent second program of Pikselvuo: it lays the same gates as the first one, from
-//! document 01, document 02's E2, E3 and E12 and the page on laying alone. Text in, text out.
+//! document 01, document 02's E2, E3, E7 and E12 and the page on laying alone. Text in, text out.
 //!
 //!     second lay     one job in, what the laying program prints out
 //!     second count   one job in, what the counting program prints out
@@ -561,7 +561,8 @@ impl<'a> Board<'a> {
         self.rows[q].and(chosen).size()
     }
 
-    /// The spare qubit with most equal entries in the chosen columns, the lowest in a tie.
+    /// The spare qubit with most equal entries in the chosen columns, the lowest in a tie. There is one:
+    /// document 02's E7 promises that the steps can always go on.
     fn row_to_split(&self, set: u32, chosen: Places) -> usize {
         let all = chosen.size();
         let mut best = None;
@@ -573,10 +574,11 @@ impl<'a> Board<'a> {
                 best = Some((equal, q));
             }
         }
-        best.expect("a connected set has a spare qubit").1
+        best.expect("by E7 the set has a spare qubit").1
     }
 
-    /// The neighbour of r with most ones, the lowest in a tie, and its ones.
+    /// The neighbour of r with most ones, the lowest in a tie, and its ones. There is one, by the same
+    /// promise.
     fn neighbour_of(&self, set: u32, r: usize, chosen: Places) -> (usize, u32) {
         let mut best: Option<(usize, u32)> = None;
         for m in members(self.island.coupling.near[r] & set) {
@@ -585,7 +587,7 @@ impl<'a> Board<'a> {
                 best = Some((m, ones));
             }
         }
-        best.expect("the chosen qubit has a neighbour in the set")
+        best.expect("by E7 the chosen qubit has a neighbour in the set")
     }
 }
 
@@ -999,6 +1001,130 @@ mod worked_example {
     #[test]
     fn nearest_first_is_taken() {
         assert_eq!(both_texts(JOB)[1], "s\t7\t3\t6\n");
+    }
+}
+
+/// Document 02's E7: on an island the steps always find a spare qubit and a neighbour. They panic where
+/// they do not.
+#[cfg(test)]
+mod steps_go_on {
+    use super::*;
+
+    /// Good enough for drawing lots, and the same each time.
+    struct Dice(u64);
+
+    impl Dice {
+        fn below(&mut self, bound: usize) -> usize {
+            self.0 = self.0.wrapping_mul(6_364_136_223_846_793_005).wrapping_add(1_442_695_040_888_963_407);
+            (self.0 >> 33) as usize % bound
+        }
+
+        fn shuffled(&mut self, n: usize) -> Vec<usize> {
+            let mut list: Vec<usize> = (0..n).collect();
+            (1..n).for_each(|i| list.swap(i, self.below(i + 1)));
+            list
+        }
+
+        /// Parities on n qubits, at most so many of them.
+        fn parities(&mut self, n: usize, count: usize) -> Vec<u32> {
+            (0..count).map(|_| 1 + self.below((1 << n) - 1) as u32).collect()
+        }
+    }
+
+    /// An island of the qubits below n with a term for each of the parities.
+    fn island(n: usize, coupling: &Coupling, mut parities: Vec<u32>) -> Island {
+        parities.sort();
+        parities.dedup();
+        let wires: [u32; MOST_QUBITS] = std::array::from_fn(|i| 1 << i);
+        Island {
+            qubits: (1 << n) - 1,
+            coupling: coupling.clone(),
+            terms: parities.into_iter().zip(1..).collect(),
+            asked: Asked { rows: wires, mirror: wires },
+        }
+    }
+
+    /// The steps lay each term exactly once: all of them, by as many rotations.
+    fn lays(n: usize, coupling: &Coupling, parities: Vec<u32>) {
+        let island = island(n, coupling, parities);
+        let laid = steps(&island);
+        let meaning = Meaning::of(&Stretch { start: 0, gates: &laid }).unwrap();
+        assert!(meaning.terms().eq(island.terms.iter().copied()));
+        assert_eq!(laid.len() - cnots_of(&laid).len(), island.terms.len());
+    }
+
+    fn pairs(n: usize) -> Vec<(usize, usize)> {
+        (0..n).flat_map(|b| (0..b).map(move |a| (a, b))).collect()
+    }
+
+    /// Every coupling of n qubits that makes them one island.
+    fn connected(n: usize) -> impl Iterator<Item = Coupling> {
+        let pairs = pairs(n);
+        let some_pairs = move |chosen: u32| members(chosen).map(|i| pairs[i]).collect::<Vec<_>>();
+        (0..1 << (n * (n - 1) / 2))
+            .map(move |chosen| Coupling::of(&some_pairs(chosen)))
+            .filter(move |coupling| coupling.islands(n).len() == 1)
+    }
+
+    /// The parities from 1 on, those whose places are chosen.
+    fn parities_of(chosen: u32) -> Vec<u32> {
+        members(chosen).map(|place| place as u32 + 1).collect()
+    }
+
+    #[test]
+    fn every_island_up_to_four_with_every_set_of_terms() {
+        let count = |n| connected(n).count();
+        assert_eq!([count(1), count(2), count(3), count(4), count(5)], [1, 1, 4, 38, 728]);
+        for n in 1..=4 {
+            for coupling in connected(n) {
+                (0..1 << ((1 << n) - 1)).for_each(|chosen| lays(n, &coupling, parities_of(chosen)));
+            }
+        }
+    }
+
+    #[test]
+    fn every_island_of_five_with_some_sets_of_terms() {
+        let mut dice = Dice(5);
+        for coupling in connected(5) {
+            lays(5, &coupling, (1..32).collect());
+            for count in 1..=60 {
+                lays(5, &coupling, dice.parities(5, count));
+            }
+        }
+    }
+
+    /// A coupling in which few qubits are spare or have many neighbours, its qubits in any order.
+    fn narrow(dice: &mut Dice, n: usize, shape: &str) -> Coupling {
+        let names = dice.shuffled(n);
+        let mut parent = |i: usize| match shape {
+            "star" => 0,
+            "tree" => dice.below(i),
+            _ => i - 1,
+        };
+        let mut couplers: Vec<_> = (1..n).map(|i| (names[parent(i)], names[i])).collect();
+        if shape == "ring" && n > 2 {
+            couplers.push((names[0], names[n - 1]));
+        }
+        Coupling::of(&couplers)
+    }
+
+    #[test]
+    fn lines_stars_rings_and_trees() {
+        let mut dice = Dice(20);
+        for n in 1..=MOST_QUBITS {
+            let whole = (1 << n) - 1;
+            for shape in ["line", "star", "ring", "tree"].repeat(5) {
+                let coupling = narrow(&mut dice, n, shape);
+                lays(n, &coupling, vec![whole]);
+                lays(n, &coupling, (1..=n).map(|length| (1 << length) - 1).collect());
+                lays(n, &coupling, pairs(n).into_iter().map(|(a, b)| 1 << a | 1 << b).collect());
+                for most in [n, 40, 256] {
+                    let count = dice.below(most);
+                    lays(n, &coupling, dice.parities(n, count));
+                }
+                lays(n, &coupling, dice.parities(n, 256));
+            }
+        }
     }
 }
 

@@ -16,9 +16,9 @@ use Rattle.sets.specs.Size.{singleOf, lowestOf}
 use Rattle.sets.proofs.Bits.{bit-zero, bit-suc, bit-lt, bit-or, bit-of-zero, or-assoc}
 use Rattle.sets.proofs.Words.{has-false, out-has}
 use Rattle.gates.specs.declared.gate.Gate.the-variants.{Rotation}
-use Rattle.columns.specs.Pieces.{Piece, piece, idle, after, andThen, Memory, held, wrote}
+use Rattle.columns.specs.Pieces.{Piece, piece, idle, andThen, Memory, held, wrote}
 use Rattle.columns.specs.Striking.{loneAt, strikeOne, strikeRow, strikeFrom, strikeOff, aloneOf, singlesOf}
-use Rattle.columns.proofs.Piecing.{then-on, wrote-none}
+use Rattle.columns.proofs.Piecing.{wrote-none}
 use Rattle.columns.proofs.Strikes.{single-zero, strike-no, lone-other, lone-many}
 
 -- no column is the qubit q alone
@@ -91,7 +91,8 @@ singles-named s xs e q h n = out-singles q (omega arith) xs (ap (λ (t : ℕ). b
 -- ---- a qubit that is no column by itself is passed over
 
 then-idle : (xs : List ℕ) (k : List ℕ → Piece) → andThen (idle xs) k ≡ k xs
-then-idle xs k = then-on (idle xs) k refl
+unfolding andThen
+then-idle xs k = refl
 
 module _ (angles xs : List ℕ) where
   row-idle : (d k q : ℕ) → Without q xs → strikeRow d k q angles xs ≡ idle xs
@@ -113,12 +114,12 @@ module _ (angles xs : List ℕ) where
   off-idle w = from-idle 20 0 w
 
 module _ (angles xs out : List ℕ) (at s : ℕ) (n : Named s xs) where
-  pub row-passed : (q : ℕ) → q < 20 → has s q ≡ false → held xs out at false ≡ wrote out at (strikeRow (length xs) 0 q angles xs)
-  row-passed q h e = wrote-none out at xs false ∙ ap (wrote out at) (sym (row-idle angles xs (length xs) 0 q (n q h e)))
+  pub row-passed : (q : ℕ) → q < 20 → has s q ≡ false → held xs out at ≡ wrote out at (strikeRow (length xs) 0 q angles xs)
+  row-passed q h e = wrote-none out at xs ∙ ap (wrote out at) (sym (row-idle angles xs (length xs) 0 q (n q h e)))
 
-  pub none-struck : s ≡ 0 → held xs out at false ≡ wrote out at (strikeOff angles xs)
+  pub none-struck : s ≡ 0 → held xs out at ≡ wrote out at (strikeOff angles xs)
   none-struck e =
-      wrote-none out at xs false
+      wrote-none out at xs
       ∙ ap (wrote out at) (sym (off-idle angles xs (λ q h. n q h (out-has s q (ap (λ (t : ℕ). bit t q) e ∙ bit-of-zero q)))))
 
 -- ---- striking off makes no column of one qubit
@@ -130,31 +131,21 @@ set-without r (x ∷ xs) zero w (suc j) = w (suc j)
 set-without r (x ∷ xs) (suc k) w zero = w zero
 set-without r (x ∷ xs) (suc k) w (suc j) = set-without r xs k (λ i. w (suc i)) j
 
-then-without : (r : ℕ) (p : Piece) (k : List ℕ → Piece) → Without r (p .cols) → Without r (k (p .cols) .cols) → Without r (andThen p k .cols)
-unfolding andThen
-then-without r p k a b = go (p .stuck)
-  where
-    go : (t : Bool) → Without r (pick t p (after p (k (p .cols))) .cols)
-    go true = a
-    go false = b
-
 module _ (r q : ℕ) (angles : List ℕ) where
   one-without : (k : ℕ) (xs : List ℕ) → Without r xs → Without r (strikeOne q angles k xs .cols)
   unfolding strikeOne
   one-without k xs w = go (loneAt q (getD xs k 0))
     where
-      go : (t : Bool) → Without r (pick t (piece (set xs k 0) (Rotation q (getD angles k 0) ∷ []) false) (idle xs) .cols)
+      go : (t : Bool) → Without r (pick t (piece (set xs k 0) (Rotation q (getD angles k 0) ∷ [])) (idle xs) .cols)
       go true = set-without r xs k w
       go false = w
 
   row-without : (d k : ℕ) (xs : List ℕ) → Without r xs → Without r (strikeRow d k q angles xs .cols)
-  unfolding strikeRow
+  unfolding strikeRow andThen
   row-without zero k xs w = w
-  row-without (suc d) k xs w =
-      then-without r (strikeOne q angles k xs) (λ ys. strikeRow d (k + 1) q angles ys)
-      (one-without k xs w) (row-without d (k + 1) (strikeOne q angles k xs .cols) (one-without k xs w))
+  row-without (suc d) k xs w = row-without d (k + 1) (strikeOne q angles k xs .cols) (one-without k xs w)
 
-pub named-still : (q : ℕ) (angles xs out : List ℕ) (at s : ℕ) {ys o : List ℕ} {a : ℕ} → Named s xs → held ys o a false ≡ wrote out at (strikeRow (length xs) 0 q angles xs) → Named s ys
+pub named-still : (q : ℕ) (angles xs out : List ℕ) (at s : ℕ) {ys o : List ℕ} {a : ℕ} → Named s xs → held ys o a ≡ wrote out at (strikeRow (length xs) 0 q angles xs) → Named s ys
 unfolding wrote
 named-still q angles xs out at s n e r h m =
     subst (Without r) (sym (ap (λ (w : Memory). w .cols) e)) (row-without r q angles (length xs) 0 xs (n r h m))

@@ -19,7 +19,6 @@ use Rattle.tallies.specs.Tally.{cnotsOf}
 use Rattle.columns.specs.Pieces.{Piece, idle, andThen}
 use Rattle.columns.specs.Striking.{loneAt, strikeOne, strikeRow, strikeFrom, strikeOff}
 use Rattle.columns.specs.Terms.{Laying}
-use Rattle.columns.proofs.Piecing.{then-on}
 use Rattle.columns.proofs.Layings.{laying-none, laying-then, laying-strike}
 use Rattle.columns.proofs.Laid.{sub-below}
 use Rattle.columns.proofs.Strikes.{single-zero, strike-yes, strike-no, lone-yes, from-step}
@@ -48,13 +47,12 @@ fit-of Q xs low f k e =
 module _ (near : List ℕ) (Q : ℕ) (angles : List ℕ) where
   -- a piece that only strikes off
   pub record Strikes (xs : List ℕ) (p : Piece) : Type 0 where
-    pub on : p .stuck ≡ false
     pub lays : Laying near Q angles xs (p .laid) (p .cols)
     pub cnots : cnotsOf (p .laid) ≡ 0
     pub each : (k : ℕ) → (getD (p .cols) k 0 ≡ getD xs k 0) ⊎ ((singleOf (getD xs k 0) ≡ true) × (getD (p .cols) k 0 ≡ 0))
 
   strikes-idle : (xs : List ℕ) → Strikes xs (idle xs)
-  strikes-idle xs = record { on = refl; lays = laying-none near Q angles xs; cnots = cnots-none; each = λ k. inl refl }
+  strikes-idle xs = record { lays = laying-none near Q angles xs; cnots = cnots-none; each = λ k. inl refl }
 
   -- struck off stays struck off
   stays : {xs : List ℕ} {p : Piece} → Strikes xs p → (k : ℕ) → getD xs k 0 ≡ 0 → getD (p .cols) k 0 ≡ 0
@@ -65,14 +63,13 @@ module _ (near : List ℕ) (Q : ℕ) (angles : List ℕ) where
       go (inr h) = h .1
 
   strikes-then : (xs : List ℕ) (p : Piece) (k : List ℕ → Piece) → Strikes xs p → Strikes (p .cols) (k (p .cols)) → Strikes xs (andThen p k)
+  unfolding andThen
   strikes-then xs p k a b =
-      subst (Strikes xs) (sym (then-on p k (a .on)))
-      (record {
-        on = b .on;
+      record {
         lays = laying-then near Q angles (a .lays) (b .lays);
         cnots = omega (arith, cnots-append (p .laid) (k (p .cols) .laid), a .cnots, b .cnots);
         each = λ j. both-ways j (a .each j) (b .each j);
-      })
+      }
     where
       both-ways : (j : ℕ) → (getD (p .cols) j 0 ≡ getD xs j 0) ⊎ ((singleOf (getD xs j 0) ≡ true) × (getD (p .cols) j 0 ≡ 0))
           → (getD (k (p .cols) .cols) j 0 ≡ getD (p .cols) j 0) ⊎ ((singleOf (getD (p .cols) j 0) ≡ true) × (getD (k (p .cols) .cols) j 0 ≡ 0))
@@ -101,7 +98,6 @@ module _ (near : List ℕ) (Q : ℕ) (angles : List ℕ) where
           let g = f k (s .0) in
           subst (Strikes xs) (sym (strike-yes q angles k xs e))
           (record {
-            on = refl;
             lays = laying-strike near Q angles xs k q (within k (s .0) (decLt k (length xs))) (g .0 ∙ ap (λ (i : ℕ). 2 ^ i) (s .1)) (subst (λ (i : ℕ). In i Q) (s .1) (g .1));
             cnots = cnots-rotation q (getD angles k 0);
             each = λ j. at j (s .0) (ℕ-discrete k j);
@@ -131,10 +127,6 @@ module _ (near : List ℕ) (Q : ℕ) (angles : List ℕ) where
       go true e = ap (λ (p : Piece). getD (p .cols) j 0) (strike-yes q angles k xs e) ∙ getD-set-other xs k j 0 0 ne
       go false e = ap (λ (p : Piece). getD (p .cols) j 0) (strike-no q angles k xs e)
 
-  -- the columns behind two pieces
-  then-cols : (xs : List ℕ) (p : Piece) (k : List ℕ → Piece) → p .stuck ≡ false → andThen p k .cols ≡ k (p .cols) .cols
-  then-cols xs p k e = ap (λ (w : Piece). w .cols) (then-on p k e)
-
   -- ---- a row of columns
 
   row-step : (d k q : ℕ) (xs : List ℕ) → strikeRow (suc d) k q angles xs ≡ andThen (strikeOne q angles k xs) (λ ys. strikeRow d (k + 1) q angles ys)
@@ -153,10 +145,10 @@ module _ (near : List ℕ) (Q : ℕ) (angles : List ℕ) where
       (strikes-then xs (strikeOne q angles k xs) (λ ys. strikeRow d (k + 1) q angles ys) a (strikes-row d (k + 1) q (strikeOne q angles k xs .cols) (fit-after a f)))
 
   row-gone : (d k q : ℕ) (xs : List ℕ) → Fit Q xs → (j : ℕ) → k ≤ j → j < k + d → loneAt q (getD xs j 0) ≡ true → getD (strikeRow d k q angles xs .cols) j 0 ≡ 0
+  unfolding andThen
   row-gone zero k q xs f j l h e = absurd (omega arith)
   row-gone (suc d) k q xs f j l h e =
       ap (λ (p : Piece). getD (p .cols) j 0) (row-step d k q xs)
-      ∙ ap (λ (ys : List ℕ). getD ys j 0) (then-cols xs (strikeOne q angles k xs) (λ ys. strikeRow d (k + 1) q angles ys) (a .on))
       ∙ go (ℕ-discrete k j) (row-gone d (k + 1) q ys (fit-after a f) j)
     where
       a : Strikes xs (strikeOne q angles k xs)
@@ -185,10 +177,10 @@ module _ (near : List ℕ) (Q : ℕ) (angles : List ℕ) where
       (strikes-then xs (strikeRow (length xs) 0 q angles xs) (λ ys. strikeFrom d (q + 1) angles ys) a (strikes-from d (q + 1) (strikeRow (length xs) 0 q angles xs .cols) (fit-after a f)))
 
   from-gone : (d q : ℕ) (xs : List ℕ) → Fit Q xs → (j : ℕ) → singleOf (getD xs j 0) ≡ true → q ≤ lowestOf (getD xs j 0) → lowestOf (getD xs j 0) < q + d → getD (strikeFrom d q angles xs .cols) j 0 ≡ 0
+  unfolding andThen
   from-gone zero q xs f j s l h = absurd (omega arith)
   from-gone (suc d) q xs f j s l h =
       ap (λ (p : Piece). getD (p .cols) j 0) (from-step angles d q xs)
-      ∙ ap (λ (ys : List ℕ). getD ys j 0) (then-cols xs (strikeRow (length xs) 0 q angles xs) (λ ys. strikeFrom d (q + 1) angles ys) (a .on))
       ∙ go (ℕ-discrete (lowestOf (getD xs j 0)) q) (a .each j) (from-gone d (q + 1) ys (fit-after a f) j)
     where
       a : Strikes xs (strikeRow (length xs) 0 q angles xs)

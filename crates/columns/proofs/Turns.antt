@@ -71,12 +71,12 @@ module _ (c t : ℕ) (xs : List ℕ) where
       ext-getD 0 ys (turnAll c t xs) (r .size ∙ sym (turn-all-length c t xs)) (λ j (h : j < length ys). r .done j (omega (arith, r .size)) ∙ sym (turn-all-at c t xs j))
 
 pub cnot-wrote : (c t : ℕ) (xs out : List ℕ) (at : ℕ) (ys out′ : List ℕ) (a : ℕ) → ys ≡ turnAll c t xs → out′ ≡ emit out at (Cnot c t ∷ []) → a ≡ emitAt out at (Cnot c t ∷ [])
-    → held ys out′ a false ≡ wrote out at (layCnot c t xs)
+    → held ys out′ a ≡ wrote out at (layCnot c t xs)
 unfolding wrote layCnot
 cnot-wrote c t xs out at ys out′ a e f g = held-is e f g
 
 -- ---- a laid CNOT as a piece
 
-pub cnot-is : (c t : ℕ) (xs : List ℕ) → layCnot c t xs ≡ piece (turnAll c t xs) (Cnot c t ∷ []) false
+pub cnot-is : (c t : ℕ) (xs : List ℕ) → layCnot c t xs ≡ piece (turnAll c t xs) (Cnot c t ∷ [])
 unfolding layCnot
 cnot-is c t xs = refl

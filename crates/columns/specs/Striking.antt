@@ -1,5 +1,5 @@
 -- "A column of one qubit is laid at once as a rotation there and struck off, lowest qubit first" (document 01, "Steps from document 000").
-use mathlib.Core.Bool.{Bool, false}
+use mathlib.Core.Bool.{Bool}
 use mathlib.Core.List.{List, [], _∷_}
 use Prim.Native.Nat.{ℕ, zero, suc, _+_}
 use lib.Bits.{bitOr}
@@ -18,7 +18,7 @@ loneAt q x = both (singleOf x) (eqb (lowestOf x) q)
 -- the column k is laid as a rotation on q and struck off, where it is q alone
 unfoldable pub strikeOne : ℕ → List ℕ → ℕ → List ℕ → Piece
 strikeOne q angles k xs =
-    pick (loneAt q (getD xs k 0)) (piece (set xs k 0) (Rotation q (getD angles k 0) ∷ []) false) (idle xs)
+    pick (loneAt q (getD xs k 0)) (piece (set xs k 0) (Rotation q (getD angles k 0) ∷ [])) (idle xs)
 
 -- of d columns from k on, those that are q alone
 unfoldable pub strikeRow : ℕ → ℕ → ℕ → List ℕ → List ℕ → Piece

@@ -1,5 +1,4 @@
 -- "A laid CNOT adds the target's row to the control's row in all columns not yet struck off" (document 01, "Steps from document 000"). A column struck off is 0, and stays 0.
-use mathlib.Core.Bool.{false}
 use mathlib.Core.List.{List, [], _∷_, map}
 use Prim.Native.Nat.{ℕ}
 use lib.Bits.{bitXor}
@@ -17,4 +16,4 @@ turnAll c t xs = map (turnedBy c t) xs
 
 -- a CNOT is laid
 unfoldable pub layCnot : ℕ → ℕ → List ℕ → Piece
-layCnot c t xs = piece (turnAll c t xs) (Cnot c t ∷ []) false
+layCnot c t xs = piece (turnAll c t xs) (Cnot c t ∷ [])

@@ -3,7 +3,6 @@ use crate::turning;
 use emitting::emit;
 use gates::job::Job;
 ghost use mathlib.Core.Path.{_≡_};
-ghost use mathlib.Core.Bool.{false};
 ghost use lib.ListN.{length};
 ghost use Rattle.columns.specs.Pieces.{held, wrote};
 ghost use Rattle.columns.specs.Striking.{aloneOf, singlesOf, strikeOne, strikeRow, strikeOff};
@@ -17,7 +16,7 @@ fn strike_one(
     k: usize,
     q: usize,
 ) -> usize
-    ensures { λ r. ⌜ held (now (cols .exit)) (now (out .exit)) r false ≡ wrote (now (out .entry)) at (strikeOne q (now (angles .entry)) k (now (cols .entry))) ⌝ }
+    ensures { λ r. ⌜ held (now (cols .exit)) (now (out .exit)) r ≡ wrote (now (out .entry)) at (strikeOne q (now (angles .entry)) k (now (cols .entry))) ⌝ }
 {
     if k < cols.len() {
         let x = cols[k];
@@ -33,7 +32,7 @@ fn strike_one(
 
 // Every column that is the qubit q alone.
 fn strike_row(cols: &mut [u32], angles: &[u32], out: &mut [u32], at: usize, q: usize) -> usize
-    ensures { λ r. ⌜ held (now (cols .exit)) (now (out .exit)) r false ≡ wrote (now (out .entry)) at (strikeRow (length (now (cols .entry))) 0 q (now (angles .entry)) (now (cols .entry))) ⌝ }
+    ensures { λ r. ⌜ held (now (cols .exit)) (now (out .exit)) r ≡ wrote (now (out .entry)) at (strikeRow (length (now (cols .entry))) 0 q (now (angles .entry)) (now (cols .entry))) ⌝ }
 {
     let mut a = at;
     for k in 0..cols.len() {
@@ -64,7 +63,7 @@ fn singles(cols: &[u32]) -> u32
 // Every column of one qubit, lowest qubit first. After most CNOTs there is nothing to strike off, and
 // one pass over the columns shows it.
 pub fn strike(cols: &mut [u32], angles: &[u32], out: &mut [u32], at: usize) -> usize
-    ensures { λ r. ⌜ held (now (cols .exit)) (now (out .exit)) r false ≡ wrote (now (out .entry)) at (strikeOff (now (angles .entry)) (now (cols .entry))) ⌝ }
+    ensures { λ r. ⌜ held (now (cols .exit)) (now (out .exit)) r ≡ wrote (now (out .entry)) at (strikeOff (now (angles .entry)) (now (cols .entry))) ⌝ }
 {
     let s = singles(cols);
     if s == 0 {

@@ -1,7 +1,6 @@
 // The columns of an island's terms, one number each; 0 once struck off.
 use emitting::emit;
 ghost use mathlib.Core.Path.{_≡_};
-ghost use mathlib.Core.Bool.{false};
 ghost use Prim.Native.Nat.{min};
 ghost use lib.ListN.{getD};
 ghost use Rattle.columns.specs.Pieces.{held, wrote};
@@ -47,7 +46,7 @@ pub fn lay_cnot(
     control: usize,
     target: usize,
 ) -> usize
-    ensures { λ r. ⌜ held (now (cols .exit)) (now (out .exit)) r false ≡ wrote (now (out .entry)) at (layCnot control target (now (cols .entry))) ⌝ }
+    ensures { λ r. ⌜ held (now (cols .exit)) (now (out .exit)) r ≡ wrote (now (out .entry)) at (layCnot control target (now (cols .entry))) ⌝ }
 {
     turn_all(cols, control, target);
     emit::put_cnot(out, at, control, target)

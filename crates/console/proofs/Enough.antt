@@ -13,13 +13,13 @@ use Rattle.sets.specs.Pick.{pick}
 use Rattle.verdicts.specs.declared.verdict.Verdict.{Verdict}
 use Rattle.verdicts.specs.declared.verdict.Verdict.the-variants.{LongText}
 use Rattle.verdicts.specs.Verdicts.{numberOf, placeOf}
+use Rattle.verdicts.proofs.Judged.{no-nine}
 use Rattle.tallies.specs.Tally.{largest}
-use Rattle.laying.specs.Verdict.{verdictOf}
+use Rattle.judging.specs.Tests.{verdictOf}
 use Rattle.stretches.specs.Cut.{Each}
 use Rattle.stretches.specs.Stretches.{stretchesOf}
 use Rattle.stretches.specs.Tests.{jobBound, judgedStretches}
 use Rattle.stretches.proofs.Passing.{job-passed}
-use Rattle.stretches.proofs.Demands.{demand-2-never-9}
 use Rattle.stretches.proofs.Enough.{job-never-8, judged-enough}
 use Rattle.lines.specs.Lines.{fieldsText, lineText, textOf, refusalText, countsText}
 use Rattle.lines.proofs.Digits.{digits-small, digits-big}
@@ -39,17 +39,10 @@ use Rattle.console.proofs.Whole.{number-few}
 pub reading-never-8 : (s : List ℕ) → numberOf (judgedReading s mostCouplerLines mostGateLines) ≢ 8
 reading-never-8 s = reads.reads-never-8 s mostCouplerLines mostGateLines (omega arith) (omega arith)
 
-reading-never-9 : (s : List ℕ) → numberOf (judgedReading s mostCouplerLines mostGateLines) ≢ 9
-reading-never-9 s = reads.reads-never-9 s mostCouplerLines mostGateLines (omega arith) (omega arith)
-
 -- tests 1 to 7 are those of laying with as much room as it needs
 pub judging-never-8 : (n : ℕ) (couplers gates : List ℕ) → numberOf (judgedStretches n couplers gates) ≢ 8
 judging-never-8 n couplers gates e =
     job-never-8 n couplers gates (jobBound n gates) (omega arith) (ap numberOf (judged-enough n couplers gates (jobBound n gates) (omega arith)) ∙ e)
-
-judging-never-9 : (n : ℕ) (couplers gates : List ℕ) → numberOf (judgedStretches n couplers gates) ≢ 9
-judging-never-9 n couplers gates e =
-    demand-2-never-9 n couplers gates (jobBound n gates) (ap numberOf (judged-enough n couplers gates (jobBound n gates) (omega arith)) ∙ e)
 
 -- and a stretch of a job that passes them is never refused, so that no refusal comes behind the front
 pub part-never-refused : (n : ℕ) (couplers gates : List ℕ) → numberOf (judgedStretches n couplers gates) ≡ 0 → Each (λ s. numberOf (verdictOf n couplers s largest) ≡ 0) (stretchesOf n gates)
@@ -83,12 +76,12 @@ other-number v k place a b ne e = go (ltb (numberOf v) 10) refl
     go true q = ne (omega (arith, same, digit (numberOf v) (placeOf v) (ltb-true (numberOf v) 10 q)))
     go false q = omega (arith, same, digit-ten (numberOf v) (placeOf v) (ltb-false (numberOf v) 10 q) (omega (arith, number-few v)))
 
-refusal-printable : (v : Verdict) → numberOf v ≢ 8 → numberOf v ≢ 9 → Printable (refusalOf v)
+refusal-printable : (v : Verdict) → numberOf v ≢ 8 → Printable (refusalOf v)
 unfolding refusalOf refusalText lineText
-refusal-printable v a b = record {
+refusal-printable v a = record {
   some = omega arith;
   never-8 = λ place. other-number v 8 place (omega arith) (omega arith) a;
-  never-9 = λ place. other-number v 9 place (omega arith) (omega arith) b;
+  never-9 = λ place. other-number v 9 place (omega arith) (omega arith) (no-nine v);
 }
 
 -- a text that begins with another letter
@@ -110,7 +103,7 @@ either-printable v text p q = go (eqb (numberOf v) 0) refl
 
 module _ (n : ℕ) (couplers gates : List ℕ) where
   refused-printable : Printable (refusalOf (judgedStretches n couplers gates))
-  refused-printable = refusal-printable (judgedStretches n couplers gates) (judging-never-8 n couplers gates) (judging-never-9 n couplers gates)
+  refused-printable = refusal-printable (judgedStretches n couplers gates) (judging-never-8 n couplers gates)
 
   job-printable : Printable (laidJob n couplers gates)
   unfolding laidJob textOf lineText
@@ -122,8 +115,7 @@ module _ (n : ℕ) (couplers gates : List ℕ) where
 
 module _ (s : List ℕ) where
   unread-printable : Printable (refusalOf (judgedReading s mostCouplerLines mostGateLines))
-  unread-printable =
-      refusal-printable (judgedReading s mostCouplerLines mostGateLines) (reading-never-8 s) (reading-never-9 s)
+  unread-printable = refusal-printable (judgedReading s mostCouplerLines mostGateLines) (reading-never-8 s)
 
   pub laid-printable : Printable (laidText s)
   unfolding laidText

@@ -14,7 +14,7 @@ use Rattle.verdicts.specs.Verdicts.{numberOf}
 use Rattle.tallies.specs.Tally.{largest}
 use Rattle.chip.specs.Couplers.{nearOf}
 use Rattle.chip.specs.Ordered.{orderedList}
-use Rattle.laying.specs.Verdict.{verdictOf}
+use Rattle.judging.specs.Tests.{verdictOf}
 use Rattle.stretches.specs.Cut.{Each}
 use Rattle.stretches.specs.Stretches.{stretchAt, restFrom}
 use Rattle.stretches.specs.Tests.{judgedStretches}

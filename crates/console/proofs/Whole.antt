@@ -12,7 +12,7 @@ use Rattle.gates.specs.declared.gate.Gate.{Gate}
 use Rattle.gates.specs.Limits.{mostQubits}
 use Rattle.gates.specs.Layout.{gateOf, gatesOf}
 use Rattle.verdicts.specs.declared.verdict.Verdict.{Verdict}
-use Rattle.verdicts.specs.declared.verdict.Verdict.the-variants.{Accepted, Qubits, ManyCouplers, WrongCoupler, ManyGates, BadGate, ManyParities, Unreachable, Room, Stuck, Line, LongText}
+use Rattle.verdicts.specs.declared.verdict.Verdict.the-variants.{Accepted, Qubits, ManyCouplers, WrongCoupler, ManyGates, BadGate, ManyParities, Unreachable, Room, Line, LongText}
 use Rattle.verdicts.specs.Verdicts.{numberOf, placeOf}
 use Rattle.verdicts.proofs.Passing.{drawn-accepted}
 use Rattle.tallies.specs.Tally.{cnotsOf, rotationsOf, depthOf, boundOf}
@@ -47,7 +47,6 @@ number-few (BadGate k) = omega arith
 number-few (ManyParities k) = omega arith
 number-few (Unreachable k) = omega arith
 number-few Room = omega arith
-number-few Stuck = omega arith
 number-few (Line k) = omega arith
 number-few LongText = omega arith
 

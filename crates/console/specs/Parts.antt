@@ -9,7 +9,8 @@ use Rattle.verdicts.specs.Verdicts.{numberOf}
 use Rattle.tallies.specs.Tally.{largest}
 use Rattle.chip.specs.Couplers.{nearOf}
 use Rattle.chip.specs.Ordered.{orderedList}
-use Rattle.laying.specs.Verdict.{answered, phaseIn, verdictOf}
+use Rattle.judging.specs.Tests.{verdictOf}
+use Rattle.laying.specs.Answers.{answered, phaseIn}
 use Rattle.stretches.specs.Stretches.{stretchAt}
 use Rattle.stretches.specs.Tests.{judgedStretches}
 use Rattle.stretches.specs.Laid.{stretchRecords}

@@ -29,7 +29,7 @@ use Rattle.meaning.proofs.Terms.{termTable, terms-table}
 use Rattle.table.proofs.Keeping.{take-padded}
 use Rattle.chip.specs.Couplers.{nearOf}
 use Rattle.isles.specs.Islands.{islandsOf}
-use Rattle.judging.specs.Tests.{judgedCount, judgedParities, strayAt, scattered, judgedReach, judgedRoom, judgedMeaning, judgedJob}
+use Rattle.judging.specs.Tests.{judgedCount, judgedParities, strayAt, scattered, judgedReach, judgedRoom, judgedMeaning, verdictOf}
 
 -- ---- 6
 
@@ -183,18 +183,18 @@ qubits-few n e = go (leb 1 n) (leb n 20) refl refl e
     go false b p q z = absurd (let y : _≡_ {A = ℕ} 1 0 = z in omega arith)
 
 module _ (n : ℕ) (xs ys : List ℕ) (room : ℕ) where
-  pub job-qubits : (numberOf (judgedQubits n) ≡ 0 → ⊥) → judgedQubits n ≡ judgedJob n xs ys room
-  unfolding judgedJob
+  pub job-qubits : (numberOf (judgedQubits n) ≡ 0 → ⊥) → judgedQubits n ≡ verdictOf n xs ys room
+  unfolding verdictOf
   job-qubits a = then-stop (judgedQubits n) _ a
 
   module _ (a : numberOf (judgedQubits n) ≡ 0) where
-    pub job-couplers : (numberOf (judgedCouplers n xs) ≡ 0 → ⊥) → judgedCouplers n xs ≡ judgedJob n xs ys room
-    unfolding judgedJob
+    pub job-couplers : (numberOf (judgedCouplers n xs) ≡ 0 → ⊥) → judgedCouplers n xs ≡ verdictOf n xs ys room
+    unfolding verdictOf
     job-couplers b = then-stop (judgedCouplers n xs) _ b ∙ then-on (judgedQubits n) _ a
 
     module _ (b : numberOf (judgedCouplers n xs) ≡ 0) where
-      pub job-count : 4096 < length ys → ManyGates ≡ judgedJob n xs ys room
-      unfolding judgedJob judgedCount
+      pub job-count : 4096 < length ys → ManyGates ≡ verdictOf n xs ys room
+      unfolding verdictOf judgedCount
       job-count h =
           let c : judgedCount ys ≡ ManyGates = ap (λ (t : Bool). pick t ManyGates Accepted) (lt-ltb 4096 (length ys) h) in
           sym c ∙ then-stop (judgedCount ys) _ (λ z. let y : _≡_ {A = ℕ} 4 0 = sym (ap numberOf c) ∙ z in omega arith)
@@ -205,10 +205,10 @@ module _ (n : ℕ) (xs ys : List ℕ) (room : ℕ) where
         unfolding judgedCount
         count-zero = ap (λ (t : Bool). numberOf (pick t ManyGates Accepted)) (le-ltb 4096 (length ys) few)
 
-        pub job-gates : (numberOf (judgedGates n ys) ≡ 0 → ⊥) → judgedGates n ys ≡ judgedJob n xs ys room
-        unfolding judgedJob
+        pub job-gates : (numberOf (judgedGates n ys) ≡ 0 → ⊥) → judgedGates n ys ≡ verdictOf n xs ys room
+        unfolding verdictOf
         job-gates d = then-stop (judgedGates n ys) _ d ∙ then-on (judgedCount ys) _ count-zero ∙ then-on (judgedCouplers n xs) _ b ∙ then-on (judgedQubits n) _ a
 
-        pub job-meaning : numberOf (judgedGates n ys) ≡ 0 → judgedMeaning n xs (gatesOf n ys) room ≡ judgedJob n xs ys room
-        unfolding judgedJob
+        pub job-meaning : numberOf (judgedGates n ys) ≡ 0 → judgedMeaning n xs (gatesOf n ys) room ≡ verdictOf n xs ys room
+        unfolding verdictOf
         job-meaning d = then-on (judgedGates n ys) _ d ∙ then-on (judgedCount ys) _ count-zero ∙ then-on (judgedCouplers n xs) _ b ∙ then-on (judgedQubits n) _ a

@@ -67,7 +67,7 @@ unfoldable pub judgedMeaning : ℕ → List ℕ → List Gate → ℕ → Verdic
 judgedMeaning n couplers gs room =
     andThen (judgedParities gs) (andThen (judgedReach n (islandsOf (nearOf n couplers)) gs) (judgedRoom n gs room))
 
--- 1 to 8
-unfoldable pub judgedJob : ℕ → List ℕ → List ℕ → ℕ → Verdict
-judgedJob n couplers gates room =
+-- "Laying tests 1 to 9 in that order", 9 being gone with request E7
+unfoldable pub verdictOf : ℕ → List ℕ → List ℕ → ℕ → Verdict
+verdictOf n couplers gates room =
     andThen (judgedQubits n) (andThen (judgedCouplers n couplers) (andThen (judgedCount gates) (andThen (judgedGates n gates) (judgedMeaning n couplers (gatesOf n gates) room))))

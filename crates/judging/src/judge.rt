@@ -1,4 +1,4 @@
-// Tests 1 to 8 in document 01's order. (Test 9 is laying itself.)
+// Tests 1 to 8 in document 01's order.
 use crate::reach;
 use chip::couplers;
 use gates::job::Job;
@@ -10,7 +10,7 @@ use verdicts::verdict::Verdict;
 ghost use mathlib.Core.Path.{_≡_};
 ghost use Prim.Native.Nat.{_≤_};
 ghost use Rattle.gates.specs.Layout.{gatesOf};
-ghost use Rattle.judging.specs.Tests.{judgedMeaning, judgedJob};
+ghost use Rattle.judging.specs.Tests.{judgedMeaning, verdictOf};
 
 // Tests 6, 7 and 8.
 fn judge_meaning(n: usize, couplers: &[u32], gates: &[u32], room: usize) -> Verdict
@@ -43,7 +43,7 @@ fn judge_meaning(n: usize, couplers: &[u32], gates: &[u32], room: usize) -> Verd
 }
 
 pub fn judge(n: usize, couplers: &[u32], gates: &[u32], room: usize) -> Verdict
-    ensures { λ r. ⌜ r ≡ judgedJob n (now (couplers .entry)) (now (gates .entry)) room ⌝ }
+    ensures { λ r. ⌜ r ≡ verdictOf n (now (couplers .entry)) (now (gates .entry)) room ⌝ }
 {
     let qubits = verdict::judge_qubits(n);
     if verdict::number(qubits) != 0 {

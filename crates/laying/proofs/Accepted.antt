@@ -1,23 +1,17 @@
 -- The circuit of a job that can be laid: its meaning, its couplers, its size; and test 9 is always passed. Assumes nothing.
 use mathlib.Core.Path.{_≡_, refl, sym, ap, _∙_}
-use mathlib.Core.Bool.{Bool, false}
 use mathlib.Core.List.{List, [], _∷_}
 use Prim.Native.Nat.{ℕ, _+_, _-_, _*_, _%_, _≤_, _<_}
 use native.Mathlib.Omega.{arith}
 use lib.ListN.{length, getD}
-use Rattle.sets.specs.Pick.{pick, both}
-use Rattle.sets.proofs.Finding.{first-is, some-no}
 use Rattle.gates.specs.declared.gate.Gate.{Gate}
 use Rattle.gates.specs.declared.gate.Gate.the-variants.{Cnot, Rotation, X, Bad}
-use Rattle.verdicts.specs.declared.verdict.Verdict.the-variants.{Accepted, Stuck}
 use Rattle.gates.specs.Layout.{gatesOf, Good}
 use Rattle.meaning.specs.Borne.{terms}
 use Rattle.gates.specs.All.{All}
 use Rattle.gates.specs.Listed.{OnCoupler}
 use Rattle.meaning.specs.Same.{Alike, SameMeaning, Reachable}
 use Rattle.tallies.specs.Tally.{tally, oneCnot, oneRotation, cnotsOf, rotationsOf, xsOf, boundOf}
-use Rattle.verdicts.specs.Verdicts.{numberOf}
-use Rattle.verdicts.proofs.Judged.{then-on}
 use Rattle.gates.proofs.Alls.{all-map, all-append}
 use Rattle.meaning.proofs.Bearing.{terms-few}
 use Rattle.tallies.proofs.Tallies.{bound-most}
@@ -36,22 +30,19 @@ use Rattle.chip.specs.Couplers.{nearOf}
 use Rattle.isles.specs.Islands.{islandOf}
 use Rattle.columns.specs.Terms.{Inside}
 use Rattle.share.specs.Own.{ownSets}
-use Rattle.laying.specs.Islands.{leads, laidTo}
-use Rattle.laying.specs.Laid.{onIsland, withFlips, laidOf, stuckOn}
+use Rattle.laying.specs.Islands.{laidTo}
+use Rattle.laying.specs.Laid.{onIsland, withFlips, laidOf}
 use Rattle.laying.specs.Layable.{Layable}
 use Rattle.ways.specs.Memory.{Fine}
-use Rattle.judging.specs.Tests.{judgedJob}
-use Rattle.laying.specs.Verdict.{judgedStuck, verdictOf, circuitOf}
+use Rattle.laying.specs.Answers.{circuitOf}
 use Rattle.laying.specs.Demands.{xsAt}
 use Rattle.laying.proofs.Parting.{Parts}
 use Rattle.laying.proofs.Composing.{laid-all}
 use Rattle.laying.proofs.Counting.{tally-laid, over-ext}
 use Rattle.laying.proofs.Job.{parts, island-good, island-coupled, finals-same, sums-given, laid-rotations, laid-cnots}
-use Rattle.laying.proofs.Both.{island-lays, island-placed, never-stuck}
+use Rattle.laying.proofs.Both.{island-lays, island-placed}
 use Rattle.laying.proofs.Flipping.{behind-tally, laid-run, laid-given, laid-flips, laid-quiet}
 use Rattle.laying.proofs.FlipCounts.{laid-xs, laid-xs-at}
-use Rattle.laying.proofs.Accepting.{job-layable}
-use Rattle.sets.proofs.Deciding.{both-no}
 
 -- a good gate is a CNOT, a rotation or an X
 good-length : (n : ℕ) (gs : List Gate) → All (Good n) gs → length gs ≡ cnotsOf gs + rotationsOf gs + xsOf gs
@@ -77,7 +68,7 @@ module _ (n : ℕ) (xs ys : List ℕ) (job : Layable n xs ys) where
 
   -- what each island gets, and all of that without its X gates
   abbrev plain : ℕ → List Gate
-  plain q = onIsland (nearOf n xs) gs q .laid
+  plain q = onIsland (nearOf n xs) gs q
 
   abbrev I : List Gate
   I = laidTo isl plain n
@@ -185,22 +176,3 @@ module _ (n : ℕ) (xs ys : List ℕ) (job : Layable n xs ys) where
     few = omega (arith, circuit-bounded, bound-most n (length (terms gs)) (job .few) (omega (arith, terms-few gs, job .fit)));
     good = all-map (Good n) (Good 20) (λ g h. good-up n 20 g (job .few) h) C circuit-good;
   }
-
-  -- "steps ran out" on no island
-  pub none-stuck : stuckOn n (nearOf n xs) gs ≡ false
-  unfolding stuckOn
-  none-stuck =
-      some-no stuck n n (omega arith)
-      (first-is stuck n n (omega arith) (λ (h : n < n). absurd (omega arith)) (λ q l. both-no (leads (islandOf (nearOf n xs)) q) (onIsland (nearOf n xs) gs q .stuck) (never-stuck n xs ys job q l)))
-    where
-      stuck : ℕ → Bool
-      stuck q = both (leads (islandOf (nearOf n xs)) q) (onIsland (nearOf n xs) gs q .stuck)
-
-  pub stuck-passed : judgedStuck n (nearOf n xs) gs ≡ Accepted
-  unfolding judgedStuck
-  stuck-passed = ap (λ (b : Bool). pick b Stuck Accepted) none-stuck
-
--- past tests 1 to 8 a job is accepted
-pub job-accepted : (n : ℕ) (xs ys : List ℕ) (room : ℕ) → numberOf (judgedJob n xs ys room) ≡ 0 → verdictOf n xs ys room ≡ Accepted
-unfolding verdictOf
-job-accepted n xs ys room e = sym (then-on (judgedJob n xs ys room) (judgedStuck n (nearOf n xs) (gatesOf n ys)) e) ∙ stuck-passed n xs ys (job-layable n xs ys room e)

@@ -6,26 +6,24 @@ use mathlib.Core.List.{List}
 use Prim.Native.Nat.{ℕ, _^_, _≤_, _<_}
 use native.Mathlib.Nat.{lt-of-lt-of-le}
 use native.Mathlib.Omega.{arith}
-use lib.Dec.{ltb, leb, eqb}
+use lib.Dec.{ltb}
 use lib.ListN.{length, getD}
 use lib.Pow.{pow-mono}
 use borrow.Author.Tests.{ltb-true, ltb-false}
-use Rattle.sets.specs.Pick.{pick, both}
+use Rattle.sets.specs.Pick.{pick}
 use Rattle.sets.specs.Bit.{Sub}
 use Rattle.sets.specs.Size.{lowestOf}
 use Rattle.sets.specs.Search.{firstOf, someOf}
 use Rattle.sets.proofs.Finding.{first-true, first-before, first-is, some-no}
 use Rattle.sets.proofs.Words.{lowest-in, lowest-below}
 use Rattle.gates.specs.declared.gate.Gate.{Gate}
-use Rattle.verdicts.specs.declared.verdict.Verdict.{Verdict}
-use Rattle.verdicts.specs.declared.verdict.Verdict.the-variants.{Accepted, Qubits, ManyCouplers, WrongCoupler, ManyGates, BadGate, ManyParities, Unreachable, Room}
+use Rattle.verdicts.specs.declared.verdict.Verdict.the-variants.{Accepted, ManyParities, Unreachable, Room}
 use Rattle.gates.specs.Layout.{gatesOf, Good}
 use Rattle.circuit.specs.Circuit.{run, start, finalOf}
 use Rattle.meaning.specs.Borne.{Among, terms, overAt}
 use Rattle.gates.specs.All.{All}
 use Rattle.tallies.specs.Tally.{boundOf}
-use Rattle.verdicts.specs.Verdicts.{numberOf, placeOf, wrongAt, badAt, judgedQubits, judgedCouplers, judgedGates}
-use Rattle.verdicts.specs.InOrder.{andThen}
+use Rattle.verdicts.specs.Verdicts.{numberOf, placeOf, judgedQubits, judgedCouplers, judgedGates}
 use Rattle.verdicts.proofs.Judged.{zero-accepted, then-zero}
 use Rattle.circuit.proofs.Circuits.{final-is}
 use Rattle.meaning.proofs.Bearing.{borne-not-empty, borne-below, term-among, among-term, terms-borne}
@@ -37,7 +35,7 @@ use Rattle.isles.proofs.Isles.{getD-islands}
 use Rattle.share.specs.Own.{insideOf}
 use Rattle.laying.specs.Reach.{Within}
 use Rattle.laying.specs.Layable.{Layable}
-use Rattle.judging.specs.Tests.{judgedCount, judgedParities, leavesAt, strayAt, scatters, scattered, judgedReach, judgedRoom, judgedMeaning, judgedJob}
+use Rattle.judging.specs.Tests.{judgedCount, judgedParities, leavesAt, strayAt, scatters, scattered, judgedReach, judgedRoom, judgedMeaning, verdictOf}
 use Rattle.laying.proofs.Parting.{inside-sub, sub-inside}
 use Rattle.laying.proofs.Job.{parts}
 use Rattle.judging.proofs.Judging.{over-le, over-few, reach-pass, qubits-few}
@@ -172,7 +170,7 @@ room-enough n gs room e = go (ltb room (boundOf n (length (terms gs)))) refl e
 
 -- ---- all
 
-module _ (n : ℕ) (xs ys : List ℕ) (room : ℕ) (e : numberOf (judgedJob n xs ys room) ≡ 0) where
+module _ (n : ℕ) (xs ys : List ℕ) (room : ℕ) (e : numberOf (verdictOf n xs ys room) ≡ 0) where
   abbrev gs : List Gate
   gs = gatesOf n ys
 
@@ -185,7 +183,7 @@ module _ (n : ℕ) (xs ys : List ℕ) (room : ℕ) (e : numberOf (judgedJob n xs
     lent : numberOf (judgedRoom n gs room) ≡ 0
 
   passed : Passed
-  unfolding judgedJob judgedMeaning
+  unfolding verdictOf judgedMeaning
   passed =
       let a = then-zero (judgedQubits n) _ e in
       let b = then-zero (judgedCouplers n xs) _ (a .1) in
@@ -215,76 +213,11 @@ module _ (n : ℕ) (xs ys : List ℕ) (room : ℕ) (e : numberOf (judgedJob n xs
 
 -- ---- which numbers
 
-abbrev NotNine : Verdict → Type 0
-NotNine v = numberOf v ≢ 9
-
-not-nine : (b : Bool) (v w : Verdict) → NotNine v → NotNine w → NotNine (pick b v w)
-not-nine true v w a b = a
-not-nine false v w a b = b
-
-nor-then : (v w : Verdict) → NotNine v → NotNine w → NotNine (andThen v w)
-nor-then v w a b = not-nine (eqb (numberOf v) 0) w v b a
-
-passing : NotNine Accepted
-passing h = omega arith
-
-nor-qubits : (n : ℕ) → NotNine (judgedQubits n)
-unfolding judgedQubits
-nor-qubits n = not-nine (both (leb 1 n) (leb n 20)) Accepted Qubits passing (λ h. omega arith)
-
-nor-couplers : (n : ℕ) (xs : List ℕ) → NotNine (judgedCouplers n xs)
-unfolding judgedCouplers
-nor-couplers n xs =
-    not-nine (ltb 190 (length xs)) ManyCouplers (pick (ltb (wrongAt n xs) (length xs)) (WrongCoupler (wrongAt n xs)) Accepted) (λ h. omega arith)
-    (not-nine (ltb (wrongAt n xs) (length xs)) (WrongCoupler (wrongAt n xs)) Accepted (λ h. omega arith) passing)
-
-nor-count : (ys : List ℕ) → NotNine (judgedCount ys)
-unfolding judgedCount
-nor-count ys = not-nine (ltb 4096 (length ys)) ManyGates Accepted (λ h. omega arith) passing
-
-nor-gates : (n : ℕ) (ys : List ℕ) → NotNine (judgedGates n ys)
-unfolding judgedGates
-nor-gates n ys = not-nine (ltb (badAt n ys) (length ys)) (BadGate (badAt n ys)) Accepted (λ h. omega arith) passing
-
-nor-parities : (gs : List Gate) → NotNine (judgedParities gs)
-unfolding judgedParities
-nor-parities gs = not-nine (ltb (overAt gs) (length gs)) (ManyParities (overAt gs)) Accepted (λ h. omega arith) passing
-
-nor-reach : (n : ℕ) (islands : List ℕ) (gs : List Gate) → NotNine (judgedReach n islands gs)
-unfolding judgedReach
-nor-reach n islands gs =
-    let k : ℕ = strayAt n islands (run gs start) in
-    not-nine (ltb k n) (Unreachable k) (pick (scattered islands (terms gs)) (Unreachable n) Accepted) (λ h. omega arith)
-    (not-nine (scattered islands (terms gs)) (Unreachable n) Accepted (λ h. omega arith) passing)
-
-nor-room : (n : ℕ) (gs : List Gate) (room : ℕ) → NotNine (judgedRoom n gs room)
+pub room-number : (n : ℕ) (gs : List Gate) (room : ℕ) → numberOf (judgedRoom n gs room) ≢ 7
 unfolding judgedRoom
-nor-room n gs room = not-nine (ltb room (boundOf n (length (terms gs)))) Room Accepted (λ h. omega arith) passing
-
--- tests 1 to 8 never answer 9
-pub job-not-stuck : (n : ℕ) (xs ys : List ℕ) (room : ℕ) → numberOf (judgedJob n xs ys room) ≢ 9
-unfolding judgedJob judgedMeaning
-job-not-stuck n xs ys room =
-    let gs : List Gate = gatesOf n ys in
-    let isls : List ℕ = islandsOf (nearOf n xs) in
-    let reach : Verdict = andThen (judgedReach n isls gs) (judgedRoom n gs room) in
-    let meaning : Verdict = andThen (judgedParities gs) reach in
-    let drawn : Verdict = andThen (judgedGates n ys) meaning in
-    let counted : Verdict = andThen (judgedCount ys) drawn in
-    let listed : Verdict = andThen (judgedCouplers n xs) counted in
-    nor-then (judgedQubits n) listed (nor-qubits n)
-    (nor-then (judgedCouplers n xs) counted (nor-couplers n xs)
-    (nor-then (judgedCount ys) drawn (nor-count ys)
-    (nor-then (judgedGates n ys) meaning (nor-gates n ys)
-    (nor-then (judgedParities gs) reach (nor-parities gs)
-    (nor-then (judgedReach n isls gs) (judgedRoom n gs room) (nor-reach n isls gs) (nor-room n gs room))))))
-
--- once tests 7 and 9 are passed there is no 7
-pub room-number : (n : ℕ) (gs : List Gate) (room : ℕ) → numberOf (andThen (andThen Accepted (judgedRoom n gs room)) Accepted) ≢ 7
-unfolding judgedRoom
-room-number n gs room h = go (ltb room (boundOf n (length (terms gs)))) h
+room-number n gs room = go (ltb room (boundOf n (length (terms gs))))
   where
-    go : (b : Bool) → numberOf (andThen (pick b Room Accepted) Accepted) ≡ 7 → ⊥
+    go : (b : Bool) → numberOf (pick b Room Accepted) ≢ 7
     go true h = let y : _≡_ {A = ℕ} 8 7 = h in omega arith
     go false h = let y : _≡_ {A = ℕ} 0 7 = h in omega arith
 

@@ -13,36 +13,17 @@ use Rattle.verdicts.specs.declared.verdict.Verdict.{Verdict}
 use Rattle.gates.specs.Layout.{gatesOf, recordOf}
 use Rattle.circuit.specs.Phase.{phaseOf}
 use Rattle.verdicts.specs.Verdicts.{numberOf}
-use Rattle.verdicts.proofs.Judged.{then-stop}
 use Rattle.emitting.specs.Emit.{emit, emitAt}
 use Rattle.emitting.proofs.Emitting.{emit-room}
-use Rattle.steps.specs.declared.Laid.{Laid}
-use Rattle.steps.specs.declared.Laid.the-variants.{On, Stuck}
 use Rattle.laying.specs.declared.lay.Answer.{Answer}
 use Rattle.laying.specs.declared.lay.Answer.the-variants.{Refused}
 use Rattle.laying.specs.Layable.{Layable}
-use Rattle.judging.specs.Tests.{judgedJob}
-use Rattle.laying.specs.Verdict.{verdictOf, circuitOf, countsOf, answered, outputOf}
+use Rattle.judging.specs.Tests.{verdictOf}
+use Rattle.laying.specs.Answers.{circuitOf, countsOf, answered, outputOf}
 use Rattle.ways.proofs.Replaying.{zeros, gates-read, held-fine}
 use Rattle.ways.proofs.Owned.{part-held}
 use Rattle.laying.proofs.Accepting.{job-layable, job-room}
-use Rattle.laying.proofs.Accepted.{circuit-good, circuit-fine, circuit-bounded, job-accepted}
-
--- ---- an answer of `lay_islands`
-
-pub on-same : (r : Laid) (k m : ℕ) → r ≡ On k → r ≡ On m → k ≡ m
-on-same r k m a b = ap place (sym a ∙ b)
-  where
-    place : Laid → ℕ
-    place (On i) = i
-    place (Stuck i) = 0
-
-pub on-not-stuck : (r : Laid) (k m : ℕ) → r ≡ On k → r ≡ Stuck m → ⊥
-on-not-stuck r k m a b = let z : _≡_ {A = ℕ} 1 0 = ap mark (sym a ∙ b) in omega arith
-  where
-    mark : Laid → ℕ
-    mark (On i) = 1
-    mark (Stuck i) = 0
+use Rattle.laying.proofs.Accepted.{circuit-good, circuit-fine, circuit-bounded}
 
 module _ (n : ℕ) (xs ys : List ℕ) (out : List ℕ) where
   abbrev room : ℕ
@@ -53,23 +34,22 @@ module _ (n : ℕ) (xs ys : List ℕ) (out : List ℕ) where
 
   -- ---- refused
 
-  pub refused : (v : Verdict) → v ≡ judgedJob n xs ys room → (numberOf v ≡ 0 → ⊥) → (Refused v ≡ answered n xs ys room) × (out ≡ outputOf n xs ys out)
-  unfolding answered outputOf verdictOf
+  pub refused : (v : Verdict) → v ≡ verdictOf n xs ys room → (numberOf v ≡ 0 → ⊥) → (Refused v ≡ answered n xs ys room) × (out ≡ outputOf n xs ys out)
+  unfolding answered outputOf
   refused v e ne =
-      let w : judgedJob n xs ys room ≡ verdictOf n xs ys room = then-stop (judgedJob n xs ys room) _ (λ z. ne (ap numberOf e ∙ z)) in
-      let b : eqb (numberOf (verdictOf n xs ys room)) 0 ≡ false = ne-eqb (numberOf (verdictOf n xs ys room)) 0 (λ z. ne (ap numberOf (e ∙ w) ∙ z)) in (
-        ap Refused (e ∙ w) ∙ sym (ap (λ (t : Bool). pick t (countsOf C (phaseOf (gatesOf n ys))) (Refused (verdictOf n xs ys room))) b),
+      let b : eqb (numberOf (verdictOf n xs ys room)) 0 ≡ false = ne-eqb (numberOf (verdictOf n xs ys room)) 0 (λ z. ne (ap numberOf e ∙ z)) in (
+        ap Refused e ∙ sym (ap (λ (t : Bool). pick t (countsOf C (phaseOf (gatesOf n ys))) (Refused (verdictOf n xs ys room))) b),
         sym (ap (λ (t : Bool). pick t (map recordOf C ++ drop (length C) out) out) b),
       )
 
   -- ---- accepted
 
-  module _ (e : numberOf (judgedJob n xs ys room) ≡ 0) where
+  module _ (e : numberOf (verdictOf n xs ys room) ≡ 0) where
     abbrev job : Layable n xs ys
     job = job-layable n xs ys room e
 
     accepted : eqb (numberOf (verdictOf n xs ys room)) 0 ≡ true
-    accepted = eq-eqb (numberOf (verdictOf n xs ys room)) 0 (ap numberOf (job-accepted n xs ys room e))
+    accepted = eq-eqb (numberOf (verdictOf n xs ys room)) 0 e
 
     module _ (laid : List ℕ) (k : ℕ) (a : laid ≡ emit zeros 0 C) (b : k ≡ emitAt zeros 0 C) where
       counts-are : (r : Answer) (phase : ℕ) → phase ≡ phaseOf (gatesOf n ys) → r ≡ countsOf (gatesOf n (take k laid)) phase → r ≡ answered n xs ys room

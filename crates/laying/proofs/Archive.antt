@@ -22,14 +22,15 @@ use Rattle.share.specs.Own.{ownSets}
 use Rattle.laying.specs.Islands.{leads, laidTo}
 use Rattle.laying.specs.Laid.{onIsland, withFlips, laidOf}
 use Rattle.laying.specs.Layable.{Layable}
-use Rattle.laying.specs.Verdict.{verdictOf, circuitOf, laidRecords}
+use Rattle.judging.specs.Tests.{verdictOf}
+use Rattle.laying.specs.Answers.{circuitOf, laidRecords}
 use Rattle.laying.specs.Demands.{Linked, same, more, Island, gatesOn, SameCouplers, Agree}
 use Rattle.laying.proofs.Job.{parts}
 use Rattle.laying.proofs.Both.{island-placed}
 use Rattle.laying.proofs.Alike.{flips-on, gates-on}
 use Rattle.laying.proofs.Accepting.{job-layable, job-listed}
 use Rattle.laying.proofs.Linking.{linked-in, in-linked, island-found}
-use Rattle.laying.proofs.Demands.{accepted-job, records-are, demand-2, demand-2-lent, demand-3}
+use Rattle.laying.proofs.Demands.{records-are, demand-2, demand-2-lent, demand-3}
 
 -- ---- one job
 
@@ -41,10 +42,10 @@ module _ (n : ℕ) (couplers gates : List ℕ) (room : ℕ) (accepted : numberOf
   on = withFlips (nearOf n couplers) (gatesOf n gates)
 
   job : Layable n couplers gates
-  job = job-layable n couplers gates room (accepted-job n couplers gates room accepted)
+  job = job-layable n couplers gates room accepted
 
   listed : judgedCouplers n couplers ≡ Accepted
-  listed = job-listed n couplers gates room (accepted-job n couplers gates room accepted)
+  listed = job-listed n couplers gates room accepted
 
   qubit-island : (q : ℕ) → q < n → Island n couplers (isl q) q
   qubit-island q h = record {
@@ -67,7 +68,7 @@ module _ (n : ℕ) (couplers gates : List ℕ) (room : ℕ) (accepted : numberOf
   led q h e =
       ap (gatesOn (isl q)) circuit-laid
       ∙ gates-on n isl (job .few) (parts n couplers (job .few)) on
-      (λ k l. unfold withFlips in flips-on (ownSets (isl k) (nearOf n couplers)) (isl k) (flipRun (gatesOf n gates) noFlips) (onIsland (nearOf n couplers) (gatesOf n gates) k .laid) (island-placed n couplers gates job k l .inside))
+      (λ k l. unfold withFlips in flips-on (ownSets (isl k) (nearOf n couplers)) (isl k) (flipRun (gatesOf n gates) noFlips) (onIsland (nearOf n couplers) (gatesOf n gates) k) (island-placed n couplers gates job k l .inside))
       q h e n (omega arith) h
 
 -- ---- two jobs

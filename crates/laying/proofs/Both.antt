@@ -1,4 +1,4 @@
--- A job that passed tests 1 to 7 is laid by the shorter of the two ways on each island: never stuck, and all that `Job` says. Assumes nothing.
+-- A job that passed tests 1 to 7 is laid by the shorter of the two ways on each island, where the steps always have a qubit to go on with: all that `Job` says. Assumes nothing.
 use mathlib.Core.Path.{_≡_, refl}
 use mathlib.Core.Logic.{_≢_}
 use mathlib.Core.Bool.{Bool, true, false}
@@ -24,13 +24,14 @@ use Rattle.isles.proofs.Isles.{island-lt}
 use Rattle.columns.specs.Terms.{LaysTerms, totalOf}
 use Rattle.columns.proofs.Inside.{inside-length, inside-good}
 use Rattle.steps.specs.Steps.{stepsFor}
-use Rattle.steps.proofs.Terms.{steps-on, steps-lay}
+use Rattle.steps.specs.Neighbours.{GoesOn}
+use Rattle.steps.proofs.Terms.{always-a-neighbour, steps-lay}
 use Rattle.nearest.specs.Nearest.{nearestFor}
 use Rattle.nearest.proofs.Lays.{nearest-lays}
 use Rattle.ending.specs.Mirror.{mirrorsOf}
 use Rattle.share.specs.Own.{ownSets, ownTerms}
 use Rattle.ways.specs.Ways.{withClosing, shorter, islandLaid}
-use Rattle.laying.specs.Laid.{onIsland}
+use Rattle.laying.specs.Laid.{onIsland, GoesOnIsland}
 use Rattle.laying.specs.Layable.{Layable}
 use Rattle.ways.specs.Memory.{Fine}
 use Rattle.laying.proofs.Composing.{Lays}
@@ -57,9 +58,9 @@ pub nearest-work : Works byNearest
 unfolding OnIslands
 nearest-work near Q ps angles sy low j own up term few size = nearest-lays near Q ps angles sy j low few (each-term Q ps term)
 
-steps-never : OnIslands (λ near Q ps angles. stepsFor near Q ps angles .stuck ≡ false)
+steps-go-on : OnIslands GoesOn
 unfolding OnIslands
-steps-never near Q ps angles sy low j own up term few size = steps-on near Q ps angles low sy j few (each-term Q ps term)
+steps-go-on near Q ps angles sy low j own up term few size = always-a-neighbour near Q ps angles low sy j few (each-term Q ps term)
 
 -- what holds of both ways holds of the shorter
 of-shorter : (P : List Gate → Type 0) (a b : List Gate) → P a → P b → P (shorter a b)
@@ -125,24 +126,23 @@ module _ (n : ℕ) (xs ys : List ℕ) (job : Layable n xs ys) where
       pub ended-fine : Fine (ended q L)
       ended-fine = placed-fine (ended q L) (way-placed n xs gs (job .few) (job .good) (job .fit) (job .within) q l way works)
 
-    pub island-shorter : onIsland (nearOf n xs) gs q .laid ≡ shorter (ended q (bySteps (near q) (Q q) (ps q) (angles q))) (ended q (byNearest (near q) (Q q) (ps q) (angles q)))
+    pub island-shorter : onIsland (nearOf n xs) gs q ≡ shorter (ended q (bySteps (near q) (Q q) (ps q) (angles q))) (ended q (byNearest (near q) (Q q) (ps q) (angles q)))
     unfolding onIsland islandLaid
     island-shorter = refl
 
-    of-island : (P : List Gate → Type 0) → ((way : List ℕ → ℕ → List ℕ → List ℕ → List Gate) → Works way → P (ended q (way (near q) (Q q) (ps q) (angles q)))) → P (onIsland (nearOf n xs) gs q .laid)
+    of-island : (P : List Gate → Type 0) → ((way : List ℕ → ℕ → List ℕ → List ℕ → List Gate) → Works way → P (ended q (way (near q) (Q q) (ps q) (angles q)))) → P (onIsland (nearOf n xs) gs q)
     of-island P h = rw island-shorter (of-shorter P (ended q (bySteps (near q) (Q q) (ps q) (angles q))) (ended q (byNearest (near q) (Q q) (ps q) (angles q))) (h bySteps steps-work) (h byNearest nearest-work))
 
-    pub island-lays : Lays (Q q) (λ i. finalOf gs i) (λ p. totalOf p (ps q) (angles q)) (onIsland (nearOf n xs) gs q .laid)
+    pub island-lays : Lays (Q q) (λ i. finalOf gs i) (λ p. totalOf p (ps q) (angles q)) (onIsland (nearOf n xs) gs q)
     island-lays = of-island (Lays (Q q) (λ i. finalOf gs i) (λ p. totalOf p (ps q) (angles q))) (way-lays n xs gs (job .few) (job .good) (job .fit) (job .within) q l)
 
-    pub island-placed : Placed (near q) (Q q) (ps q) (angles q) (onIsland (nearOf n xs) gs q .laid)
+    pub island-placed : Placed (near q) (Q q) (ps q) (angles q) (onIsland (nearOf n xs) gs q)
     island-placed = of-island (Placed (near q) (Q q) (ps q) (angles q)) (way-placed n xs gs (job .few) (job .good) (job .fit) (job .within) q l)
 
     -- no terms, and every wire asked for its own parity: no gates
-    pub island-none : length (ps q) ≡ 0 → ((i : ℕ) → In i (Q q) → getD (ownSets (Q q) (run gs start)) i 0 ≡ 2 ^ i) → onIsland (nearOf n xs) gs q .laid ≡ []
+    pub island-none : length (ps q) ≡ 0 → ((i : ℕ) → In i (Q q) → getD (ownSets (Q q) (run gs start)) i 0 ≡ 2 ^ i) → onIsland (nearOf n xs) gs q ≡ []
     island-none z own = of-island (λ (L : List Gate). L ≡ []) (λ way works. way-none n xs gs (job .few) (job .good) (job .fit) (job .within) q l way works z own)
 
-    -- "steps ran out": never
-    pub never-stuck : onIsland (nearOf n xs) gs q .stuck ≡ false
-    unfolding onIsland islandLaid
-    never-stuck = of-handed n xs gs (job .few) (job .good) (job .fit) (job .within) q l (λ near Q ps angles. stepsFor near Q ps angles .stuck ≡ false) steps-never
+    pub island-goes-on : GoesOnIsland (nearOf n xs) gs q
+    unfolding GoesOnIsland
+    island-goes-on = of-handed n xs gs (job .few) (job .good) (job .fit) (job .within) q l GoesOn steps-go-on

@@ -3,7 +3,7 @@ use mathlib.Core.Path.{_≡_, refl, sym, ap, ap₂, _∙_, subst}
 use mathlib.Core.Logic.{_≢_, _⊎_, inl, inr, _↔_}
 use mathlib.Core.Bool.{Bool, true, false}
 use mathlib.Core.List.{List, _++_, map}
-use Prim.Native.Nat.{ℕ, _≤_}
+use Prim.Native.Nat.{ℕ, _≤_, _<_}
 use native.Mathlib.Omega.{arith}
 use native.Mathlib.Decide.{ℕ-discrete}
 use lib.Dec.{eqb}
@@ -31,14 +31,16 @@ use Rattle.isles.specs.Islands.{islandOf, islandsOf}
 use Rattle.laying.specs.declared.lay.Answer.{Answer}
 use Rattle.laying.specs.declared.lay.Answer.the-variants.{Laid, Refused}
 use Rattle.laying.specs.Layable.{Layable}
-use Rattle.judging.specs.Tests.{judgedCount, judgedParities, judgedReach, judgedRoom, judgedMeaning, judgedJob}
-use Rattle.laying.specs.Verdict.{judgedStuck, verdictOf, circuitOf, countsOf, answered, outputOf, verdictIn, recordsIn, cnotsIn, rotationsIn, depthIn, phaseIn, laidRecords}
+use Rattle.laying.specs.Laid.{GoesOnIsland}
+use Rattle.judging.specs.Tests.{judgedCount, judgedParities, judgedReach, judgedRoom, judgedMeaning, verdictOf}
+use Rattle.laying.specs.Answers.{circuitOf, countsOf, answered, outputOf, verdictIn, recordsIn, cnotsIn, rotationsIn, depthIn, phaseIn, laidRecords}
 use Rattle.laying.specs.Reach.{Within}
 use Rattle.laying.specs.Demands.{Island, InIsland, gatesOn, Faithful, FlipsLast, judgedSix, Stays, InIslands, Strays, Agree}
 use Rattle.laying.proofs.Job.{only-inside}
 use Rattle.judging.proofs.Judging.{qubits-few, over-few}
-use Rattle.laying.proofs.Accepting.{reach-within, within-reach, reach-number, reach-place, parities-whole, job-layable, job-room, job-listed, job-not-stuck, room-number}
-use Rattle.laying.proofs.Accepted.{circuit-quiet, circuit-alike, circuit-phase, circuit-same, circuit-good, circuit-coupled, circuit-rotations, circuit-cnots, circuit-xs, circuit-xs-at, circuit-bounded, circuit-reaches, stuck-passed, job-accepted}
+use Rattle.laying.proofs.Accepting.{reach-within, within-reach, reach-number, reach-place, parities-whole, job-layable, job-room, job-listed, room-number}
+use Rattle.laying.proofs.Accepted.{circuit-quiet, circuit-alike, circuit-phase, circuit-same, circuit-good, circuit-coupled, circuit-rotations, circuit-cnots, circuit-xs, circuit-xs-at, circuit-bounded, circuit-reaches}
+use Rattle.laying.proofs.Both.{island-goes-on}
 use Rattle.laying.proofs.Linking.{linked-in, in-linked}
 use Rattle.laying.proofs.Each.{each-term-once, no-other}
 use Rattle.laying.proofs.Twice.{flips-last, same-gates}
@@ -58,7 +60,7 @@ module _ (n : ℕ) (couplers gates out : List ℕ) where
   abbrev phase : ℕ
   phase = phaseOf (gatesOf n gates)
 
-  -- every job gets the answer of the first test that it fails, of 1 to 9 in that order, or is accepted
+  -- every job gets the answer of the first test that it fails, of 1 to 8 in that order, or is accepted
   pub demand-1-verdict : verdictIn answer ≡ verdict
   unfolding answered
   demand-1-verdict = go (eqb (numberOf verdict) 0) refl
@@ -96,16 +98,11 @@ module _ (n : ℕ) (couplers gates out : List ℕ) where
 
 -- ---- demand 2
 
--- an accepted job passed tests 1 to 8
-pub accepted-job : (n : ℕ) (couplers gates : List ℕ) (room : ℕ) → numberOf (verdictOf n couplers gates room) ≡ 0 → numberOf (judgedJob n couplers gates room) ≡ 0
-unfolding verdictOf
-accepted-job n couplers gates room z = then-zero (judgedJob n couplers gates room) _ z .0
-
 -- the circuit has the meaning of the job, is on its couplers and within the bound
 pub demand-2 : (n : ℕ) (couplers gates : List ℕ) (room : ℕ) → numberOf (verdictOf n couplers gates room) ≡ 0
     → Faithful n couplers (phaseIn (answered n couplers gates room)) (gatesOf n gates) (circuitOf n couplers gates)
 demand-2 n couplers gates room z =
-    let job = job-layable n couplers gates room (accepted-job n couplers gates room z) in
+    let job = job-layable n couplers gates room z in
     record {
       same = subst (λ (f : ℕ). SameMeaning n f (gatesOf n gates) (circuitOf n couplers gates)) (sym returned) (circuit-same n couplers gates job);
       phaseless = circuit-phase n couplers gates job;
@@ -128,7 +125,7 @@ demand-2 n couplers gates room z =
 pub demand-2-flips-last : (n : ℕ) (couplers gates : List ℕ) (room : ℕ) → numberOf (verdictOf n couplers gates room) ≡ 0
     → (S q : ℕ) → Island n couplers S q → FlipsLast S (circuitOf n couplers gates)
 demand-2-flips-last n couplers gates room z S q island =
-    let e = accepted-job n couplers gates room z in flips-last n couplers gates (job-layable n couplers gates room e) (job-listed n couplers gates room e) S q island
+    flips-last n couplers gates (job-layable n couplers gates room z) (job-listed n couplers gates room z) S q island
 
 -- the records laid are the circuit's
 pub records-are : (n : ℕ) (couplers gates out : List ℕ) → numberOf (verdictOf n couplers gates (length out)) ≡ 0
@@ -142,25 +139,17 @@ records-are n couplers gates out z =
 pub demand-2-lent : (n : ℕ) (couplers gates out : List ℕ) → numberOf (verdictOf n couplers gates (length out)) ≡ 0
     → gatesOf n (laidRecords n couplers gates out) ≡ circuitOf n couplers gates
 demand-2-lent n couplers gates out z =
-    let job = job-layable n couplers gates (length out) (accepted-job n couplers gates (length out) z) in
+    let job = job-layable n couplers gates (length out) z in
     ap (gatesOf n) (records-are n couplers gates out z) ∙ records-gates n (circuitOf n couplers gates) (let f = job .few in omega arith) (circuit-good n couplers gates job)
 
 -- B is never exceeded: the records fit the room lent
 pub demand-2-fits : (n : ℕ) (couplers gates : List ℕ) (room : ℕ) → numberOf (verdictOf n couplers gates room) ≡ 0 → length (circuitOf n couplers gates) ≤ room
 demand-2-fits n couplers gates room z =
-    let e = accepted-job n couplers gates room z in
-    omega (arith, circuit-bounded n couplers gates (job-layable n couplers gates room e), job-room n couplers gates room e)
+    omega (arith, circuit-bounded n couplers gates (job-layable n couplers gates room z), job-room n couplers gates room z)
 
--- "steps ran out" is never answered
-pub demand-2-never-9 : (n : ℕ) (couplers gates : List ℕ) (room : ℕ) → numberOf (verdictOf n couplers gates room) ≢ 9
-demand-2-never-9 n couplers gates room h = go (ℕ-discrete (numberOf (judgedJob n couplers gates room)) 0)
-  where
-    stopped : (numberOf (judgedJob n couplers gates room) ≡ 0 → ⊥) → judgedJob n couplers gates room ≡ verdictOf n couplers gates room
-    stopped ne = unfold verdictOf in then-stop (judgedJob n couplers gates room) (judgedStuck n (nearOf n couplers) (gatesOf n gates)) ne
-
-    go : Dec (numberOf (judgedJob n couplers gates room) ≡ 0) → ⊥
-    go (yes z) = let y : _≡_ {A = ℕ} 0 9 = sym (ap numberOf (job-accepted n couplers gates room z)) ∙ h in omega arith
-    go (no ne) = job-not-stuck n couplers gates room (ap numberOf (stopped ne) ∙ h)
+-- on each island every base step has a spare qubit, and every ones step a neighbour to go on with
+pub demand-2-goes-on : (n : ℕ) (couplers gates : List ℕ) (room : ℕ) → numberOf (verdictOf n couplers gates room) ≡ 0 → (q : ℕ) → q < n → GoesOnIsland (nearOf n couplers) (gatesOf n gates) q
+demand-2-goes-on n couplers gates room z q l = island-goes-on n couplers gates (job-layable n couplers gates room z) q l
 
 module _ (n : ℕ) (couplers gates : List ℕ) (room : ℕ) (six : numberOf (judgedSix n couplers gates) ≡ 0) where
   abbrev drawn : List Gate
@@ -194,13 +183,12 @@ module _ (n : ℕ) (couplers gates : List ℕ) (room : ℕ) (six : numberOf (jud
   ok : judgedCouplers n couplers ≡ Accepted
   ok = zero-accepted (judgedCouplers n couplers) (past .listed)
 
-  -- past tests 1 to 6 the verdict is that of 7, 8 and 9
-  rest : andThen (andThen reach (judgedRoom n drawn room)) (judgedStuck n (nearOf n couplers) drawn) ≡ verdictOf n couplers gates room
-  unfolding verdictOf judgedJob judgedMeaning
+  -- past tests 1 to 6 the verdict is that of 7 and 8
+  rest : andThen reach (judgedRoom n drawn room) ≡ verdictOf n couplers gates room
+  unfolding verdictOf judgedMeaning
   rest =
-      ap (λ (v : Verdict). andThen v (judgedStuck n (nearOf n couplers) drawn))
-      (then-on (judgedParities drawn) _ (past .parities) ∙ then-on (judgedGates n gates) _ (past .good) ∙ then-on (judgedCount gates) _ (past .count)
-      ∙ then-on (judgedCouplers n couplers) _ (past .listed) ∙ then-on (judgedQubits n) _ (past .qubits))
+      then-on (judgedParities drawn) _ (past .parities) ∙ then-on (judgedGates n gates) _ (past .good) ∙ then-on (judgedCount gates) _ (past .count)
+      ∙ then-on (judgedCouplers n couplers) _ (past .listed) ∙ then-on (judgedQubits n) _ (past .qubits)
 
   layable : numberOf reach ≡ 0 → Layable n couplers gates
   layable z =
@@ -208,9 +196,7 @@ module _ (n : ℕ) (couplers gates : List ℕ) (room : ℕ) (six : numberOf (jud
       record { few = few; good = allGood; whole = w; fit = over-few drawn w; within = reach-within n couplers drawn few allGood z }
 
   refused-7 : (numberOf reach ≡ 0 → ⊥) → reach ≡ verdictOf n couplers gates room
-  refused-7 ne =
-      let a : reach ≡ andThen reach (judgedRoom n drawn room) = then-stop reach (judgedRoom n drawn room) ne in
-      a ∙ then-stop (andThen reach (judgedRoom n drawn room)) (judgedStuck n (nearOf n couplers) drawn) (λ z. ne (ap numberOf a ∙ z)) ∙ rest
+  refused-7 ne = then-stop reach (judgedRoom n drawn room) ne ∙ rest
 
   reached : Reachable n couplers drawn → reach ≡ Accepted
   reached r = within-reach n couplers drawn few allGood (only-inside n couplers few ok drawn r)
@@ -235,11 +221,7 @@ module _ (n : ℕ) (couplers gates : List ℕ) (room : ℕ) (six : numberOf (jud
 
   -- refused as unreachable only where no circuit of coupler CNOTs and rotations has the meaning
   pub demand-2-unreachable : numberOf (verdictOf n couplers gates room) ≡ 7 → Reachable n couplers drawn → ⊥
-  demand-2-unreachable h r =
-      let p : reach ≡ Accepted = reached r in
-      let q : judgedStuck n (nearOf n couplers) drawn ≡ Accepted = stuck-passed n couplers gates (layable (ap numberOf p)) in
-      room-number n drawn room
-      (ap numberOf (ap₂ (λ (v w : Verdict). andThen (andThen v (judgedRoom n drawn room)) w) (sym p) (sym q) ∙ rest) ∙ h)
+  demand-2-unreachable h r = room-number n drawn room (ap numberOf (then-on reach (judgedRoom n drawn room) (ap numberOf (reached r)) ∙ rest) ∙ h)
 
   -- and wherever none has
   pub demand-2-refused : (Reachable n couplers drawn → ⊥) → numberOf (verdictOf n couplers gates room) ≡ 7
@@ -278,7 +260,5 @@ pub demand-3 : (n m : ℕ) (couplers couplers′ gates gates′ : List ℕ) (roo
     → (S q r : ℕ) → Island n couplers S q → Island m couplers′ S r → Agree S couplers couplers′ (gatesOf n gates) (gatesOf m gates′)
     → gatesOn S (circuitOf n couplers gates) ≡ gatesOn S (circuitOf m couplers′ gates′)
 demand-3 n m couplers couplers′ gates gates′ room room′ a b S q r i j agree =
-    let e = accepted-job n couplers gates room a in
-    let d = accepted-job m couplers′ gates′ room′ b in
-    same-gates n m couplers couplers′ gates gates′ (job-layable n couplers gates room e) (job-layable m couplers′ gates′ room′ d)
-    (job-listed n couplers gates room e) (job-listed m couplers′ gates′ room′ d) S q r i j agree
+    same-gates n m couplers couplers′ gates gates′ (job-layable n couplers gates room a) (job-layable m couplers′ gates′ room′ b)
+    (job-listed n couplers gates room a) (job-listed m couplers′ gates′ room′ b) S q r i j agree

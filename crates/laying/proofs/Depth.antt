@@ -20,9 +20,10 @@ use Rattle.circuit.specs.Phase.{phaseOf}
 use Rattle.circuit.proofs.Wiring.{good-up}
 use Rattle.laying.specs.declared.lay.Answer.{Answer}
 use Rattle.laying.specs.declared.lay.Answer.the-variants.{Refused}
-use Rattle.laying.specs.Verdict.{verdictOf, circuitOf, countsOf, answered, cnotsIn, depthIn}
+use Rattle.judging.specs.Tests.{verdictOf}
+use Rattle.laying.specs.Answers.{circuitOf, countsOf, answered, cnotsIn, depthIn}
 use Rattle.laying.proofs.Accepting.{job-layable}
-use Rattle.laying.proofs.Demands.{accepted-job, demand-2}
+use Rattle.laying.proofs.Demands.{demand-2}
 
 module _ (n : ℕ) (couplers gates : List ℕ) (room : ℕ) where
   abbrev answer : Answer
@@ -36,7 +37,7 @@ module _ (n : ℕ) (couplers gates : List ℕ) (room : ℕ) where
 
   on-the-chip : numberOf verdict ≡ 0 → All (Good mostQubits) circuit
   on-the-chip z =
-      let few = job-layable n couplers gates room (accepted-job n couplers gates room z) .few in
+      let few = job-layable n couplers gates room z .few in
       all-map (Good n) (Good mostQubits) (λ g h. good-up n mostQubits g few h) circuit (demand-2 n couplers gates room z .good)
 
   pub answered-depth : (depthIn answer ≡ 0 ↔ cnotsIn answer ≡ 0) × (depthIn answer ≤ cnotsIn answer)

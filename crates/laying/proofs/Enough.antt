@@ -13,7 +13,7 @@ use Rattle.gates.specs.Limits.{mostQubits, mostCouplers, mostGates}
 use Rattle.gates.specs.declared.gate.Gate.{Gate}
 use Rattle.gates.specs.Layout.{gateOf, gatesOf}
 use Rattle.verdicts.specs.declared.verdict.Verdict.{Verdict}
-use Rattle.verdicts.specs.declared.verdict.Verdict.the-variants.{Accepted, Qubits, ManyCouplers, WrongCoupler, ManyGates, BadGate, ManyParities, Unreachable, Room, Stuck}
+use Rattle.verdicts.specs.declared.verdict.Verdict.the-variants.{Accepted, Qubits, ManyCouplers, WrongCoupler, ManyGates, BadGate, ManyParities, Unreachable, Room}
 use Rattle.verdicts.specs.Verdicts.{numberOf, placeOf, wrongAt, badAt, judgedQubits, judgedCouplers, judgedGates}
 use Rattle.verdicts.specs.InOrder.{andThen}
 use Rattle.verdicts.specs.Rows.{Passes1, Passes2, Passes3, Passes5}
@@ -25,10 +25,8 @@ use Rattle.meaning.specs.Same.{Reachable}
 use Rattle.meaning.proofs.Bearing.{terms-few}
 use Rattle.chip.specs.Couplers.{nearOf}
 use Rattle.isles.specs.Islands.{islandsOf}
-use Rattle.judging.specs.Tests.{judgedCount, judgedParities, strayAt, scattered, judgedReach, judgedRoom, judgedMeaning, judgedJob}
+use Rattle.judging.specs.Tests.{judgedCount, judgedParities, strayAt, scattered, judgedReach, judgedRoom, judgedMeaning, verdictOf}
 use Rattle.judging.proofs.Judging.{qubits-few}
-use Rattle.laying.specs.Laid.{stuckOn}
-use Rattle.laying.specs.Verdict.{judgedStuck, verdictOf}
 use Rattle.laying.specs.Rows.{Passes4, Passes6}
 use Rattle.laying.proofs.Rows.{rows}
 
@@ -105,24 +103,18 @@ reach n islands gs few =
     (λ e. record { place = omega (arith, ltb-true k n e) })
     (λ e. either (scattered islands (terms gs)) (Unreachable n) Accepted (λ d. record { place = omega arith }) (λ d. passed))
 
-stuck : (n : ℕ) (near : List ℕ) (gs : List Gate) → Low (judgedStuck n near gs)
-unfolding judgedStuck
-stuck n near gs = either (stuckOn n near gs) Stuck Accepted (λ e. record { place = omega arith }) (λ e. passed)
-
 room-low : (n : ℕ) (gs : List Gate) (room : ℕ) → Low (judgedRoom n gs room)
 unfolding judgedRoom
 room-low n gs room = either (ltb room (boundOf n (length (terms gs)))) Room Accepted (λ e. record { place = omega arith }) (λ e. passed)
 
 pub place-most : (n : ℕ) (xs ys : List ℕ) (room : ℕ) → placeOf (verdictOf n xs ys room) ≤ mostGates
-unfolding verdictOf judgedJob judgedMeaning
+unfolding verdictOf judgedMeaning
 place-most n xs ys room =
     let gs : List Gate = gatesOf n ys in
-    in-order (judgedJob n xs ys room) _
-    (in-order (judgedQubits n) _ (qubits n) (λ q.
+    in-order (judgedQubits n) _ (qubits n) (λ q.
     in-order (judgedCouplers n xs) _ (couplers n xs) (λ c.
     in-order (judgedCount ys) _ (count ys) (λ k.
     let long : length ys ≤ mostGates = count-few ys k in
     in-order (judgedGates n ys) _ (gates n ys long) (λ g.
     in-order (judgedParities gs) _ (parities gs (omega (arith, long, length-map ys (gateOf n)))) (λ p.
-    in-order (judgedReach n (islandsOf (nearOf n xs)) gs) _ (reach n (islandsOf (nearOf n xs)) gs (qubits-few n q .1)) (λ r. room-low n gs room)))))))
-    (λ z. stuck n (nearOf n xs) gs) .place
+    in-order (judgedReach n (islandsOf (nearOf n xs)) gs) _ (reach n (islandsOf (nearOf n xs)) gs (qubits-few n q .1)) (λ r. room-low n gs room)))))) .place

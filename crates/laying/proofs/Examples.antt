@@ -1,5 +1,5 @@
 -- The examples of document 01 marked P hold, all of them. Assumes nothing.
-use mathlib.Core.Path.{_≡_, refl, ap}
+use mathlib.Core.Path.{_≡_, refl}
 use mathlib.Core.Logic.{_≢_, inr}
 use mathlib.Core.List.{List}
 use Prim.Native.Nat.{ℕ, _≤_}
@@ -26,11 +26,10 @@ use Rattle.chip.specs.Graph.{nbrs, grow, closure}
 use Rattle.chip.specs.Couplers.{linkOf, addOf, addAll, nearOf}
 use Rattle.isles.specs.Islands.{islandOf, islandsFrom, islandsOf}
 use Rattle.share.specs.Own.{insideOf}
-use Rattle.judging.specs.Tests.{judgedCount, judgedParities, leavesAt, strayAt, scatters, scattered, judgedReach, judgedRoom, judgedMeaning, judgedJob}
-use Rattle.laying.specs.Verdict.{verdictOf}
+use Rattle.judging.specs.Tests.{judgedCount, judgedParities, leavesAt, strayAt, scatters, scattered, judgedReach, judgedRoom, judgedMeaning, verdictOf}
 use Rattle.laying.specs.Examples.{couplers4, once4, twice4, loop8, gates9, layingExamples, provedExamples}
 use Rattle.laying.proofs.Accepting.{job-layable}
-use Rattle.laying.proofs.Accepted.{circuit-reaches, job-accepted}
+use Rattle.laying.proofs.Accepted.{circuit-reaches}
 use Rattle.laying.proofs.Rows.{rows}
 
 -- what is found by computing it: three refusals, and three jobs that pass tests 1 to 8
@@ -38,18 +37,15 @@ record Computed : Type 0 where
   once : (room : ℕ) → (numberOf (verdictOf 3 couplers4 once4 room) ≡ 7) × (placeOf (verdictOf 3 couplers4 once4 room) ≡ 2)
   term : (room : ℕ) → (numberOf (verdictOf 3 couplers4 records5 room) ≡ 7) × (placeOf (verdictOf 3 couplers4 records5 room) ≡ 3)
   short : (numberOf (verdictOf 2 couplers4 gates9 8) ≡ 8) × (placeOf (verdictOf 2 couplers4 gates9 8) ≡ 0)
-  twice : numberOf (judgedJob 3 couplers4 twice4 15) ≡ 0
-  none : numberOf (judgedJob 3 couplers4 records6 15) ≡ 0
-  enough : numberOf (judgedJob 2 couplers4 gates9 9) ≡ 0
+  twice : numberOf (verdictOf 3 couplers4 twice4 15) ≡ 0
+  none : numberOf (verdictOf 3 couplers4 records6 15) ≡ 0
+  enough : numberOf (verdictOf 2 couplers4 gates9 9) ≡ 0
 
 computed : Computed
-unfolding verdictOf judgedJob judgedMeaning judgedQubits judgedCouplers wrongAt judgedCount judgedGates badAt firstFailing firstOf someOf judgedParities overAt borne borneFrom bears insert judgedReach strayAt leavesAt insideOf scattered scatters terms kept sumOf givenOn givesOn takes noFlips flipStep judgedRoom boundOf run start step units cnot lowestOf trailingZeros islandsOf islandsFrom islandOf closure grow nbrs nearOf addAll addOf linkOf couplerOf gateOf cnotOf rotationOf packed kindIn aIn bIn
+unfolding verdictOf judgedMeaning judgedQubits judgedCouplers wrongAt judgedCount judgedGates badAt firstFailing firstOf someOf judgedParities overAt borne borneFrom bears insert judgedReach strayAt leavesAt insideOf scattered scatters terms kept sumOf givenOn givesOn takes noFlips flipStep judgedRoom boundOf run start step units cnot lowestOf trailingZeros islandsOf islandsFrom islandOf closure grow nbrs nearOf addAll addOf linkOf couplerOf gateOf cnotOf rotationOf packed kindIn aIn bIn
 computed = record { once = λ room. (refl, refl); term = λ room. (refl, refl); short = (refl, refl); twice = refl; none = refl; enough = refl }
 
-accepted : (n : ℕ) (xs ys : List ℕ) (room : ℕ) → numberOf (judgedJob n xs ys room) ≡ 0 → numberOf (verdictOf n xs ys room) ≡ 0
-accepted n xs ys room e = ap numberOf (job-accepted n xs ys room e)
-
-reached : (n : ℕ) (xs ys : List ℕ) (room : ℕ) → numberOf (judgedJob n xs ys room) ≡ 0 → Reachable n xs (gatesOf n ys)
+reached : (n : ℕ) (xs ys : List ℕ) (room : ℕ) → numberOf (verdictOf n xs ys room) ≡ 0 → Reachable n xs (gatesOf n ys)
 reached n xs ys room e = circuit-reaches n xs ys (job-layable n xs ys room e)
 
 -- 7 and 8 are rows of the table
@@ -73,11 +69,11 @@ loop-refused n l m ys room =
 laying-examples : True layingExamples
 unfolding True
 laying-examples = (
-  (reached 3 couplers4 twice4 15 (computed .twice), accepted 3 couplers4 twice4 15 (computed .twice), computed .once),
+  (reached 3 couplers4 twice4 15 (computed .twice), computed .twice, computed .once),
   (
     computed .term,
     (
-      (reached 3 couplers4 records6 15 (computed .none), accepted 3 couplers4 records6 15 (computed .none)),
+      (reached 3 couplers4 records6 15 (computed .none), computed .none),
       (
         (λ xs ys room. (
           qubits-fail 0 xs ys room (λ (p : Passes1 0). omega (arith, p .0)),
@@ -85,7 +81,7 @@ laying-examples = (
           qubits-pass 1 xs ys room (omega arith, omega arith),
           qubits-pass 20 xs ys room (omega arith, omega arith),
         )),
-        (loop-refused, ((computed .short .0, computed .short .1, accepted 2 couplers4 gates9 9 (computed .enough)), tt)),
+        (loop-refused, ((computed .short .0, computed .short .1, computed .enough), tt)),
       ),
     ),
   ),

@@ -5,7 +5,6 @@ use mathlib.Core.Bool.{Bool, true, false}
 use mathlib.Core.List.{List}
 use Prim.Native.Nat.{ℕ, zero, suc, _+_, _≤_, _<_}
 use native.Mathlib.Omega.{arith}
-use native.Mathlib.Decide.{ℕ-discrete}
 use lib.Dec.{ltb}
 use lib.ListN.{length, take}
 use borrow.Author.Tests.{ltb-true, ltb-false}
@@ -19,7 +18,7 @@ use Rattle.verdicts.specs.declared.verdict.Verdict.the-variants.{Accepted, Many
 use Rattle.verdicts.specs.Verdicts.{numberOf, placeOf, judgedQubits, judgedCouplers, judgedGates}
 use Rattle.verdicts.specs.InOrder.{andThen}
 use Rattle.verdicts.specs.Rows.{Row, Nowhere, Passes1, Passes2, Passes3, Passes5}
-use Rattle.verdicts.proofs.Judged.{zero-accepted, then-on, then-stop, then-assoc}
+use Rattle.verdicts.proofs.Judged.{then-on, then-assoc}
 use Rattle.verdicts.proofs.Rows.{Tests, test-passed, row-fails, row-passes, row-then, row-first, Beyond, beyond-not, beyond-test, beyond-then, limit-tests, tests-1, tests-2, tests-3, tests-5, judgedMany, judgedWrong, couplers-parted}
 use Rattle.tallies.specs.Tally.{boundOf}
 use Rattle.meaning.specs.Borne.{borne, borneFrom, overAt, terms}
@@ -27,13 +26,11 @@ use Rattle.meaning.specs.Same.{Reachable}
 use Rattle.meaning.proofs.Bearing.{borne-grows}
 use Rattle.chip.specs.Couplers.{nearOf}
 use Rattle.isles.specs.Islands.{islandsOf}
-use Rattle.judging.specs.Tests.{judgedCount, judgedParities, judgedReach, judgedRoom, judgedMeaning, judgedJob}
+use Rattle.judging.specs.Tests.{judgedCount, judgedParities, judgedReach, judgedRoom, judgedMeaning, verdictOf}
 use Rattle.judging.proofs.Judging.{over-le, over-few}
-use Rattle.laying.specs.Verdict.{judgedStuck, verdictOf}
 use Rattle.laying.specs.Demands.{judgedSix, Strays}
 use Rattle.laying.specs.Rows.{Passes4, Passes6, Brings, Passes8, Rows}
-use Rattle.laying.proofs.Accepted.{job-accepted}
-use Rattle.laying.proofs.Demands.{reach-tests, demand-2-never-9}
+use Rattle.laying.proofs.Demands.{reach-tests}
 
 -- ---- tests 4, 6 and 8
 
@@ -116,17 +113,9 @@ module _ (n : ℕ) (couplers gates : List ℕ) (room : ℕ) where
   all = andThen (judgedQubits n) behind1
 
   -- 1 to 8, of which 2 and 3 are one function
-  all-judged : all ≡ judgedJob n couplers gates room
-  unfolding judgedJob judgedMeaning
+  all-judged : all ≡ verdictOf n couplers gates room
+  unfolding verdictOf judgedMeaning
   all-judged = ap (andThen (judgedQubits n)) (sym (then-assoc (judgedMany couplers) (judgedWrong n couplers) behind3) ∙ ap (λ (v : Verdict). andThen v behind3) (couplers-parted n couplers))
-
-  -- 9 is always passed
-  judged-all : judgedJob n couplers gates room ≡ verdictOf n couplers gates room
-  judged-all = go (ℕ-discrete (numberOf (judgedJob n couplers gates room)) 0)
-    where
-      go : Dec (numberOf (judgedJob n couplers gates room) ≡ 0) → judgedJob n couplers gates room ≡ verdictOf n couplers gates room
-      go (yes z) = zero-accepted (judgedJob n couplers gates room) z ∙ sym (job-accepted n couplers gates room z)
-      go (no ne) = unfold verdictOf in then-stop (judgedJob n couplers gates room) (judgedStuck n (nearOf n couplers) drawn) ne
 
   module _ (p1 : Passes1 n) (p2 : Passes2 couplers) (p3 : Passes3 n couplers) where
     couplers-passed : numberOf (judgedCouplers n couplers) ≡ 0
@@ -206,11 +195,7 @@ module _ (n : ℕ) (couplers gates : List ℕ) (room : ℕ) where
         (λ p1 p2 p3 p4 p5 p6. row-first (tests-7 p1 p2 p3 p4 p5 p6) (judgedRoom n drawn room)
         (λ p7. beyond-not 7 (judgedRoom n drawn room) (omega arith) (beyond-test (tests-8 n drawn room) 7 (omega arith))));
     row-8 = past7 8 (inr (omega arith)) (row-fails (tests-8 n drawn room));
-    row-9 = record { exactly = (never-9, λ f. absurd f); place = λ e. absurd (never-9 e) };
   }
-    where
-      never-9 : numberOf all ≢ 9
-      never-9 e = demand-2-never-9 n couplers gates room (ap numberOf (sym (all-judged ∙ judged-all)) ∙ e)
 
   pub rows : Rows n couplers gates room (verdictOf n couplers gates room)
-  rows = subst (Rows n couplers gates room) (all-judged ∙ judged-all) all-rows
+  rows = subst (Rows n couplers gates room) all-judged all-rows

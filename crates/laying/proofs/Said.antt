@@ -15,7 +15,8 @@ use Rattle.verdicts.specs.declared.verdict.Verdict.{Verdict}
 use Rattle.verdicts.specs.Verdicts.{numberOf}
 use Rattle.tallies.specs.Tally.{cnotsOf, rotationsOf, depthOf}
 use Rattle.laying.specs.declared.lay.Answer.the-variants.{Laid, Refused}
-use Rattle.laying.specs.Verdict.{verdictOf, circuitOf, countsOf, answered, outputOf}
+use Rattle.judging.specs.Tests.{verdictOf}
+use Rattle.laying.specs.Answers.{circuitOf, countsOf, answered, outputOf}
 
 module _ (n : ℕ) (xs ys : List ℕ) (room : ℕ) where
   abbrev circuit : List Gate

@@ -1,5 +1,5 @@
 -- An island that stands: the code's test of it, what it says, and that nothing is laid. Assumes nothing.
-use mathlib.Core.Path.{_≡_, refl, sym, ap, ap₂, _∙_}
+use mathlib.Core.Path.{_≡_, refl, sym, ap, _∙_}
 use mathlib.Core.Bool.{Bool, true, false, not}
 use mathlib.Core.List.{List, []}
 use Prim.Native.Nat.{ℕ, _+_, _-_, _^_, _≤_, _<_}
@@ -7,7 +7,6 @@ use native.Mathlib.Omega.{arith}
 use lib.Dec.{eqb}
 use lib.ListN.{getD}
 use borrow.Author.Tests.{eqb-true, not-true}
-use Rattle.sets.specs.Pick.{pick}
 use Rattle.sets.specs.Bit.{In, has}
 use Rattle.sets.specs.Size.{onlyOf}
 use Rattle.sets.specs.Search.{firstOf}
@@ -15,12 +14,10 @@ use Rattle.sets.proofs.Deciding.{never, both-true, both-yes}
 use Rattle.sets.proofs.Finding.{first-all, first-here, first-next, first-end, some-yes, some-no}
 use Rattle.sets.proofs.Words.{in-has, only-is}
 use Rattle.chip.proofs.Tests.{some-of}
-use Rattle.gates.specs.declared.gate.Gate.{Gate}
 use Rattle.emitting.specs.Emit.{emit, emitAt}
 use Rattle.emitting.proofs.Emitting.{emit-none, emit-at-none}
-use Rattle.steps.specs.declared.Laid.the-variants.{On, Stuck}
 use Rattle.share.specs.declared.own.Own.{Own}
-use Rattle.ways.specs.Memory.{heldOwn, memoryAt, answerAt}
+use Rattle.ways.specs.Memory.{heldOwn}
 use Rattle.laying.specs.Stands.{offOf, someOff, standsOf}
 
 -- ---- the search for a wire that is off
@@ -75,10 +72,5 @@ module _ (o : Own) (s : standsOf o ≡ true) where
 
 -- ---- nothing is laid
 
-pub idle : (o : Own) → heldOwn o .laid ≡ [] → heldOwn o .stuck ≡ false → (out : List ℕ) (at : ℕ)
-    → (out ≡ memoryAt (heldOwn o) (heldOwn o .laid) out at) × (On at ≡ answerAt (heldOwn o) (heldOwn o .laid) out at)
-unfolding memoryAt answerAt
-idle o none on out at = (
-  sym (ap₂ (λ (s : Bool) (L : List Gate). pick s out (emit out at L)) on none ∙ emit-none out at),
-  sym (ap₂ (λ (s : Bool) (L : List Gate). pick s (Stuck at) (On (emitAt out at L))) on none ∙ ap On (emit-at-none out at)),
-)
+pub idle : (o : Own) → heldOwn o ≡ [] → (out : List ℕ) (at : ℕ) → (out ≡ emit out at (heldOwn o)) × (at ≡ emitAt out at (heldOwn o))
+idle o none out at = (sym (ap (emit out at) none ∙ emit-none out at), sym (ap (emitAt out at) none ∙ emit-at-none out at))

@@ -27,7 +27,7 @@ use Rattle.share.specs.Own.{insideOf, ownSets, ownTerms}
 use Rattle.share.specs.OwnTable.{maskedSum, maskedSums, ownTable, ownOf}
 use Rattle.laying.specs.Laid.{onIsland}
 use Rattle.ways.specs.Ways.{islandLaid}
-use Rattle.ways.specs.Memory.{parities, angles, pieceOwn}
+use Rattle.ways.specs.Memory.{parities, angles, laidOwn}
 use Rattle.laying.proofs.Owning.{own-none, own-taken, own-left}
 
 module _ (Q : ℕ) (f : ℕ → ℕ) where
@@ -124,6 +124,6 @@ module _ (near : List ℕ) (gs : List Gate) (q : ℕ) (few : length (borne gs) �
   unfolding ownOf angles
   own-angles = ap (λ (s : Sums). take (s .len) (s .sum)) (own-table Q gs few) ∙ take-padded 256 (length ps) (sumsOf gs ps) (sym (length-map ps (λ p. sumOf p gs)))
 
-  pub piece-is : pieceOwn o ≡ onIsland near gs q
-  unfolding pieceOwn onIsland ownOf
-  piece-is = ap₂ (λ (a b : List ℕ). islandLaid (ownSets Q near) Q a b (ownSets Q (run gs start)) (ownSets Q (mirrorsOf gs))) own-parities own-angles
+  pub laid-is : laidOwn o ≡ onIsland near gs q
+  unfolding laidOwn onIsland ownOf
+  laid-is = ap₂ (λ (a b : List ℕ). islandLaid (ownSets Q near) Q a b (ownSets Q (run gs start)) (ownSets Q (mirrorsOf gs))) own-parities own-angles

@@ -26,7 +26,6 @@ use Rattle.chip.specs.Couplers.{nearOf}
 use Rattle.isles.specs.Islands.{islandOf}
 use Rattle.chip.proofs.Neighbours.{near-listed, accepted-near}
 use Rattle.isles.proofs.Isles.{island-lt}
-use Rattle.columns.specs.Pieces.{Piece}
 use Rattle.columns.specs.Terms.{Inside}
 use Rattle.ending.specs.Mirror.{mirrorsOf, mirrorOf, Bordered}
 use Rattle.ending.proofs.Mirrors.{mirror-same-inside}
@@ -34,7 +33,7 @@ use Rattle.share.specs.Own.{ownSets, ownTerms}
 use Rattle.ways.specs.Ways.{islandLaid}
 use Rattle.laying.specs.Laid.{onIsland, withFlips, laidOf}
 use Rattle.laying.specs.Layable.{Layable}
-use Rattle.laying.specs.Verdict.{circuitOf}
+use Rattle.laying.specs.Answers.{circuitOf}
 use Rattle.laying.specs.Demands.{Island, gatesOn, FlipsLast, Agree}
 use Rattle.laying.proofs.Parting.{Parts, leader-below, leader-same, leader-leads}
 use Rattle.laying.proofs.Restricting.{own-same}
@@ -46,7 +45,7 @@ use Rattle.laying.proofs.FlipOrder.{flipped-ascending}
 use Rattle.laying.proofs.Linking.{island-found}
 
 -- what the set S is laid with, in a job whose chip is `near` and whose gates are gs
-laidOn : ℕ → List ℕ → List Gate → Piece
+laidOn : ℕ → List ℕ → List Gate → List Gate
 laidOn S near gs =
     let ps = ownTerms S (terms gs) in
     islandLaid (ownSets S near) S ps (sumsOf gs ps) (ownSets S (run gs start)) (ownSets S (mirrorsOf gs))
@@ -79,23 +78,23 @@ module _ (n : ℕ) (xs ys : List ℕ) (job : Layable n xs ys) (ok : judgedCouple
   well = good20 n xs gs (job .few) (job .good) (job .fit) (job .within)
 
   -- the gates on the island: its own, and the X gates on its wires
-  gates-are : gatesOn S (circuitOf n xs ys) ≡ laidOn S (nearOf n xs) gs .laid ++ xsOn S (flipRun gs noFlips)
+  gates-are : gatesOn S (circuitOf n xs ys) ≡ laidOn S (nearOf n xs) gs ++ xsOn S (flipRun gs noFlips)
   unfolding circuitOf laidOf withFlips laidOn onIsland
   gates-are =
       let j : ℕ = lowestOf (isl q) in
       let l : j < n = leader-below n isl (job .few) P q (island .below) in
       let e : isl j ≡ S = leader-same n isl (job .few) P q (island .below) ∙ sym found in
-      subst (λ (Q : ℕ). gatesOn Q (circuitOf n xs ys) ≡ laidOn Q (nearOf n xs) gs .laid ++ xsOn Q (flipRun gs noFlips)) e
-      (gates-on n isl (job .few) P (withFlips (nearOf n xs) gs) (λ q l. flips-on (ownSets (isl q) (nearOf n xs)) (isl q) (flipRun gs noFlips) (onIsland (nearOf n xs) gs q .laid) (island-placed n xs ys job q l .inside))
+      subst (λ (Q : ℕ). gatesOn Q (circuitOf n xs ys) ≡ laidOn Q (nearOf n xs) gs ++ xsOn Q (flipRun gs noFlips)) e
+      (gates-on n isl (job .few) P (withFlips (nearOf n xs) gs) (λ q l. flips-on (ownSets (isl q) (nearOf n xs)) (isl q) (flipRun gs noFlips) (onIsland (nearOf n xs) gs q) (island-placed n xs ys job q l .inside))
       j l (leader-leads n isl (job .few) P q (island .below)) n (omega arith) l)
 
   -- the X gates behind the others, by ascending qubit
   pub flips-last : FlipsLast S (circuitOf n xs ys)
   flips-last = record {
-    before = laidOn S (nearOf n xs) gs .laid;
+    before = laidOn S (nearOf n xs) gs;
     flipped = flippedTo S (flipRun gs noFlips) 20;
     parted = unfold xsOn in gates-are;
-    none = subst (λ (Q : ℕ). All NoX (laidOn Q (nearOf n xs) gs .laid)) (sym found) plain;
+    none = subst (λ (Q : ℕ). All NoX (laidOn Q (nearOf n xs) gs)) (sym found) plain;
     ascending = flipped-ascending S (flipRun gs noFlips) 20;
   }
     where
@@ -105,8 +104,8 @@ module _ (n : ℕ) (xs ys : List ℕ) (job : Layable n xs ys) (ok : judgedCouple
       no-x near Q (X r) h = unfold Inside in absurd h
       no-x near Q Bad h = unfold NoX in tt
 
-      plain : All NoX (laidOn (isl q) (nearOf n xs) gs .laid)
-      plain = unfold laidOn onIsland in all-map (Inside (ownSets (isl q) (nearOf n xs)) (isl q)) NoX (no-x (ownSets (isl q) (nearOf n xs)) (isl q)) (laidOn (isl q) (nearOf n xs) gs .laid) (island-placed n xs ys job q (island .below) .inside)
+      plain : All NoX (laidOn (isl q) (nearOf n xs) gs)
+      plain = unfold laidOn onIsland in all-map (Inside (ownSets (isl q) (nearOf n xs)) (isl q)) NoX (no-x (ownSets (isl q) (nearOf n xs)) (isl q)) (laidOn (isl q) (nearOf n xs) gs) (island-placed n xs ys job q (island .below) .inside)
 
 -- ---- two
 
@@ -155,7 +154,7 @@ module _ (n m : ℕ) (xs xs′ ys ys′ : List ℕ) (job : Layable n xs ys) (job
 
   pub same-gates : gatesOn S (circuitOf n xs ys) ≡ gatesOn S (circuitOf m xs′ ys′)
   unfolding laidOn
-  same-gates = gates-are n xs ys job ok S q here ∙ ap₂ (λ (p : Piece) (l : List Gate). p .laid ++ l) alike same-flips ∙ sym (gates-are m xs′ ys′ job′ ok′ S r there)
+  same-gates = gates-are n xs ys job ok S q here ∙ ap₂ (λ (p l : List Gate). p ++ l) alike same-flips ∙ sym (gates-are m xs′ ys′ job′ ok′ S r there)
     where
       alike : laidOn S (nearOf n xs) one ≡ laidOn S (nearOf m xs′) two
       alike = cc (same-near, same-terms, same-sums, same-finals, same-mirrors)

@@ -1,6 +1,6 @@
 -- The walk over the qubits that lays each island at its lowest qubit. Assumes nothing.
 use mathlib.Core.Path.{_≡_, refl, sym, ap, ap₂, _∙_}
-use mathlib.Core.Bool.{Bool, true, false}
+use mathlib.Core.Bool.{true, false}
 use mathlib.Core.List.{List, _++_}
 use Prim.Native.Nat.{ℕ, suc, _+_, _≤_, _<_}
 use native.Mathlib.Omega.{arith}
@@ -8,7 +8,6 @@ use native.Mathlib.Numerals.{add-one}
 use lib.ListN.{length, getD}
 use lib.Seq.{take-all}
 use borrow.Author.Tests.{eq-eqb, ne-eqb}
-use Rattle.sets.specs.Pick.{pick}
 use Rattle.sets.specs.Size.{lowestOf}
 use Rattle.sets.proofs.Members.{in-lt}
 use Rattle.gates.specs.declared.gate.Gate.{Gate}
@@ -26,10 +25,7 @@ use Rattle.chip.specs.Couplers.{nearOf}
 use Rattle.isles.specs.Islands.{islandOf, islandsOf}
 use Rattle.isles.proofs.Isles.{getD-islands, island-lt}
 use Rattle.emitting.specs.Emit.{emit, emitAt}
-use Rattle.columns.specs.Pieces.{Piece}
 use Rattle.emitting.proofs.Emitting.{emit-none, emit-at-none, emit-length, emit-append, emit-at-append}
-use Rattle.steps.specs.declared.Laid.{Laid}
-use Rattle.steps.specs.declared.Laid.the-variants.{On, Stuck}
 use Rattle.ending.specs.Mirror.{mirrorsOf}
 use Rattle.share.specs.declared.own.Own.{Own}
 use Rattle.share.specs.OwnTable.{ownOf}
@@ -38,14 +34,14 @@ use Rattle.laying.specs.Laid.{onIsland, withFlips, laidOf}
 use Rattle.ways.specs.Ways.{withClosing}
 use Rattle.laying.specs.Layable.{Layable}
 use Rattle.laying.specs.Stands.{standsOf, Idles}
-use Rattle.ways.specs.Memory.{stepsOwn, nearestOwn, closedBy, heldOwn, memoryAt, answerAt}
-use Rattle.ways.proofs.Owned.{AllFine, held-piece}
-use Rattle.laying.specs.Verdict.{circuitOf}
+use Rattle.ways.specs.Memory.{stepsOwn, nearestOwn, closedBy, heldOwn}
+use Rattle.ways.proofs.Owned.{AllFine, held-laid}
+use Rattle.laying.specs.Answers.{circuitOf}
 use Rattle.laying.proofs.Job.{parts}
 use Rattle.laying.proofs.Composing.{laid-led, laid-not}
-use Rattle.laying.proofs.Tabled.{own-parities, own-angles, own-count, piece-is}
+use Rattle.laying.proofs.Tabled.{own-parities, own-angles, own-count, laid-is}
 use Rattle.laying.proofs.Standing.{no-terms, own-asked}
-use Rattle.laying.proofs.Both.{bySteps, byNearest, steps-work, nearest-work, way-fine, ended-fine, island-none, never-stuck}
+use Rattle.laying.proofs.Both.{bySteps, byNearest, steps-work, nearest-work, way-fine, ended-fine, island-none}
 
 module _ (n : ℕ) (xs ys : List ℕ) where
   abbrev gs : List Gate
@@ -55,7 +51,7 @@ module _ (n : ℕ) (xs ys : List ℕ) where
   isl = islandOf (nearOf n xs)
 
   abbrev plain : ℕ → List Gate
-  plain q = onIsland (nearOf n xs) gs q .laid
+  plain q = onIsland (nearOf n xs) gs q
 
   abbrev on : ℕ → List Gate
   on = withFlips (nearOf n xs) gs
@@ -78,11 +74,11 @@ module _ (n : ℕ) (xs ys : List ℕ) where
   walked-moved out₀ q out out′ at at′ a b w = rw (a, b, add-one q) w
 
   pub walked-all : (out₀ : List ℕ) (q : ℕ) (out : List ℕ) (at : ℕ) → n ≤ q → Walked out₀ q out at
-      → (out ≡ emit out₀ 0 (circuitOf n xs ys)) × (On at ≡ On (emitAt out₀ 0 (circuitOf n xs ys)))
+      → (out ≡ emit out₀ 0 (circuitOf n xs ys)) × (at ≡ emitAt out₀ 0 (circuitOf n xs ys))
   unfolding circuitOf laidOf
   walked-all out₀ q out at l w =
       let e : q ≡ n = let b = w .within in omega arith in
-      (w .memory ∙ ap (λ (k : ℕ). emit out₀ 0 (upTo k)) e, ap On (w .place ∙ ap (λ (k : ℕ). emitAt out₀ 0 (upTo k)) e))
+      (w .memory ∙ ap (λ (k : ℕ). emit out₀ 0 (upTo k)) e, w .place ∙ ap (λ (k : ℕ). emitAt out₀ 0 (upTo k)) e)
 
   module _ (job : Layable n xs ys) (near all : List ℕ) (t : Told) (mirror : List ℕ) (d : near ≡ nearOf n xs) (i : all ≡ islandsOf near) (e : t ≡ toldOf n ys) (m : mirror ≡ mirrorsOf gs) where
     told-is : t .meaning ≡ meaningOf gs
@@ -142,68 +138,43 @@ module _ (n : ℕ) (xs ys : List ℕ) where
               ended-fine n xs ys job q l byNearest nearest-work,
             )
 
-        piece : heldOwn h ≡ onIsland (nearOf n xs) gs q
-        piece = ap heldOwn own-is ∙ held-piece o fine ∙ piece-is (nearOf n xs) gs q (job .fit)
-
-        on-it : heldOwn h .stuck ≡ false
-        on-it = ap (λ (p : Piece). p .stuck) piece ∙ never-stuck n xs ys job q l
-
-        gates-are : heldOwn h .laid ≡ plain q
-        gates-are = ap (λ (p : Piece). p .laid) piece
+        gates-are : heldOwn h ≡ plain q
+        gates-are = ap heldOwn own-is ∙ held-laid o fine ∙ laid-is (nearOf n xs) gs q (job .fit)
 
         -- where it stands it gets nothing
         pub idles : Idles h
         unfolding ownOf
         idles s =
-            let t : standsOf o ≡ true = ap standsOf (sym own-is) ∙ s in (
-              gates-are ∙ island-none n xs ys job q l (sym (own-count (nearOf n xs) gs q (job .fit)) ∙ no-terms o t)
-                  (λ i m. own-asked o t i (in-lt 20 (isl q) i (island-lt (nearOf n xs) q below) m) m),
-              on-it,
-            )
+            let t : standsOf o ≡ true = ap standsOf (sym own-is) ∙ s in
+            gates-are ∙ island-none n xs ys job q l (sym (own-count (nearOf n xs) gs q (job .fit)) ∙ no-terms o t)
+            (λ i m. own-asked o t i (in-lt 20 (isl q) i (island-lt (nearOf n xs) q below) m) m)
 
-        module _ (out₀ out out′ : List ℕ) (at : ℕ) (r : Laid) (a : out′ ≡ memoryAt (heldOwn h) (heldOwn h .laid) out at) (b : r ≡ answerAt (heldOwn h) (heldOwn h .laid) out at) where
+        -- the island's own gates, and the X gates behind them
+        module _ (out₀ out out′ out″ : List ℕ) (at next end : ℕ) (a : out′ ≡ emit out at (heldOwn h)) (b : next ≡ emitAt out at (heldOwn h))
+            (c : out″ ≡ emit out′ next (xsOn (getD all q 0) (t .meaning .wires .flip))) (f : end ≡ emitAt out′ next (xsOn (getD all q 0) (t .meaning .wires .flip))) where
           memory-is : out′ ≡ emit out at (plain q)
-          unfolding memoryAt
-          memory-is = a ∙ ap₂ (λ (s : Bool) (L : List Gate). pick s out (emit out at L)) on-it gates-are
+          memory-is = a ∙ ap (emit out at) gates-are
 
-          answer-is : r ≡ On (emitAt out at (plain q))
-          unfolding answerAt
-          answer-is = b ∙ ap₂ (λ (s : Bool) (L : List Gate). pick s (Stuck at) (On (emitAt out at L))) on-it gates-are
+          behind : next ≡ emitAt out at (plain q)
+          behind = b ∙ ap (emitAt out at) gates-are
 
-          pub walked-stuck : (x : ℕ) → r ≡ Stuck x → ⊥
-          walked-stuck x s = let z : _≡_ {A = ℕ} 0 1 = ap isOne (sym s ∙ answer-is) in omega arith
-            where
-              isOne : Laid → ℕ
-              isOne (On v) = 1
-              isOne (Stuck v) = 0
+          xs-are : xsOn (getD all q 0) (t .meaning .wires .flip) ≡ xsOn (isl q) (flipRun gs noFlips)
+          xs-are = ap₂ xsOn set-is flips-are
 
-          -- the X gates behind the island's own
-          module _ (next : ℕ) (s : r ≡ On next) (out″ : List ℕ) (end : ℕ) (c : out″ ≡ emit out′ next (xsOn (getD all q 0) (t .meaning .wires .flip)))
-              (f : end ≡ emitAt out′ next (xsOn (getD all q 0) (t .meaning .wires .flip))) where
-            behind : next ≡ emitAt out at (plain q)
-            behind = ap value (sym s ∙ answer-is)
-              where
-                value : Laid → ℕ
-                value (On v) = v
-                value (Stuck v) = 0
+          memory-on : out″ ≡ emit out at (on q)
+          unfolding withFlips
+          memory-on = c ∙ ap₂ (λ (o : List ℕ) (k : ℕ). emit o k (xsOn (getD all q 0) (t .meaning .wires .flip))) memory-is behind ∙ sym (emit-append out at (plain q) (xsOn (getD all q 0) (t .meaning .wires .flip))) ∙ ap (λ (L : List Gate). emit out at (plain q ++ L)) xs-are
 
-            xs-are : xsOn (getD all q 0) (t .meaning .wires .flip) ≡ xsOn (isl q) (flipRun gs noFlips)
-            xs-are = ap₂ xsOn set-is flips-are
+          place-on : end ≡ emitAt out at (on q)
+          unfolding withFlips
+          place-on = f ∙ ap₂ (λ (o : List ℕ) (k : ℕ). emitAt o k (xsOn (getD all q 0) (t .meaning .wires .flip))) memory-is behind ∙ sym (emit-at-append out at (plain q) (xsOn (getD all q 0) (t .meaning .wires .flip))) ∙ ap (λ (L : List Gate). emitAt out at (plain q ++ L)) xs-are
 
-            memory-on : out″ ≡ emit out at (on q)
-            unfolding withFlips
-            memory-on = c ∙ ap₂ (λ (o : List ℕ) (k : ℕ). emit o k (xsOn (getD all q 0) (t .meaning .wires .flip))) memory-is behind ∙ sym (emit-append out at (plain q) (xsOn (getD all q 0) (t .meaning .wires .flip))) ∙ ap (λ (L : List Gate). emit out at (plain q ++ L)) xs-are
-
-            place-on : end ≡ emitAt out at (on q)
-            unfolding withFlips
-            place-on = f ∙ ap₂ (λ (o : List ℕ) (k : ℕ). emitAt o k (xsOn (getD all q 0) (t .meaning .wires .flip))) memory-is behind ∙ sym (emit-at-append out at (plain q) (xsOn (getD all q 0) (t .meaning .wires .flip))) ∙ ap (λ (L : List Gate). emitAt out at (plain q ++ L)) xs-are
-
-            pub walked-led : lowestOf (getD all q 0) ≡ q → Walked out₀ q out at → Walked out₀ (suc q) out″ end
-            walked-led y w =
-                let u : upTo (suc q) ≡ upTo q ++ on q = laid-led n isl (job .few) (parts n xs (job .few)) on q (leads-yes y) in
-                record {
-                  within = l;
-                  size = ap length memory-on ∙ emit-length out at (on q) ∙ w .size;
-                  memory = memory-on ∙ ap₂ (λ (o : List ℕ) (k : ℕ). emit o k (on q)) (w .memory) (w .place) ∙ sym (emit-append out₀ 0 (upTo q) (on q)) ∙ ap (emit out₀ 0) (sym u);
-                  place = place-on ∙ ap₂ (λ (o : List ℕ) (k : ℕ). emitAt o k (on q)) (w .memory) (w .place) ∙ sym (emit-at-append out₀ 0 (upTo q) (on q)) ∙ ap (emitAt out₀ 0) (sym u);
-                }
+          pub walked-led : lowestOf (getD all q 0) ≡ q → Walked out₀ q out at → Walked out₀ (suc q) out″ end
+          walked-led y w =
+              let u : upTo (suc q) ≡ upTo q ++ on q = laid-led n isl (job .few) (parts n xs (job .few)) on q (leads-yes y) in
+              record {
+                within = l;
+                size = ap length memory-on ∙ emit-length out at (on q) ∙ w .size;
+                memory = memory-on ∙ ap₂ (λ (o : List ℕ) (k : ℕ). emit o k (on q)) (w .memory) (w .place) ∙ sym (emit-append out₀ 0 (upTo q) (on q)) ∙ ap (emit out₀ 0) (sym u);
+                place = place-on ∙ ap₂ (λ (o : List ℕ) (k : ℕ). emitAt o k (on q)) (w .memory) (w .place) ∙ sym (emit-at-append out₀ 0 (upTo q) (on q)) ∙ ap (emitAt out₀ 0) (sym u);
+              }

@@ -16,7 +16,7 @@ use Rattle.flips.proofs.Xs.{xs-none}
 use Rattle.chip.specs.Couplers.{nearOf}
 use Rattle.isles.specs.Islands.{islandOf}
 use Rattle.laying.specs.Laid.{onIsland, withFlips, laidOf}
-use Rattle.laying.specs.Verdict.{circuitOf}
+use Rattle.laying.specs.Answers.{circuitOf}
 use Rattle.laying.specs.Without.{WithoutX}
 use Rattle.laying.proofs.Archive.{laid-alike}
 
@@ -43,11 +43,11 @@ module _ (n : ℕ) (couplers gates : List ℕ) (none : All NoX (gatesOf n gates)
   quiet : Quiet drawn noFlips
   quiet = calm-quiet noFlips drawn calm
 
-  nothing-behind : (q : ℕ) → withFlips near drawn q ≡ onIsland near drawn q .laid
+  nothing-behind : (q : ℕ) → withFlips near drawn q ≡ onIsland near drawn q
   unfolding withFlips
   nothing-behind q =
-      ap (λ (F : List ℕ). onIsland near drawn q .laid ++ xsOn (islandOf near q) F) unflipped
-      ∙ ap (λ (gs : List Gate). onIsland near drawn q .laid ++ gs) (xs-none (islandOf near q) noFlips (λ i m. none-flipped i)) ∙ append-nil (onIsland near drawn q .laid)
+      ap (λ (F : List ℕ). onIsland near drawn q ++ xsOn (islandOf near q) F) unflipped
+      ∙ ap (λ (gs : List Gate). onIsland near drawn q ++ gs) (xs-none (islandOf near q) noFlips (λ i m. none-flipped i)) ∙ append-nil (onIsland near drawn q)
 
   pub without-x : WithoutX n couplers gates
   unfolding circuitOf laidOf
@@ -55,5 +55,5 @@ module _ (n : ℕ) (couplers gates : List ℕ) (none : All NoX (gatesOf n gates)
     flips = λ i. flip-is drawn i ∙ ap (λ (F : List ℕ). getD F i 0) unflipped ∙ none-flipped i;
     phase = phase-none drawn quiet;
     sums = λ p. sum-is p drawn quiet;
-    laid = laid-alike (islandOf near) (islandOf near) (withFlips near drawn) (λ q. onIsland near drawn q .laid) n (λ q l. refl) (λ q l e. nothing-behind q);
+    laid = laid-alike (islandOf near) (islandOf near) (withFlips near drawn) (λ q. onIsland near drawn q) n (λ q l. refl) (λ q l e. nothing-behind q);
   }

@@ -9,7 +9,7 @@ use Rattle.meaning.specs.Same.{Reachable}
 use Rattle.verdicts.specs.Verdicts.{numberOf, placeOf}
 use Rattle.gates.specs.Example.{Example}
 use Rattle.meaning.specs.Examples.{cnotRecord, rotationRecord, records5, records6, meaningExamples}
-use Rattle.laying.specs.Verdict.{verdictOf}
+use Rattle.judging.specs.Tests.{verdictOf}
 
 -- "coupler 0-1"
 abbrev pub couplers4 : List ℕ

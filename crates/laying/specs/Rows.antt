@@ -41,4 +41,3 @@ pub record Rows (n : ℕ) (couplers gates : List ℕ) (room : ℕ) (v : Verdict)
   pub row-6 : Row v 6 (Passes1 n × (Passes2 couplers × (Passes3 n couplers × (Passes4 gates × (Passes5 n gates × (mostParities < length (borne (gatesOf n gates)))))))) (Brings (gatesOf n gates))
   pub row-7 : Row v 7 (Passes1 n × (Passes2 couplers × (Passes3 n couplers × (Passes4 gates × (Passes5 n gates × (Passes6 (gatesOf n gates) × (Reachable n couplers (gatesOf n gates) → ⊥))))))) (Strays n couplers (gatesOf n gates))
   pub row-8 : Row v 8 (Passes1 n × (Passes2 couplers × (Passes3 n couplers × (Passes4 gates × (Passes5 n gates × (Passes6 (gatesOf n gates) × (Reachable n couplers (gatesOf n gates) × (room < boundOf n (length (terms (gatesOf n gates))))))))))) Nowhere
-  pub row-9 : Row v 9 ⊥ Nowhere

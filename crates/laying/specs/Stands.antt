@@ -1,6 +1,6 @@
 -- An island that stands: it has no terms, and each of its wires is asked for its own parity. It needs no gates, so nothing is searched for it.
 use mathlib.Core.Path.{_≡_}
-use mathlib.Core.Bool.{Bool, true, false, not}
+use mathlib.Core.Bool.{Bool, true, not}
 use mathlib.Core.List.{List, []}
 use Prim.Native.Nat.{ℕ}
 use lib.Dec.{eqb}
@@ -25,6 +25,6 @@ someOff Q N = someOf (λ i. offOf Q i (getD N i 0)) mostQubits
 unfoldable pub standsOf : Own → Bool
 standsOf o = both (eqb (o .terms .len) 0) (not (someOff (o .set) (o .asked)))
 
--- if the island stands, laying it in both ways comes to no gates and is not stuck: so it is on each island of a job that passed tests 1 to 7
+-- if the island stands, laying it in both ways comes to no gates: so it is on each island of a job that passed tests 1 to 7
 abbrev pub Idles : Own → Type 0
-Idles o = standsOf o ≡ true → (heldOwn o .laid ≡ []) × (heldOwn o .stuck ≡ false)
+Idles o = standsOf o ≡ true → heldOwn o ≡ []

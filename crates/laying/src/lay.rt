@@ -7,7 +7,6 @@ use judging::judge;
 use meaning::told;
 use share::own;
 use share::own::Own;
-use steps::Laid;
 use tallies::depth;
 use tallies::tally;
 use verdicts::verdict;
@@ -19,10 +18,9 @@ ghost use Rattle.gates.specs.Layout.{gatesOf};
 ghost use Rattle.circuit.specs.Phase.{phaseOf};
 ghost use Rattle.laying.specs.Layable.{Layable};
 ghost use Rattle.emitting.specs.Emit.{emit, emitAt};
-ghost use Rattle.steps.specs.declared.Laid.the-variants.{On};
-ghost use Rattle.ways.specs.Memory.{heldOwn, answerAt, memoryAt};
+ghost use Rattle.ways.specs.Memory.{heldOwn};
 ghost use Rattle.laying.specs.Stands.{Idles};
-ghost use Rattle.laying.specs.Verdict.{circuitOf, countsOf, answered, outputOf};
+ghost use Rattle.laying.specs.Answers.{circuitOf, countsOf, answered, outputOf};
 
 // What laying answers: the counts of the laid gates, or why there are none.
 pub enum Answer {
@@ -39,19 +37,19 @@ pub enum Answer {
     },
 }
 
-// What laying comes to, and the job's common phase.
+// The number of records laid, and the job's common phase.
 struct Outcome {
-    laid: Laid,
+    records: usize,
     phase: u32,
 }
 
 // The gates of an island behind those that are laid. One that stands gets none: it is not searched.
-fn lay_own(own: Own, out: &mut [u32], at: usize) -> Laid
+fn lay_own(own: Own, out: &mut [u32], at: usize) -> usize
     requires { ⌜ Idles own ⌝ }
-    ensures { λ r. ⌜ (now (out .exit) ≡ memoryAt (heldOwn own) (heldOwn own .laid) (now (out .entry)) at) × (r ≡ answerAt (heldOwn own) (heldOwn own .laid) (now (out .entry)) at) ⌝ }
+    ensures { λ r. ⌜ (now (out .exit) ≡ emit (now (out .entry)) at (heldOwn own)) × (r ≡ emitAt (now (out .entry)) at (heldOwn own)) ⌝ }
 {
     if stands::stands(own) {
-        return Laid::On(at);
+        return at;
     }
     island::lay_island(own, out, at)
 }
@@ -59,7 +57,7 @@ fn lay_own(own: Own, out: &mut [u32], at: usize) -> Laid
 // The islands one after another, by ascending lowest qubit, each with its X gates behind its ending.
 fn lay_islands(n: usize, couplers: &[u32], gates: &[u32], out: &mut [u32]) -> Outcome
     requires { ⌜ Layable n (now couplers) (now gates) ⌝ }
-    ensures { λ r. ⌜ (now (out .exit) ≡ emit (now (out .entry)) 0 (circuitOf n (now (couplers .entry)) (now (gates .entry)))) × (r .laid ≡ On (emitAt (now (out .entry)) 0 (circuitOf n (now (couplers .entry)) (now (gates .entry))))) × (r .phase ≡ phaseOf (gatesOf n (now (gates .entry)))) ⌝ }
+    ensures { λ r. ⌜ (now (out .exit) ≡ emit (now (out .entry)) 0 (circuitOf n (now (couplers .entry)) (now (gates .entry)))) × (r .records ≡ emitAt (now (out .entry)) 0 (circuitOf n (now (couplers .entry)) (now (gates .entry)))) × (r .phase ≡ phaseOf (gatesOf n (now (gates .entry)))) ⌝ }
 {
     let near = couplers::near(couplers, n);
     let all = islands::islands(near);
@@ -74,21 +72,12 @@ fn lay_islands(n: usize, couplers: &[u32], gates: &[u32], out: &mut [u32]) -> Ou
     for q in 0..n {
         let set = all[q];
         if sets::lowest(set) == q {
-            match lay_own(own::handed(set, near, sums, asked, mirror), out, at) {
-                Laid::On(next) => {
-                    at = flips::put_xs(set, flip, out, next);
-                }
-                Laid::Stuck(_) => {
-                    return Outcome {
-                        laid: Laid::Stuck(at),
-                        phase: 0,
-                    };
-                }
-            }
+            let next = lay_own(own::handed(set, near, sums, asked, mirror), out, at);
+            at = flips::put_xs(set, flip, out, next);
         }
     }
     Outcome {
-        laid: Laid::On(at),
+        records: at,
         phase: meaning.phase,
     }
 }
@@ -106,7 +95,7 @@ pub fn counted(laid: &[u32], n: usize, phase: u32) -> Answer
     }
 }
 
-// Lays a job: tests 1 to 9 in order; the gates go to `out` only once all of them are passed.
+// Lays a job: tests 1 to 8 in order; the gates go to `out` only once all of them are passed.
 pub fn lay(n: usize, couplers: &[u32], gates: &[u32], out: &mut [u32]) -> Answer
     ensures { λ r. ⌜ (r ≡ answered n (now (couplers .entry)) (now (gates .entry)) (length (now (out .entry)))) × (now (out .exit) ≡ outputOf n (now (couplers .entry)) (now (gates .entry)) (now (out .entry))) ⌝ }
 {
@@ -116,14 +105,7 @@ pub fn lay(n: usize, couplers: &[u32], gates: &[u32], out: &mut [u32]) -> Answer
     }
     let mut laid = [0u32; tally::LARGEST];
     let outcome = lay_islands(n, couplers, gates, &mut laid);
-    let went = outcome.laid;
-    match went {
-        Laid::On(k) => {
-            island::replay(&laid[..k], out, 0);
-            counted(&laid[..k], n, outcome.phase)
-        }
-        Laid::Stuck(_) => Answer::Refused {
-            verdict: Verdict::Stuck,
-        },
-    }
+    let k = outcome.records;
+    island::replay(&laid[..k], out, 0);
+    counted(&laid[..k], n, outcome.phase)
 }

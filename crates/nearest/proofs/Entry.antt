@@ -1,14 +1,13 @@
 -- The entry point: the terms placed as columns, the rounds behind them, and its answer. Assumes nothing.
 use mathlib.Core.Path.{_≡_, refl, sym, ap, _∙_, subst}
-use mathlib.Core.Bool.{Bool, false}
+use mathlib.Core.Bool.{Bool}
 use mathlib.Core.List.{List}
 use Prim.Native.Nat.{ℕ, zero, suc, _-_, _≤_, _<_}
 use native.Mathlib.Omega.{arith}
 use lib.Dec.{ltb}
 use borrow.Author.Tests.{lt-ltb, le-ltb}
 use Rattle.sets.specs.Pick.{pick}
-use Rattle.emitting.specs.Emit.{emit, emitAt}
-use Rattle.columns.specs.Pieces.{Piece, idle, andThen, Memory, held, wrote}
+use Rattle.columns.specs.Pieces.{idle, andThen, Memory, held, wrote}
 use Rattle.columns.specs.Striking.{strikeOff}
 use Rattle.columns.proofs.Piecing.{wrote-on, wrote-none}
 use Rattle.nearest.specs.Choice.{chosen, far}
@@ -41,7 +40,7 @@ module _ (near angles : List ℕ) (Q : ℕ) where
 
   -- the loop, with n rounds left
   pub round-next : (n : ℕ) (xs out : List ℕ) (at : ℕ) (c : Choice) (ys out′ : List ℕ) (a : ℕ) → 0 < n → c ≡ chosen near Q xs → c .moves < far
-      → held ys out′ a false ≡ wrote out at (gatherNext near angles Q (c .column) (c .qubit) xs)
+      → held ys out′ a ≡ wrote out at (gatherNext near angles Q (c .column) (c .qubit) xs)
       → wrote out′ a (rounds (n - 1) near angles Q ys) ≡ wrote out at (rounds n near angles Q xs)
   round-next n xs out at c ys out′ a l e h f =
       wrote-on out at (gatherNext near angles Q (b .column) (b .qubit) xs) (λ ys. rounds (n - 1) near angles Q ys)
@@ -54,27 +53,19 @@ module _ (near angles : List ℕ) (Q : ℕ) where
       one-less : suc (n - 1) ≡ n
       one-less = omega arith
 
-  pub round-over : (n : ℕ) (xs out : List ℕ) (at : ℕ) (c : Choice) → c ≡ chosen near Q xs → far ≤ c .moves → held xs out at false ≡ wrote out at (rounds n near angles Q xs)
+  pub round-over : (n : ℕ) (xs out : List ℕ) (at : ℕ) (c : Choice) → c ≡ chosen near Q xs → far ≤ c .moves → held xs out at ≡ wrote out at (rounds n near angles Q xs)
   round-over n xs out at c e h =
-      wrote-none out at xs false ∙ ap (wrote out at) (sym (rounds-over n xs (subst (λ (c : Choice). far ≤ c .moves) e h)))
+      wrote-none out at xs ∙ ap (wrote out at) (sym (rounds-over n xs (subst (λ (c : Choice). far ≤ c .moves) e h)))
 
-  pub round-end : (n : ℕ) (xs out : List ℕ) (at : ℕ) → n ≤ 0 → held xs out at false ≡ wrote out at (rounds n near angles Q xs)
+  pub round-end : (n : ℕ) (xs out : List ℕ) (at : ℕ) → n ≤ 0 → held xs out at ≡ wrote out at (rounds n near angles Q xs)
   round-end n xs out at h =
       let z : 0 ≡ n = omega arith in
-      wrote-none out at xs false ∙ ap (wrote out at) (sym (rounds-none xs) ∙ ap (λ (d : ℕ). rounds d near angles Q xs) z)
+      wrote-none out at xs ∙ ap (wrote out at) (sym (rounds-none xs) ∙ ap (λ (d : ℕ). rounds d near angles Q xs) z)
 
 -- ---- the answer
 
 module _ (near : List ℕ) (Q : ℕ) (ps angles out : List ℕ) where
-  pub entry-wrote : {ys o : List ℕ} {a : ℕ} {w : Memory} → held ys o a false ≡ wrote out 0 (strikeOff angles ps) → w ≡ wrote o a (rounds 256 near angles Q ys)
+  pub entry-wrote : {ys o : List ℕ} {a : ℕ} {w : Memory} → held ys o a ≡ wrote out 0 (strikeOff angles ps) → w ≡ wrote o a (rounds 256 near angles Q ys)
       → w ≡ wrote out 0 (nearestFor near Q ps angles)
   unfolding nearestFor
   entry-wrote {ys} {o} {a} e h = wrote-on out 0 (strikeOff angles ps) (λ xs. rounds 256 near angles Q xs) e h
-
-pub entry-out : (out xs o : List ℕ) (a : ℕ) (p : Piece) → held xs o a false ≡ wrote out 0 p → o ≡ emit out 0 (p .laid)
-unfolding wrote
-entry-out out xs o a p e = ap (λ (m : Memory). m .out) e
-
-pub entry-at : (out xs o : List ℕ) (a : ℕ) (p : Piece) → held xs o a false ≡ wrote out 0 p → a ≡ emitAt out 0 (p .laid)
-unfolding wrote
-entry-at out xs o a p e = ap (λ (m : Memory). m .at) e

@@ -1,7 +1,6 @@
 -- Nearest first lays the terms of a connected set: each round gathers one column and strikes it off. Assumes nothing.
 use mathlib.Core.Path.{_≡_, refl, sym, ap, _∙_, subst}
 use mathlib.Core.Logic.{_≢_, inr}
-use mathlib.Core.Bool.{false}
 use mathlib.Core.List.{List, _++_}
 use Prim.Native.Nat.{ℕ, zero, suc, _+_, _-_, _*_, _^_, _≤_, _<_}
 use native.Mathlib.Nat.{mul-le-mul-right, mul-comm}
@@ -15,12 +14,11 @@ use Rattle.gates.specs.declared.gate.Gate.{Gate}
 use Rattle.tallies.specs.Tally.{cnotsOf}
 use Rattle.chip.specs.Graph.{Symm, Joined}
 use Rattle.columns.specs.Tables.{sumTo}
-use Rattle.columns.specs.Pieces.{Piece, idle, after}
+use Rattle.columns.specs.Pieces.{Piece, idle, andThen}
 use Rattle.columns.specs.Striking.{strikeOff}
 use Rattle.columns.specs.Terms.{LaysTerms, Laying, live, liveOne}
 use Rattle.gathering.specs.Gather.{Gathers, gatherOf}
 use Rattle.columns.proofs.Tabling.{sum-less, sum-ones}
-use Rattle.columns.proofs.Piecing.{then-on}
 use Rattle.columns.proofs.Layings.{live-one, live-none, laying-none, laying-then}
 use Rattle.columns.proofs.Laid.{sub-below, lays-terms}
 use Rattle.columns.proofs.Struck.{Strikes, strikes-off}
@@ -73,13 +71,12 @@ live-most xs = sum-ones (length xs) (λ k. liveOne (getD xs k 0)) (λ k b. one-m
 module _ (near : List ℕ) (Q : ℕ) (angles : List ℕ) (sy : Symm near) (j : Joined near Q) (low : Q < 2 ^ 20) where
   -- a piece that lays all that is left, at 2 (m - 1) CNOTs for a column
   pub record Done (xs : List ℕ) (p : Piece) : Type 0 where
-    pub on : p .stuck ≡ false
     pub lays : Laying near Q angles xs (p .laid) (p .cols)
     pub struck : (k : ℕ) → getD (p .cols) k 0 ≡ 0
     pub cnots : cnotsOf (p .laid) ≤ live xs * (2 * (ones Q - 1))
 
   done-idle : (xs : List ℕ) → ((k : ℕ) → getD xs k 0 ≡ 0) → Done xs (idle xs)
-  done-idle xs z = record { on = refl; lays = laying-none near Q angles xs; struck = z; cnots = omega (arith, cnots-none) }
+  done-idle xs z = record { lays = laying-none near Q angles xs; struck = z; cnots = omega (arith, cnots-none) }
 
   -- one round: a column less, at 2 (m - 1) CNOTs
   module _ (xs : List ℕ) (r : Ready Q xs) (found : chosen near Q xs .moves < far) where
@@ -114,6 +111,7 @@ module _ (near : List ℕ) (Q : ℕ) (angles : List ℕ) (sy : Symm near) (j : J
         (ap (λ (p : Piece). getD (p .cols) k 0) round-is ∙ moves-gone near Q angles low L (brings .coupled) xs r k v (getD xs k 0) (inr refl) (brings .done))
 
   rounds-done : (n : ℕ) (xs : List ℕ) → Ready Q xs → live xs ≤ n → Done xs (rounds n near angles Q xs)
+  unfolding andThen
   rounds-done zero xs r h = subst (Done xs) (sym (rounds-none near angles Q xs)) (done-idle xs (live-zero xs h))
   rounds-done (suc n) xs r h = go (decLt (chosen near Q xs .moves) far) (rounds-done n)
     where
@@ -126,9 +124,8 @@ module _ (near : List ℕ) (Q : ℕ) (angles : List ℕ) (sy : Symm near) (j : J
           let m : Moved near Q angles low xs (length (gatherOf near Q (chosen near Q xs .qubit) (getD xs (chosen near Q xs .column) 0))) p = round-moved xs r f in
           let less : live (p .cols) < live xs = round-less xs r f in
           let b : Done (p .cols) (rounds n near angles Q (p .cols)) = ih (p .cols) (m .ready) (omega arith) in
-          subst (Done xs) (sym (rounds-more near angles Q n xs f ∙ then-on p (λ ys. rounds n near angles Q ys) (m .on)))
+          subst (Done xs) (sym (rounds-more near angles Q n xs f))
           (record {
-            on = b .on;
             lays = laying-then near Q angles (m .lays) (b .lays);
             struck = b .struck;
             cnots = paid (length (gatherOf near Q (chosen near Q xs .qubit) (getD xs (chosen near Q xs .column) 0))) (2 * (ones Q - 1)) (live (p .cols)) (live xs) (cnotsOf (p .laid)) (cnotsOf (rounds n near angles Q (p .cols) .laid)) (cnotsOf (p .laid ++ rounds n near angles Q (p .cols) .laid))
@@ -161,19 +158,11 @@ module _ (near : List ℕ) (Q : ℕ) (ps angles : List ℕ) (sy : Symm near) (j 
   rest : Done near Q angles sy j low (first .cols) (rounds 256 near angles Q (first .cols))
   rest = rounds-done near Q angles sy j low 256 (first .cols) (strike-ready near Q angles low ps within) (omega (arith, few-live))
 
-  nearest-is : nearestFor near Q ps angles ≡ after first (rounds 256 near angles Q (first .cols))
-  unfolding nearestFor
-  nearest-is = then-on first (λ xs. rounds 256 near angles Q xs) (singles .on)
-
-  -- never stuck
-  pub nearest-on : nearestFor near Q ps angles .stuck ≡ false
-  nearest-on = ap (λ (p : Piece). p .stuck) nearest-is ∙ rest .on
-
   -- every term is laid, as any way has to
   pub nearest-lays : LaysTerms near Q ps angles (nearestFor near Q ps angles .laid)
+  unfolding nearestFor andThen
   nearest-lays =
-      subst (λ (p : Piece). LaysTerms near Q ps angles (p .laid)) (sym nearest-is)
-      (lays-terms near Q ps angles (first .laid ++ last .laid) (last .cols) low term (laying-then near Q angles (singles .lays) (rest .lays)) (rest .struck) bound)
+      lays-terms near Q ps angles (first .laid ++ last .laid) (last .cols) low term (laying-then near Q angles (singles .lays) (rest .lays)) (rest .struck) bound
     where
       last : Piece
       last = rounds 256 near angles Q (first .cols)

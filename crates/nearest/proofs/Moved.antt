@@ -16,12 +16,11 @@ use Rattle.sets.proofs.Words.{single-pow}
 use Rattle.gates.specs.declared.gate.Gate.{Gate}
 use Rattle.gates.specs.declared.gate.Gate.the-variants.{Cnot, Rotation, X, Bad}
 use Rattle.tallies.specs.Tally.{cnotsOf}
-use Rattle.columns.specs.Pieces.{Piece, piece, idle, after, andThen}
+use Rattle.columns.specs.Pieces.{Piece, piece, idle, andThen}
 use Rattle.columns.specs.Turning.{turnAll}
 use Rattle.columns.specs.Striking.{strikeOff}
 use Rattle.columns.specs.Terms.{Laying}
 use Rattle.gathering.specs.Gather.{On, Coupled, turns}
-use Rattle.columns.proofs.Piecing.{then-on}
 use Rattle.columns.proofs.Turns.{cnot-is, turn-all-at, turned-is}
 use Rattle.columns.proofs.Strikes.{single-zero}
 use Rattle.columns.proofs.Layings.{laying-none, laying-then, laying-cnot}
@@ -67,7 +66,6 @@ module _ (near : List ℕ) (Q : ℕ) (angles : List ℕ) (low : Q < 2 ^ 20) wher
 
   -- a piece of n CNOTs
   pub record Moved (xs : List ℕ) (n : ℕ) (p : Piece) : Type 0 where
-    pub on : p .stuck ≡ false
     pub lays : Laying near Q angles xs (p .laid) (p .cols)
     pub cnots : cnotsOf (p .laid) ≡ n
     pub ready : Ready Q (p .cols)
@@ -80,15 +78,16 @@ module _ (near : List ℕ) (Q : ℕ) (angles : List ℕ) (low : Q < 2 ^ 20) wher
     turned-within : Within Q (turnAll c t xs)
     turned-within k = subst (λ (x : ℕ). Sub x Q) (sym (turned-at k)) (turn-sub Q (getD xs k 0) c t (o .0) (w k))
 
-    move-is : layMove angles c t xs ≡ after (piece (turnAll c t xs) (Cnot c t ∷ []) false) (strikeOff angles (turnAll c t xs))
+    move-is : layMove angles c t xs ≡ andThen (piece (turnAll c t xs) (Cnot c t ∷ [])) (strikeOff angles)
     unfolding layMove
-    move-is = ap (λ (p : Piece). andThen p (strikeOff angles)) (cnot-is c t xs) ∙ then-on (piece (turnAll c t xs) (Cnot c t ∷ []) false) (strikeOff angles) refl
+    move-is = ap (λ (p : Piece). andThen p (strikeOff angles)) (cnot-is c t xs)
 
     struck : Strikes near Q angles (turnAll c t xs) (strikeOff angles (turnAll c t xs))
     struck = strikes-off near Q angles (turnAll c t xs) (fits (turnAll c t xs) turned-within)
 
     -- a column is struck off, or turned
     pub move-each : (k : ℕ) → (getD (layMove angles c t xs .cols) k 0 ≡ 0) ⊎ (getD (layMove angles c t xs .cols) k 0 ≡ turn (getD xs k 0) c t)
+    unfolding andThen
     move-each k = subst (λ (p : Piece). (getD (p .cols) k 0 ≡ 0) ⊎ (getD (p .cols) k 0 ≡ turn (getD xs k 0) c t)) (sym move-is) (go (struck .each k))
       where
         ys : List ℕ
@@ -102,10 +101,10 @@ module _ (near : List ℕ) (Q : ℕ) (angles : List ℕ) (low : Q < 2 ^ 20) wher
     turn-none x z = turn-off x c t (ap (λ (y : ℕ). bit y t) z ∙ bit-of-zero t) ∙ z
 
     pub move-moved : Moved xs 1 (layMove angles c t xs)
+    unfolding andThen
     move-moved =
         subst (Moved xs 1) (sym move-is)
         (record {
-          on = struck .on;
           lays = laying-then near Q angles (laying-cnot near Q angles xs c t low (o .3) (o .0) (o .1) (o .2)) (struck .lays);
           cnots = omega (arith, cnots-append (Cnot c t ∷ []) (strikeOff angles (turnAll c t xs) .laid), cnots-cnot c t, struck .cnots);
           ready = strike-ready (turnAll c t xs) turned-within;
@@ -122,18 +121,17 @@ module _ (near : List ℕ) (Q : ℕ) (angles : List ℕ) (low : Q < 2 ^ 20) wher
   -- ---- moves
 
   pub moved-none : (xs : List ℕ) → Ready Q xs → Moved xs 0 (idle xs)
-  moved-none xs r = record { on = refl; lays = laying-none near Q angles xs; cnots = cnots-none; ready = r; stays = λ k z. z }
+  moved-none xs r = record { lays = laying-none near Q angles xs; cnots = cnots-none; ready = r; stays = λ k z. z }
 
   pub moved-then : (xs : List ℕ) (m n : ℕ) (p : Piece) (k : List ℕ → Piece) → Moved xs m p → Moved (p .cols) n (k (p .cols)) → Moved xs (m + n) (andThen p k)
+  unfolding andThen
   moved-then xs m n p k a b =
-      subst (Moved xs (m + n)) (sym (then-on p k (a .on)))
-      (record {
-        on = b .on;
+      record {
         lays = laying-then near Q angles (a .lays) (b .lays);
         cnots = omega (arith, cnots-append (p .laid) (k (p .cols) .laid), a .cnots, b .cnots);
         ready = b .ready;
         stays = λ j z. b .stays j (a .stays j z);
-      })
+      }
 
   pub moves-moved : (L : List Gate) → Coupled near Q L → (xs : List ℕ) → Ready Q xs → Moved xs (length L) (layMoves angles L xs)
   moves-moved [] h xs r = subst (Moved xs 0) (sym (moves-none angles xs)) (moved-none xs r)
@@ -152,13 +150,14 @@ module _ (near : List ℕ) (Q : ℕ) (angles : List ℕ) (low : Q < 2 ^ 20) wher
   -- column k is x unless it is struck off; moves that bring x to one qubit strike it off
   pub moves-gone : (L : List Gate) → Coupled near Q L → (xs : List ℕ) → Ready Q xs → (k v x : ℕ) → (getD xs k 0 ≡ 0) ⊎ (getD xs k 0 ≡ x) → turns L x ≡ 2 ^ v
       → getD (layMoves angles L xs .cols) k 0 ≡ 0
+  unfolding andThen
   moves-gone [] h xs r k v x s e = ap (λ (p : Piece). getD (p .cols) k 0) (moves-none angles xs) ∙ go s
     where
       go : (getD xs k 0 ≡ 0) ⊎ (getD xs k 0 ≡ x) → getD xs k 0 ≡ 0
       go (inl z) = z
       go (inr i) = absurd (never (ap singleOf (i ∙ e) ∙ single-pow v) (r .many k))
   moves-gone (Cnot c t ∷ gs) h xs r k v x s e =
-      ap (λ (p : Piece). getD (p .cols) k 0) (moves-cons angles c t gs xs ∙ then-on (layMove angles c t xs) (λ ys. layMoves angles gs ys) (a .on))
+      ap (λ (p : Piece). getD (p .cols) k 0) (moves-cons angles c t gs xs)
       ∙ moves-gone gs (h .1) (layMove angles c t xs .cols) (a .ready) k v (turn x c t) (go s (move-each c t (h .0) xs (r .part) k)) e
     where
       a : Moved xs 1 (layMove angles c t xs)

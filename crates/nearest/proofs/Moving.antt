@@ -1,6 +1,5 @@
 -- Moves laid one after another. Assumes nothing.
 use mathlib.Core.Path.{_≡_, refl, sym, ap, _∙_, subst}
-use mathlib.Core.Bool.{false}
 use mathlib.Core.List.{List, [], _∷_}
 use Prim.Native.Nat.{ℕ, suc, _+_, _-_, _≤_, _<_}
 use native.Mathlib.Omega.{arith}
@@ -20,7 +19,7 @@ use Rattle.nearest.specs.Nearest.{gatherNext}
 
 -- ---- moves one after another
 
-pub move-wrote : (angles : List ℕ) (c t : ℕ) (xs out : List ℕ) (at : ℕ) {ys o : List ℕ} {a : ℕ} {m : Memory} → held ys o a false ≡ wrote out at (layCnot c t xs)
+pub move-wrote : (angles : List ℕ) (c t : ℕ) (xs out : List ℕ) (at : ℕ) {ys o : List ℕ} {a : ℕ} {m : Memory} → held ys o a ≡ wrote out at (layCnot c t xs)
     → m ≡ wrote o a (strikeOff angles ys) → m ≡ wrote out at (layMove angles c t xs)
 unfolding layMove
 move-wrote angles c t xs out at e h = wrote-on out at (layCnot c t xs) (strikeOff angles) e h
@@ -35,7 +34,7 @@ module _ (angles : List ℕ) where
   moves-cons c t gs xs = refl
 
 module _ (angles to by : List ℕ) where
-  pub move-next : (n i : ℕ) (xs out : List ℕ) (at : ℕ) (ys out′ : List ℕ) (a : ℕ) → i < n → held ys out′ a false ≡ wrote out at (layMove angles (getD to i 0) (getD by i 0) xs)
+  pub move-next : (n i : ℕ) (xs out : List ℕ) (at : ℕ) (ys out′ : List ℕ) (a : ℕ) → i < n → held ys out′ a ≡ wrote out at (layMove angles (getD to i 0) (getD by i 0) xs)
       → wrote out′ a (layMoves angles (cnotsIn to by (i + 1) (n - (i + 1))) ys) ≡ wrote out at (layMoves angles (cnotsIn to by i (n - i)) xs)
   move-next n i xs out at ys out′ a l e =
       let z : suc (n - (i + 1)) ≡ n - i = omega arith in
@@ -43,10 +42,10 @@ module _ (angles to by : List ℕ) where
       wrote-on out at (layMove angles (getD to i 0) (getD by i 0) xs) (λ ys. layMoves angles rest ys) e refl
       ∙ ap (wrote out at) (sym (moves-cons angles (getD to i 0) (getD by i 0) rest xs) ∙ ap (λ (g : List Gate). layMoves angles g xs) (sym (cnots-step to by i (n - (i + 1))) ∙ ap (cnotsIn to by i) z))
 
-  pub move-end : (n i : ℕ) (xs out : List ℕ) (at : ℕ) → n ≤ i → held xs out at false ≡ wrote out at (layMoves angles (cnotsIn to by i (n - i)) xs)
+  pub move-end : (n i : ℕ) (xs out : List ℕ) (at : ℕ) → n ≤ i → held xs out at ≡ wrote out at (layMoves angles (cnotsIn to by i (n - i)) xs)
   move-end n i xs out at h =
       let z : 0 ≡ n - i = omega arith in
-      wrote-none out at xs false ∙ ap (wrote out at) (sym (moves-none angles xs) ∙ ap (λ (g : List Gate). layMoves angles g xs) (sym (cnots-none to by i) ∙ ap (cnotsIn to by i) z))
+      wrote-none out at xs ∙ ap (wrote out at) (sym (moves-none angles xs) ∙ ap (λ (g : List Gate). layMoves angles g xs) (sym (cnots-none to by i) ∙ ap (cnotsIn to by i) z))
 
 -- ---- a gathering is laid
 

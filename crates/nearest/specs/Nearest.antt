@@ -23,6 +23,6 @@ rounds (suc n) near angles Q xs =
     let more = andThen (gatherNext near angles Q (b .column) (b .qubit) xs) (λ ys. rounds n near angles Q ys) in
     pick (ltb (b .moves) far) more (idle xs)
 
--- "Terms are columns over the island's qubits": columns of one qubit first, then the rounds; never stuck
+-- "Terms are columns over the island's qubits": columns of one qubit first, then the rounds
 unfoldable pub nearestFor : List ℕ → ℕ → List ℕ → List ℕ → Piece
 nearestFor near Q ps angles = andThen (strikeOff angles ps) (λ xs. rounds mostParities near angles Q xs)

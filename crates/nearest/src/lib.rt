@@ -3,7 +3,6 @@ use columns::striking;
 use columns::turning;
 use gates::job::Job;
 ghost use mathlib.Core.Path.{_≡_};
-ghost use mathlib.Core.Bool.{false};
 ghost use lib.ListN.{take};
 ghost use Rattle.emitting.specs.Emit.{emit, emitAt};
 ghost use Rattle.columns.specs.Pieces.{held, wrote};
@@ -29,7 +28,7 @@ fn all_rounds(
     at: usize,
 ) -> usize
     requires { ⌜ Ordered near set (now order) (now len) × Told sure (Sure near set) ⌝ }
-    ensures { λ r. ⌜ held (now (cols .exit)) (now (out .exit)) r false ≡ wrote (now (out .entry)) at (rounds 256 near (now (angles .entry)) set (now (cols .entry))) ⌝ }
+    ensures { λ r. ⌜ held (now (cols .exit)) (now (out .exit)) r ≡ wrote (now (out .entry)) at (rounds 256 near (now (angles .entry)) set (now (cols .entry))) ⌝ }
 {
     let mut a = at;
     let mut left = Job::PARITIES;
@@ -52,7 +51,7 @@ fn lay_columns(
     angles: &[u32],
     out: &mut [u32],
 ) -> usize
-    ensures { λ r. ⌜ held (now (cols .exit)) (now (out .exit)) r false ≡ wrote (now (out .entry)) 0 (nearestFor near set (now (cols .entry)) (now (angles .entry))) ⌝ }
+    ensures { λ r. ⌜ held (now (cols .exit)) (now (out .exit)) r ≡ wrote (now (out .entry)) 0 (nearestFor near set (now (cols .entry)) (now (angles .entry))) ⌝ }
 {
     let orders = orders::from_all(near, set);
     let order = orders.qubit;

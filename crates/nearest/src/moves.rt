@@ -4,7 +4,6 @@ use columns::turning;
 use gates::job::Job;
 use gathering::gather;
 ghost use mathlib.Core.Path.{_≡_};
-ghost use mathlib.Core.Bool.{false};
 ghost use Prim.Native.Nat.{_≤_};
 ghost use Rattle.columns.specs.Pieces.{held, wrote};
 ghost use Rattle.gathering.specs.Gather.{cnotsIn};
@@ -19,7 +18,7 @@ fn lay_move(
     control: usize,
     target: usize,
 ) -> usize
-    ensures { λ r. ⌜ held (now (cols .exit)) (now (out .exit)) r false ≡ wrote (now (out .entry)) at (layMove (now (angles .entry)) control target (now (cols .entry))) ⌝ }
+    ensures { λ r. ⌜ held (now (cols .exit)) (now (out .exit)) r ≡ wrote (now (out .entry)) at (layMove (now (angles .entry)) control target (now (cols .entry))) ⌝ }
 {
     let a = turning::lay_cnot(cols, out, at, control, target);
     striking::strike(cols, angles, out, a)
@@ -35,7 +34,7 @@ fn lay_moves(
     n: usize,
 ) -> usize
     requires { ⌜ n ≤ 38 ⌝ }
-    ensures { λ r. ⌜ held (now (cols .exit)) (now (out .exit)) r false ≡ wrote (now (out .entry)) at (layMoves (now (angles .entry)) (cnotsIn to by 0 n) (now (cols .entry))) ⌝ }
+    ensures { λ r. ⌜ held (now (cols .exit)) (now (out .exit)) r ≡ wrote (now (out .entry)) at (layMoves (now (angles .entry)) (cnotsIn to by 0 n) (now (cols .entry))) ⌝ }
 {
     let mut a = at;
     for i in 0..n {
@@ -55,7 +54,7 @@ pub(crate) fn gather_next(
     k: usize,
     v: usize,
 ) -> usize
-    ensures { λ r. ⌜ held (now (cols .exit)) (now (out .exit)) r false ≡ wrote (now (out .entry)) at (gatherNext near (now (angles .entry)) set k v (now (cols .entry))) ⌝ }
+    ensures { λ r. ⌜ held (now (cols .exit)) (now (out .exit)) r ≡ wrote (now (out .entry)) at (gatherNext near (now (angles .entry)) set k v (now (cols .entry))) ⌝ }
 {
     let m = gather::gather(near, set, v, turning::entry(cols, k));
     let to = m.to;

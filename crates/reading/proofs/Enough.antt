@@ -54,9 +54,6 @@ module _ (s : List ℕ) (a b : ℕ) (ha : mostBytes < 4 + 6 * (a + 1)) (hb : mos
   pub reads-never-8 : numberOf (judgedReading s a b) ≢ 8
   reads-never-8 z = ⊎-elim (λ e. omega arith) (⊎-elim (λ e. omega arith) (λ e. omega arith)) left
 
-  pub reads-never-9 : numberOf (judgedReading s a b) ≢ 9
-  reads-never-9 z = ⊎-elim (λ e. omega arith) (⊎-elim (λ e. omega arith) (λ e. omega arith)) left
-
 -- ---- with less it does
 
 -- k times the same line

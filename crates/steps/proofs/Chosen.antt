@@ -32,7 +32,7 @@ unfolding equalOf moreOf
 equal-most sel xs q = omega (arith, row-most sel xs q)
 
 module _ (near : List ℕ) (Q : ℕ) (low : Q < 2 ^ 20) (sy : Symm near) (j : Joined near Q) (two : 2 ≤ ones Q) (sel : List Bool) (xs : List ℕ) where
-  pub spare-found : (sparing near Q sel xs < 20) × (spareOf near Q (sparing near Q sel xs) ≡ true)
+  pub spare-found : spareOf near Q (sparing near Q sel xs) ≡ true
   unfolding sparing
   spare-found =
       let some : Q ≢ 0 = λ z. omega (arith, two, ap ones z, ones-of-zero) in
@@ -41,16 +41,9 @@ module _ (near : List ℕ) (Q : ℕ) (low : Q < 2 ^ 20) (sy : Symm near) (j : Jo
       let l : u .0 < 20 = in-lt 20 Q (u .0) low (spare-in near Q low (u .0) (u .2)) in
       let b = best-is (tab 20 (spareOf near Q)) (tab 20 (equalOf sel xs)) (over sel) (u .0) l (tab-at 20 (spareOf near Q) (u .0) false l ∙ u .2)
       (omega (arith, tab-at 20 (equalOf sel xs) (u .0) 0 l, equal-most sel xs (u .0))) in
-      (b .below, sym (tab-at 20 (spareOf near Q) (bestOf (tab 20 (spareOf near Q)) (tab 20 (equalOf sel xs)) (over sel)) false (b .below)) ∙ b .taken)
+      sym (tab-at 20 (spareOf near Q) (bestOf (tab 20 (spareOf near Q)) (tab 20 (equalOf sel xs)) (over sel)) false (b .below)) ∙ b .taken
 
-  -- a neighbour of r in Q
-  pub record Beside (r m : ℕ) : Type 0 where
-    pub below : m < 20
-    pub inside : In m Q
-    pub other : r ≢ m
-    pub to : Near near r m
-
-  pub partner-found : (r : ℕ) → In r Q → Beside r (partner near Q r sel xs)
+  pub partner-found : (r : ℕ) → In r Q → In (partner near Q r sel xs) (beside near Q r)
   unfolding partner beside
   partner-found r h =
       let n = neighbour-in near Q r sy j h two in
@@ -60,10 +53,20 @@ module _ (near : List ℕ) (Q : ℕ) (low : Q < 2 ^ 20) (sy : Symm near) (j : Jo
       let b = best-is (tab 20 f) (tab 20 (rowOf sel xs)) (over sel) (n .0) ln (tab-at 20 f (n .0) false ln ∙ yes-n)
       (omega (arith, tab-at 20 (rowOf sel xs) (n .0) 0 ln, row-most sel xs (n .0))) in
       let m : ℕ = bestOf (tab 20 f) (tab 20 (rowOf sel xs)) (over sel) in
-      let a = in-and (getD near r 0) (without Q r) m (has-true (bitAnd (getD near r 0) (without Q r)) m (sym (tab-at 20 f m false (b .below)) ∙ b .taken)) in
-      record {
-        below = b .below;
-        inside = rest-sub Q r low h m (a .1);
-        other = λ (e : r ≡ m). omega (arith, a .1, rest-out Q r low h, ap (bit (without Q r)) e);
-        to = a .0;
-      }
+      has-true (bitAnd (getD near r 0) (without Q r)) m (sym (tab-at 20 f m false (b .below)) ∙ b .taken)
+
+-- m is a neighbour of r in Q
+pub record Beside (near : List ℕ) (Q r m : ℕ) : Type 0 where
+  pub inside : In m Q
+  pub other : r ≢ m
+  pub to : Near near r m
+
+pub beside-is : (near : List ℕ) (Q r m : ℕ) → Q < 2 ^ 20 → In r Q → In m (beside near Q r) → Beside near Q r m
+unfolding beside
+beside-is near Q r m low h b =
+    let a = in-and (getD near r 0) (without Q r) m b in
+    record {
+      inside = rest-sub Q r low h m (a .1);
+      other = λ (e : r ≡ m). omega (arith, a .1, rest-out Q r low h, ap (bit (without Q r)) e);
+      to = a .0;
+    }

@@ -2,7 +2,7 @@
 use mathlib.Core.Path.{_≡_, refl, sym, ap, _∙_, subst}
 use mathlib.Core.Logic.{_≢_, _⊎_, inl, inr}
 use mathlib.Core.Bool.{Bool, true, false}
-use mathlib.Core.List.{List, _++_}
+use mathlib.Core.List.{List}
 use Prim.Native.Nat.{ℕ, _+_, _^_, _≤_, _<_}
 use native.Mathlib.Omega.{arith}
 use native.Mathlib.Decide.{ℕ-discrete}
@@ -15,11 +15,10 @@ use Rattle.sets.proofs.Members.{in-lt}
 use Rattle.sets.proofs.Turn.{turn-other, turn-same}
 use Rattle.tallies.specs.Tally.{cnotsOf}
 use Rattle.chip.specs.Graph.{Near}
-use Rattle.columns.specs.Pieces.{Piece, piece, andThen}
+use Rattle.columns.specs.Pieces.{Piece, andThen}
 use Rattle.columns.specs.Turning.{layCnot}
 use Rattle.columns.specs.Striking.{strikeOff}
 use Rattle.columns.specs.Terms.{Laying}
-use Rattle.columns.proofs.Piecing.{then-on}
 use Rattle.columns.proofs.Turns.{turned-is, turn-all-at, cnot-is}
 use Rattle.columns.proofs.Layings.{laying-then, laying-cnot}
 use Rattle.columns.proofs.Strikes.{single-zero}
@@ -36,20 +35,18 @@ use Rattle.tallies.proofs.Tallies.{cnots-append, cnots-cnot}
 module _ (near : List ℕ) (Q : ℕ) (angles : List ℕ) where
   -- a piece of at most b CNOTs inside Q
   pub record Crosses (b : ℕ) (xs : List ℕ) (p : Piece) : Type 0 where
-    pub on : p .stuck ≡ false
     pub lays : Laying near Q angles xs (p .laid) (p .cols)
     pub cnots : cnotsOf (p .laid) ≤ b
     pub each : (k : ℕ) → Reached Q (getD xs k 0) (getD (p .cols) k 0)
 
   crosses-then : (a b : ℕ) (xs : List ℕ) (p : Piece) (k : List ℕ → Piece) → Crosses a xs p → Crosses b (p .cols) (k (p .cols)) → Crosses (a + b) xs (andThen p k)
+  unfolding andThen
   crosses-then a b xs p k c d =
-      subst (Crosses (a + b) xs) (sym (then-on p k (c .on)))
-      (record {
-        on = d .on;
+      record {
         lays = laying-then near Q angles (c .lays) (d .lays);
         cnots = omega (arith, cnots-append (p .laid) (k (p .cols) .laid), c .cnots, d .cnots);
         each = λ j. reached-trans (c .each j) (d .each j);
-      })
+      }
 
   -- a column behind one CNOT
   cnot-at : (c t : ℕ) (xs : List ℕ) (k : ℕ) → c < 20 → getD (layCnot c t xs .cols) k 0 ≡ turn (getD xs k 0) c t
@@ -61,7 +58,6 @@ module _ (near : List ℕ) (Q : ℕ) (angles : List ℕ) where
       let l : c < 20 = in-lt 20 Q c low hc in
       subst (Crosses 1 xs) (sym (cnot-is c t xs))
       (record {
-        on = refl;
         lays = laying-cnot near Q angles xs c t low n hc ht ne;
         cnots = omega (arith, cnots-cnot c t);
         each = λ k. more c t (still refl) hc ht ne (turn-all-at c t xs k ∙ turned-is c t (getD xs k 0) (omega arith));
@@ -88,11 +84,12 @@ module _ (near : List ℕ) (Q : ℕ) (angles : List ℕ) (low : Q < 2 ^ 20) (r m
   once w =
       let c = crosses-cnot near Q angles xs r m low to hr hm ne in
       record {
-        crosses = record { on = c .on; lays = c .lays; cnots = omega (arith, c .cnots); each = c .each };
+        crosses = record { lays = c .lays; cnots = omega (arith, c .cnots); each = c .each };
         freed = (w .0, w .1, w .2, ap (λ (y : ℕ). bit y r) (cnot-at near Q angles r m xs (w .0) lr) ∙ clears (getD xs (w .0) 0) (has-r (w .0) (w .2)) (w .3));
       }
 
   twice : ((k : ℕ) → k < 256 → getD sel k false ≡ true → bit (getD xs k 0) m ≡ 0) → Freed (andThen (layCnot m r xs) (layCnot r m))
+  unfolding andThen
   twice none =
       let a = crosses-cnot near Q angles xs m r low fro hm hr (λ e. ne (sym e)) in
       let ys : List ℕ = layCnot m r xs .cols in
@@ -108,8 +105,7 @@ module _ (near : List ℕ) (Q : ℕ) (angles : List ℕ) (low : Q < 2 ^ 20) (r m
           k,
           some .1,
           some .2,
-          ap (λ (p : Piece). bit (getD (p .cols) k 0) r) (then-on (layCnot m r xs) (layCnot r m) (a .on))
-              ∙ ap (λ (w : ℕ). bit w r) (cnot-at near Q angles r m ys k lr ∙ ap (λ (w : ℕ). turn w r m) (cnot-at near Q angles m r xs k lm)) ∙ clears y yr ym,
+          ap (λ (w : ℕ). bit w r) (cnot-at near Q angles r m ys k lr ∙ ap (λ (w : ℕ). turn w r m) (cnot-at near Q angles m r xs k lm)) ∙ clears y yr ym,
         );
       }
 
@@ -123,7 +119,6 @@ module _ (near : List ℕ) (Q : ℕ) (angles : List ℕ) (low : Q < 2 ^ 20) (r m
   -- ---- behind the striking off
 
   pub record Moved (p : Piece) : Type 0 where
-    pub on : p .stuck ≡ false
     pub lays : Laying near Q angles xs (p .laid) (p .cols)
     pub cnots : cnotsOf (p .laid) ≤ 2
     pub chosen : (k : ℕ) → getD sel k false ≡ true → (getD (p .cols) k 0 ≡ 0) ⊎ (Sub (getD (p .cols) k 0) Q × Many (getD (p .cols) k 0))
@@ -156,9 +151,6 @@ module _ (near : List ℕ) (Q : ℕ) (angles : List ℕ) (low : Q < 2 ^ 20) (r m
     abbrev ys : List ℕ
     ys = strikeOff angles ws .cols
 
-    whole : andThen c (strikeOff angles) ≡ piece ys (c .laid ++ strikeOff angles ws .laid) (strikeOff angles ws .stuck)
-    whole = then-on c (strikeOff angles) (f .crosses .on)
-
     still-at : (k : ℕ) → (singleOf (getD ws k 0) ≡ true → ⊥) → getD ys k 0 ≡ getD ws k 0
     still-at k n = off-other near Q angles ws fit k (not-true (singleOf (getD ws k 0)) n)
 
@@ -173,18 +165,17 @@ module _ (near : List ℕ) (Q : ℕ) (angles : List ℕ) (low : Q < 2 ^ 20) (r m
     cleared k z false s = ap (λ (x : ℕ). bit x r) (still-at k (λ t. never t s)) ∙ z
 
     moved-of : Moved (andThen c (strikeOff angles))
+    unfolding andThen
     moved-of =
         let s = strikes-off near Q angles ws fit in
         let w = f .freed in
-        subst Moved (sym whole)
-        (record {
-          on = s .on;
+        record {
           lays = laying-then near Q angles (f .crosses .lays) (s .lays);
           cnots = omega (arith, cnots-append (c .laid) (strikeOff angles ws .laid), f .crosses .cnots, s .cnots);
           chosen = λ k e. kept k e (singleOf (getD ws k 0)) refl;
           aside = λ k e. subst (Reached Q (getD xs k 0)) (sym (still-at k (not-single k e))) (f .crosses .each k);
           freed = (w .0, w .1, w .2, cleared (w .0) (w .3) (singleOf (getD ws (w .0) 0)) refl);
-        })
+        }
 
   pub moved-is : Moved (moved angles r m (rowOf sel xs m) xs)
   unfolding moved

@@ -20,6 +20,8 @@ use Rattle.columns.specs.Terms.{Laying}
 use Rattle.columns.proofs.Layings.{laying-none}
 use Rattle.steps.specs.Selection.{countOf}
 use Rattle.steps.specs.Choice.{without}
+use Rattle.steps.specs.Steps.{Step}
+use Rattle.steps.specs.Neighbours.{Claim}
 use Rattle.steps.proofs.Apart.{Many, many-ones, Safe, Reached, still}
 use Rattle.steps.proofs.Splits.{count-none, count-some}
 use Rattle.sets.proofs.Deciding.{never}
@@ -59,24 +61,22 @@ pub record Ready (Q : ℕ) (sel : List Bool) (xs : List ℕ) : Type 0 where
   pub chosen : (k : ℕ) → getD sel k false ≡ true → Sub (getD xs k 0) Q × Many (getD xs k 0)
   pub aside : (k : ℕ) → getD sel k false ≡ false → Safe Q (getD xs k 0)
 
--- it went on; every selected column is struck off, and the others are turned by CNOTs inside Q only
+-- every selected column is struck off, and the others are turned by CNOTs inside Q only
 pub record Done (near : List ℕ) (Q : ℕ) (angles : List ℕ) (sel : List Bool) (xs : List ℕ) (p : Piece) : Type 0 where
-  pub on : p .stuck ≡ false
   pub lays : Laying near Q angles xs (p .laid) (p .cols)
   pub struck : (k : ℕ) → getD sel k false ≡ true → getD (p .cols) k 0 ≡ 0
   pub others : (k : ℕ) → getD sel k false ≡ false → Reached Q (getD xs k 0) (getD (p .cols) k 0)
   pub cnots : cnotsOf (p .laid) ≤ 2 * (ones Q - 1) * countOf sel
 
--- a step that meets all this on every connected set of at most q qubits
-abbrev pub Meets : List ℕ → List ℕ → ℕ → (ℕ → List Bool → List ℕ → Piece) → Type 0
-Meets near angles q step =
-    (Q : ℕ) (sel : List Bool) (xs : List ℕ) → Q < 2 ^ 20 → Joined near Q → ones Q ≤ q → Ready Q sel xs → Done near Q angles sel xs (step Q sel xs)
+-- a step that meets all this on every connected set of at most q qubits, and of which `says` is true there
+abbrev pub Meets : List ℕ → List ℕ → ℕ → Step → Claim → Type 0
+Meets near angles q step says =
+    (Q : ℕ) (sel : List Bool) (xs : List ℕ) → Q < 2 ^ 20 → Joined near Q → ones Q ≤ q → Ready Q sel xs → Done near Q angles sel xs (step Q sel xs) × says Q sel xs
 
 -- "A step without columns does nothing"
 pub done-idle : (near : List ℕ) (Q : ℕ) (angles : List ℕ) (sel : List Bool) (xs : List ℕ) → Ready Q sel xs → countOf sel ≡ 0 → Done near Q angles sel xs (idle xs)
 done-idle near Q angles sel xs r e =
     record {
-      on = refl;
       lays = laying-none near Q angles xs;
       struck = λ k h. absurd (never h (count-none sel e k (r .places k h)));
       others = λ k h. still refl;

@@ -1,4 +1,4 @@
--- The steps lay the terms of a connected island, and are never stuck. Assumes nothing.
+-- The steps lay the terms of a connected set of qubits, and always have a qubit to go on with. Assumes nothing.
 use mathlib.Core.Path.{_≡_, refl, sym, ap, _∙_, subst}
 use mathlib.Core.Logic.{_≢_, inl}
 use mathlib.Core.Bool.{Bool, true, false}
@@ -14,19 +14,17 @@ use Rattle.sets.specs.Size.{singleOf, sizeOf}
 use Rattle.tallies.specs.Tally.{cnotsOf}
 use Rattle.chip.specs.Graph.{Symm, Joined}
 use Rattle.columns.specs.Tables.{sumTo, one}
-use Rattle.emitting.specs.Emit.{emitAt}
-use Rattle.columns.specs.Pieces.{Piece, after}
+use Rattle.columns.specs.Pieces.{Piece, andThen}
 use Rattle.columns.specs.Striking.{strikeOff}
 use Rattle.columns.specs.Terms.{LaysTerms}
 use Rattle.columns.proofs.Tabling.{sum-front, sum-ones, one-le}
-use Rattle.columns.proofs.Piecing.{then-on}
 use Rattle.columns.proofs.Layings.{laying-then}
 use Rattle.columns.proofs.Laid.{lays-terms}
 use Rattle.columns.proofs.Strikes.{single-zero}
 use Rattle.columns.proofs.Struck.{Fit, fit-of, Strikes, strikes-off, off-single, off-other}
 use Rattle.steps.specs.Selection.{countOf, liveOf}
-use Rattle.steps.specs.Steps.{baseStep, stepsFor, answerOf}
-use Rattle.steps.specs.declared.Laid.the-variants.{On}
+use Rattle.steps.specs.Steps.{baseStep, stepsFor}
+use Rattle.steps.specs.Neighbours.{BaseGoesOn, GoesOn}
 use Rattle.steps.proofs.Apart.{Many, many-of, reached-zero}
 use Rattle.steps.proofs.Splits.{not-true, live-in, live-out}
 use Rattle.steps.proofs.Meets.{Ready, Done}
@@ -91,12 +89,11 @@ module _ (near : List ℕ) (Q : ℕ) (ps angles : List ℕ) (low : Q < 2 ^ 20) (
   unfolding sizeOf
   size-is = refl
 
-  done : Done near Q angles sel ys B
-  done = base-meets near angles sy (sizeOf Q) Q sel ys low j (omega (arith, size-is)) ready
+  meets : Done near Q angles sel ys B × BaseGoesOn (sizeOf Q) near angles Q sel ys
+  meets = base-meets near angles sy (sizeOf Q) Q sel ys low j (omega (arith, size-is)) ready
 
-  same : stepsFor near Q ps angles ≡ after A B
-  unfolding stepsFor
-  same = then-on A (λ xs. baseStep (sizeOf Q) near angles Q (liveOf xs) xs) (singles .on)
+  done : Done near Q angles sel ys B
+  done = meets .0
 
   struck : (k : ℕ) → getD (B .cols) k 0 ≡ 0
   struck k = go (getD sel k false) refl
@@ -118,18 +115,12 @@ module _ (near : List ℕ) (Q : ℕ) (ps angles : List ℕ) (low : Q < 2 ^ 20) (
   bound : cnotsOf (A .laid ++ B .laid) ≤ 2 * (ones Q - 1) * length ps
   bound = omega (arith, cnots-append (A .laid) (B .laid), singles .cnots, done .cnots, mul-le-mul-left (2 * (ones Q - 1)) count-terms)
 
-  lays : LaysTerms near Q ps angles (A .laid ++ B .laid)
-  lays =
-      lays-terms near Q ps angles (A .laid ++ B .laid) (B .cols) low term (laying-then near Q angles (singles .lays) (done .lays)) struck bound
+  -- on an island, any connected set with any terms inside it, every base step has a spare qubit and every ones step a neighbour to go on with
+  pub always-a-neighbour : GoesOn near Q ps angles
+  unfolding GoesOn
+  always-a-neighbour = meets .1
 
-  -- a connected island whose terms lie inside it: never stuck (answer 9 is not angles)
-  pub steps-on : stepsFor near Q ps angles .stuck ≡ false
-  steps-on = ap (λ (p : Piece). p .stuck) same ∙ done .on
-
-  -- and every term laid, on couplers inside, within the bound
+  -- and every term is laid, on couplers inside, within the bound
   pub steps-lay : LaysTerms near Q ps angles (stepsFor near Q ps angles .laid)
-  steps-lay = subst (LaysTerms near Q ps angles) (sym (ap (λ (p : Piece). p .laid) same)) lays
-
-  pub steps-answer : (out : List ℕ) → answerOf out (stepsFor near Q ps angles) ≡ On (emitAt out 0 (stepsFor near Q ps angles .laid))
-  unfolding answerOf
-  steps-answer out = rw steps-on
+  unfolding stepsFor andThen
+  steps-lay = lays-terms near Q ps angles (A .laid ++ B .laid) (B .cols) low term (laying-then near Q angles (singles .lays) (done .lays)) struck bound

@@ -1,19 +1,20 @@
 -- The two steps unfolded: each law is what a return of the code asks. Assumes nothing.
 use mathlib.Core.Path.{_≡_, refl, sym, ap, _∙_}
-use mathlib.Core.Bool.{Bool, true, false}
+use mathlib.Core.Logic.{_≢_}
+use mathlib.Core.Bool.{Bool}
 use mathlib.Core.List.{List}
-use Prim.Native.Nat.{ℕ, zero, suc, _-_, _≤_, _<_}
+use Prim.Native.Nat.{ℕ, zero, suc, _-_}
 use native.Mathlib.Omega.{arith}
-use lib.Dec.{eqb, ltb}
-use borrow.Author.Tests.{eq-eqb, ne-eqb, lt-ltb, le-ltb}
+use lib.Dec.{eqb}
+use borrow.Author.Tests.{eq-eqb, ne-eqb}
 use Rattle.sets.specs.Pick.{pick}
-use Rattle.columns.specs.Pieces.{Piece, idle, halted, andThen, Memory, held, wrote}
+use Rattle.columns.specs.Pieces.{Piece, idle, andThen, Memory, held, wrote}
 use Rattle.columns.specs.Turning.{layCnot}
 use Rattle.columns.specs.Striking.{strikeOff}
-use Rattle.columns.proofs.Piecing.{wrote-none, wrote-on, wrote-stuck}
+use Rattle.columns.proofs.Piecing.{wrote-none, wrote-on}
 use Rattle.steps.specs.Selection.{countOf, zerosOf, onesOf, rowOf}
 use Rattle.steps.specs.Choice.{sparing, without, partner}
-use Rattle.steps.specs.Steps.{crossed, moved, onesStep, baseStep}
+use Rattle.steps.specs.Steps.{crossed, moved, Step, onesStep, baseStep}
 
 -- ---- the CNOTs of a ones step
 
@@ -22,30 +23,19 @@ module _ (r m n : ℕ) (xs : List ℕ) where
   unfolding crossed
   crossed-none e = ap (λ (b : Bool). pick b (andThen (layCnot m r xs) (layCnot r m)) (layCnot r m xs)) (eq-eqb n 0 e)
 
-  pub crossed-some : (n ≡ 0 → ⊥) → crossed r m n xs ≡ layCnot r m xs
+  pub crossed-some : n ≢ 0 → crossed r m n xs ≡ layCnot r m xs
   unfolding crossed
   crossed-some e = ap (λ (b : Bool). pick b (andThen (layCnot m r xs) (layCnot r m)) (layCnot r m xs)) (ne-eqb n 0 e)
 
-  pub crossed-twice : (out : List ℕ) (at : ℕ) {ys o : List ℕ} {a : ℕ} {w : Memory} → n ≡ 0 → held ys o a false ≡ wrote out at (layCnot m r xs) → w ≡ wrote o a (layCnot r m ys) → w ≡ wrote out at (crossed r m n xs)
+  pub crossed-twice : (out : List ℕ) (at : ℕ) {ys o : List ℕ} {a : ℕ} {w : Memory} → n ≡ 0 → held ys o a ≡ wrote out at (layCnot m r xs) → w ≡ wrote o a (layCnot r m ys) → w ≡ wrote out at (crossed r m n xs)
   crossed-twice out at e h g = wrote-on out at (layCnot m r xs) (layCnot r m) h g ∙ ap (wrote out at) (sym (crossed-none e))
 
-  pub crossed-once : (out : List ℕ) (at : ℕ) {w : Memory} → (n ≡ 0 → ⊥) → w ≡ wrote out at (layCnot r m xs) → w ≡ wrote out at (crossed r m n xs)
+  pub crossed-once : (out : List ℕ) (at : ℕ) {w : Memory} → n ≢ 0 → w ≡ wrote out at (layCnot r m xs) → w ≡ wrote out at (crossed r m n xs)
   crossed-once out at e g = g ∙ ap (wrote out at) (sym (crossed-some e))
 
-  pub moved-on : (angles out : List ℕ) (at : ℕ) {ys o : List ℕ} {a : ℕ} {w : Memory} → held ys o a false ≡ wrote out at (crossed r m n xs) → w ≡ wrote o a (strikeOff angles ys) → w ≡ wrote out at (moved angles r m n xs)
+  pub moved-on : (angles out : List ℕ) (at : ℕ) {ys o : List ℕ} {a : ℕ} {w : Memory} → held ys o a ≡ wrote out at (crossed r m n xs) → w ≡ wrote o a (strikeOff angles ys) → w ≡ wrote out at (moved angles r m n xs)
   unfolding moved
   moved-on angles out at h g = wrote-on out at (crossed r m n xs) (strikeOff angles) h g
-
--- ---- a choice of three
-
-pick-first : (b c : Bool) (p q r : Piece) → b ≡ true → pick b p (pick c q r) ≡ p
-pick-first b c p q r e = ap (λ (t : Bool). pick t p (pick c q r)) e
-
-pick-second : (b c : Bool) (p q r : Piece) → b ≡ false → c ≡ true → pick b p (pick c q r) ≡ q
-pick-second b c p q r e f = ap (λ (t : Bool). pick t p (pick c q r)) e ∙ ap (λ (t : Bool). pick t q r) f
-
-pick-third : (b c : Bool) (p q r : Piece) → b ≡ false → c ≡ false → pick b p (pick c q r) ≡ r
-pick-third b c p q r e f = ap (λ (t : Bool). pick t p (pick c q r)) e ∙ ap (λ (t : Bool). pick t q r) f
 
 -- ---- the base step
 
@@ -55,61 +45,45 @@ module _ (near angles : List ℕ) (Q : ℕ) (sel : List Bool) (xs : List ℕ) wh
   baseOn q r =
       andThen (baseStep q near angles (without Q r) (zerosOf r sel xs) xs) (λ ys. onesStep (countOf (onesOf r sel xs)) (baseStep q near angles) near angles Q r (onesOf r sel xs) ys)
 
-  base-step : (q : ℕ) → baseStep (suc q) near angles Q sel xs
-      ≡ pick (eqb (countOf sel) 0) (idle xs) (pick (ltb (sparing near Q sel xs) 20) (baseOn q (sparing near Q sel xs)) (halted xs))
+  pub base-zero : baseStep 0 near angles Q sel xs ≡ idle xs
+  unfolding baseStep
+  base-zero = refl
+
+  base-step : (q : ℕ) → baseStep (suc q) near angles Q sel xs ≡ pick (eqb (countOf sel) 0) (idle xs) (baseOn q (sparing near Q sel xs))
   unfolding baseStep baseOn
   base-step q = refl
 
   pub base-idle : (q : ℕ) → countOf sel ≡ 0 → baseStep q near angles Q sel xs ≡ idle xs
-  unfolding baseStep
-  base-idle zero e = ap (λ (b : Bool). pick b (idle xs) (halted xs)) (eq-eqb (countOf sel) 0 e)
-  base-idle (suc q) e = base-step q ∙ pick-first (eqb (countOf sel) 0) (ltb (sparing near Q sel xs) 20) (idle xs) (baseOn q (sparing near Q sel xs)) (halted xs) (eq-eqb (countOf sel) 0 e)
+  base-idle zero e = base-zero
+  base-idle (suc q) e = base-step q ∙ ap (λ (b : Bool). pick b (idle xs) (baseOn q (sparing near Q sel xs))) (eq-eqb (countOf sel) 0 e)
 
-  pub base-halted : (countOf sel ≡ 0 → ⊥) → baseStep 0 near angles Q sel xs ≡ halted xs
-  unfolding baseStep
-  base-halted n = ap (λ (b : Bool). pick b (idle xs) (halted xs)) (ne-eqb (countOf sel) 0 n)
-
-  pub base-lost : (q : ℕ) → (countOf sel ≡ 0 → ⊥) → 20 ≤ sparing near Q sel xs → baseStep (suc q) near angles Q sel xs ≡ halted xs
-  base-lost q n h = base-step q ∙ pick-third _ _ _ _ _ (ne-eqb (countOf sel) 0 n) (le-ltb (sparing near Q sel xs) 20 h)
-
-  pub base-on : (q : ℕ) → (countOf sel ≡ 0 → ⊥) → sparing near Q sel xs < 20 → baseStep (suc q) near angles Q sel xs ≡ baseOn q (sparing near Q sel xs)
-  base-on q n h = base-step q ∙ pick-second _ _ _ _ _ (ne-eqb (countOf sel) 0 n) (lt-ltb (sparing near Q sel xs) 20 h)
+  pub base-on : (q : ℕ) → countOf sel ≢ 0 → baseStep (suc q) near angles Q sel xs ≡ baseOn q (sparing near Q sel xs)
+  base-on q n = base-step q ∙ ap (λ (b : Bool). pick b (idle xs) (baseOn q (sparing near Q sel xs))) (ne-eqb (countOf sel) 0 n)
 
   -- as the code returns
   module _ (out : List ℕ) (at q : ℕ) where
-    pub base-returns-none : countOf sel ≡ 0 → held xs out at false ≡ wrote out at (baseStep q near angles Q sel xs)
-    base-returns-none e = wrote-none out at xs false ∙ ap (wrote out at) (sym (base-idle q e))
+    pub base-returns-zero : q ≡ 0 → held xs out at ≡ wrote out at (baseStep q near angles Q sel xs)
+    base-returns-zero e = wrote-none out at xs ∙ ap (wrote out at) (sym (ap (λ (k : ℕ). baseStep k near angles Q sel xs) e ∙ base-zero))
 
-    pub base-returns-zero : (countOf sel ≡ 0 → ⊥) → q ≡ 0 → held xs out at true ≡ wrote out at (baseStep q near angles Q sel xs)
-    base-returns-zero n e = wrote-none out at xs true ∙ ap (wrote out at) (sym (ap (λ (k : ℕ). baseStep k near angles Q sel xs) e ∙ base-halted n))
+    pub base-returns-none : countOf sel ≡ 0 → held xs out at ≡ wrote out at (baseStep q near angles Q sel xs)
+    base-returns-none e = wrote-none out at xs ∙ ap (wrote out at) (sym (base-idle q e))
 
-    pred : (q ≡ 0 → ⊥) → q ≡ suc (q - 1)
-    pred h = omega arith
+    module _ (r : ℕ) (er : r ≡ sparing near Q sel xs) (n : countOf sel ≢ 0) (nq : q ≢ 0) (s : ℕ) (z p : List Bool) (es : s ≡ without Q r) (ez : z ≡ zerosOf r sel xs) (ep : p ≡ onesOf r sel xs) where
+      whole : baseStep q near angles Q sel xs ≡ andThen (baseStep (q - 1) near angles s z xs) (λ ys. onesStep (countOf p) (baseStep (q - 1) near angles) near angles Q r p ys)
+      unfolding baseOn
+      whole =
+          let d : q ≡ suc (q - 1) = omega arith in
+          ap (λ (k : ℕ). baseStep k near angles Q sel xs) d ∙ base-on (q - 1) n ∙ rw (es, ez, ep) (ap (baseOn (q - 1)) (sym er))
 
-    at-pred : (q ≡ 0 → ⊥) → {p : Piece} → baseStep (suc (q - 1)) near angles Q sel xs ≡ p → baseStep q near angles Q sel xs ≡ p
-    at-pred h e = ap (λ (k : ℕ). baseStep k near angles Q sel xs) (pred h) ∙ e
-
-    module _ (r : ℕ) (er : r ≡ sparing near Q sel xs) (n : countOf sel ≡ 0 → ⊥) (nq : q ≡ 0 → ⊥) where
-      pub base-returns-lost : 20 ≤ r → held xs out at true ≡ wrote out at (baseStep q near angles Q sel xs)
-      base-returns-lost h = wrote-none out at xs true ∙ ap (wrote out at) (sym (at-pred nq (base-lost (q - 1) n (omega (arith, er)))))
-
-      module _ (l : r < 20) (s : ℕ) (z p : List Bool) (es : s ≡ without Q r) (ez : z ≡ zerosOf r sel xs) (ep : p ≡ onesOf r sel xs) where
-        whole : baseStep q near angles Q sel xs ≡ andThen (baseStep (q - 1) near angles s z xs) (λ ys. onesStep (countOf p) (baseStep (q - 1) near angles) near angles Q r p ys)
-        unfolding baseOn
-        whole = at-pred nq (base-on (q - 1) n (omega (arith, er)) ∙ rw (es, ez, ep) (ap (baseOn (q - 1)) (sym er)))
-
-        pub base-returns-stuck : {ys o : List ℕ} {a : ℕ} → held ys o a true ≡ wrote out at (baseStep (q - 1) near angles s z xs) → held ys o a true ≡ wrote out at (baseStep q near angles Q sel xs)
-        base-returns-stuck e = wrote-stuck out at _ (λ ys. onesStep (countOf p) (baseStep (q - 1) near angles) near angles Q r p ys) e ∙ ap (wrote out at) (sym whole)
-
-        pub base-returns-on : {ys o : List ℕ} {a k : ℕ} {w : Memory} → held ys o a false ≡ wrote out at (baseStep (q - 1) near angles s z xs) → k ≡ countOf p
-            → w ≡ wrote o a (onesStep k (baseStep (q - 1) near angles) near angles Q r p ys) → w ≡ wrote out at (baseStep q near angles Q sel xs)
-        base-returns-on {ys} {o} {a} {k} e ek h =
-            wrote-on out at _ (λ ys. onesStep (countOf p) (baseStep (q - 1) near angles) near angles Q r p ys) e
-            (h ∙ ap (λ (i : ℕ). wrote o a (onesStep i (baseStep (q - 1) near angles) near angles Q r p ys)) ek) ∙ ap (wrote out at) (sym whole)
+      pub base-returns-on : {ys o : List ℕ} {a k : ℕ} {w : Memory} → held ys o a ≡ wrote out at (baseStep (q - 1) near angles s z xs) → k ≡ countOf p
+          → w ≡ wrote o a (onesStep k (baseStep (q - 1) near angles) near angles Q r p ys) → w ≡ wrote out at (baseStep q near angles Q sel xs)
+      base-returns-on {ys} {o} {a} {k} e ek h =
+          wrote-on out at _ (λ ys. onesStep (countOf p) (baseStep (q - 1) near angles) near angles Q r p ys) e
+          (h ∙ ap (λ (i : ℕ). wrote o a (onesStep i (baseStep (q - 1) near angles) near angles Q r p ys)) ek) ∙ ap (wrote out at) (sym whole)
 
 -- ---- the ones step; below it stands any step
 
-module _ (below : ℕ → List Bool → List ℕ → Piece) (near angles : List ℕ) (Q r : ℕ) (sel : List Bool) (xs : List ℕ) where
+module _ (below : Step) (near angles : List ℕ) (Q r : ℕ) (sel : List Bool) (xs : List ℕ) where
   -- what follows behind the CNOTs, at the columns ys
   unfoldable pub onesThen : ℕ → List ℕ → Piece
   onesThen n ys = andThen (below (without Q r) (zerosOf r sel ys) ys) (λ zs. onesStep n below near angles Q r (onesOf r sel ys) zs)
@@ -118,59 +92,40 @@ module _ (below : ℕ → List Bool → List ℕ → Piece) (near angles : List 
   unfoldable pub onesOn : ℕ → ℕ → Piece
   onesOn n m = andThen (moved angles r m (rowOf sel xs m) xs) (onesThen n)
 
-  ones-step : (n : ℕ) → onesStep (suc n) below near angles Q r sel xs
-      ≡ pick (eqb (countOf sel) 0) (idle xs) (pick (ltb (partner near Q r sel xs) 20) (onesOn n (partner near Q r sel xs)) (halted xs))
-  unfolding onesStep onesOn onesThen
-  ones-step n = refl
-
   pub ones-zero : onesStep 0 below near angles Q r sel xs ≡ idle xs
   unfolding onesStep
   ones-zero = refl
 
+  ones-step : (n : ℕ) → onesStep (suc n) below near angles Q r sel xs ≡ pick (eqb (countOf sel) 0) (idle xs) (onesOn n (partner near Q r sel xs))
+  unfolding onesStep onesOn onesThen
+  ones-step n = refl
+
   pub ones-idle : (n : ℕ) → countOf sel ≡ 0 → onesStep n below near angles Q r sel xs ≡ idle xs
   ones-idle zero e = ones-zero
-  ones-idle (suc n) e = ones-step n ∙ pick-first (eqb (countOf sel) 0) (ltb (partner near Q r sel xs) 20) (idle xs) (onesOn n (partner near Q r sel xs)) (halted xs) (eq-eqb (countOf sel) 0 e)
+  ones-idle (suc n) e = ones-step n ∙ ap (λ (b : Bool). pick b (idle xs) (onesOn n (partner near Q r sel xs))) (eq-eqb (countOf sel) 0 e)
 
-  pub ones-lost : (n : ℕ) → (countOf sel ≡ 0 → ⊥) → 20 ≤ partner near Q r sel xs → onesStep (suc n) below near angles Q r sel xs ≡ halted xs
-  ones-lost n ne h = ones-step n ∙ pick-third _ _ _ _ _ (ne-eqb (countOf sel) 0 ne) (le-ltb (partner near Q r sel xs) 20 h)
-
-  pub ones-on : (n : ℕ) → (countOf sel ≡ 0 → ⊥) → partner near Q r sel xs < 20 → onesStep (suc n) below near angles Q r sel xs ≡ onesOn n (partner near Q r sel xs)
-  ones-on n ne h = ones-step n ∙ pick-second _ _ _ _ _ (ne-eqb (countOf sel) 0 ne) (lt-ltb (partner near Q r sel xs) 20 h)
+  pub ones-on : (n : ℕ) → countOf sel ≢ 0 → onesStep (suc n) below near angles Q r sel xs ≡ onesOn n (partner near Q r sel xs)
+  ones-on n ne = ones-step n ∙ ap (λ (b : Bool). pick b (idle xs) (onesOn n (partner near Q r sel xs))) (ne-eqb (countOf sel) 0 ne)
 
   module _ (out : List ℕ) (at n : ℕ) where
-    pub ones-returns-zero : n ≡ 0 → held xs out at false ≡ wrote out at (onesStep n below near angles Q r sel xs)
-    ones-returns-zero e = wrote-none out at xs false ∙ ap (wrote out at) (sym (ap (λ (k : ℕ). onesStep k below near angles Q r sel xs) e ∙ ones-zero))
+    pub ones-returns-zero : n ≡ 0 → held xs out at ≡ wrote out at (onesStep n below near angles Q r sel xs)
+    ones-returns-zero e = wrote-none out at xs ∙ ap (wrote out at) (sym (ap (λ (k : ℕ). onesStep k below near angles Q r sel xs) e ∙ ones-zero))
 
-    pub ones-returns-none : countOf sel ≡ 0 → held xs out at false ≡ wrote out at (onesStep n below near angles Q r sel xs)
-    ones-returns-none e = wrote-none out at xs false ∙ ap (wrote out at) (sym (ones-idle n e))
+    pub ones-returns-none : countOf sel ≡ 0 → held xs out at ≡ wrote out at (onesStep n below near angles Q r sel xs)
+    ones-returns-none e = wrote-none out at xs ∙ ap (wrote out at) (sym (ones-idle n e))
 
-    pred-ones : (n ≡ 0 → ⊥) → n ≡ suc (n - 1)
-    pred-ones h = omega arith
+    module _ (m : ℕ) (em : m ≡ partner near Q r sel xs) (ne : countOf sel ≢ 0) (nn : n ≢ 0) (k : ℕ) (ek : k ≡ rowOf sel xs m) {ys o : List ℕ} {a : ℕ} (e : held ys o a ≡ wrote out at (moved angles r m k xs)) where
+      -- from the columns ys and the place a on
+      onward : {w : Memory} → w ≡ wrote o a (onesThen (n - 1) ys) → w ≡ wrote out at (onesStep n below near angles Q r sel xs)
+      unfolding onesOn
+      onward h =
+          let d : suc (n - 1) ≡ n = omega arith in
+          wrote-on out at (moved angles r m k xs) (onesThen (n - 1)) e h
+          ∙ ap (λ (i : ℕ). wrote out at (andThen (moved angles r m i xs) (onesThen (n - 1)))) ek
+          ∙ ap (λ (i : ℕ). wrote out at (onesOn (n - 1) i)) em ∙ ap (wrote out at) (sym (ones-on (n - 1) ne) ∙ ap (λ (j : ℕ). onesStep j below near angles Q r sel xs) d)
 
-    ones-pred : (n ≡ 0 → ⊥) → {p : Piece} → onesStep (suc (n - 1)) below near angles Q r sel xs ≡ p → onesStep n below near angles Q r sel xs ≡ p
-    ones-pred h e = ap (λ (k : ℕ). onesStep k below near angles Q r sel xs) (pred-ones h) ∙ e
-
-    module _ (m : ℕ) (em : m ≡ partner near Q r sel xs) (ne : countOf sel ≡ 0 → ⊥) (nn : n ≡ 0 → ⊥) where
-      pub ones-returns-lost : 20 ≤ m → held xs out at true ≡ wrote out at (onesStep n below near angles Q r sel xs)
-      ones-returns-lost h = wrote-none out at xs true ∙ ap (wrote out at) (sym (ones-pred nn (ones-lost (n - 1) ne (omega (arith, em)))))
-
-      module _ (l : m < 20) (k : ℕ) (ek : k ≡ rowOf sel xs m) {ys o : List ℕ} {a : ℕ} (e : held ys o a false ≡ wrote out at (moved angles r m k xs)) where
-        -- from the columns ys and the place a on
-        onward : {w : Memory} → w ≡ wrote o a (onesThen (n - 1) ys) → w ≡ wrote out at (onesStep n below near angles Q r sel xs)
-        unfolding onesOn
-        onward h =
-            wrote-on out at (moved angles r m k xs) (onesThen (n - 1)) e h
-            ∙ ap (λ (i : ℕ). wrote out at (andThen (moved angles r m i xs) (onesThen (n - 1)))) ek
-            ∙ ap (λ (i : ℕ). wrote out at (onesOn (n - 1) i)) em ∙ ap (wrote out at) (sym (ones-pred nn (ones-on (n - 1) ne (omega (arith, em)))))
-
-        module _ (s : ℕ) (z p : List Bool) (es : s ≡ without Q r) (ez : z ≡ zerosOf r sel ys) (ep : p ≡ onesOf r sel ys) where
-          whole-ones : onesThen (n - 1) ys ≡ andThen (below s z ys) (λ zs. onesStep (n - 1) below near angles Q r p zs)
-          unfolding onesThen
-          whole-ones = rw (es, ez, ep)
-
-          pub ones-returns-stuck : {zs o′ : List ℕ} {b : ℕ} → held zs o′ b true ≡ wrote o a (below s z ys) → held zs o′ b true ≡ wrote out at (onesStep n below near angles Q r sel xs)
-          ones-returns-stuck h = onward (wrote-stuck o a (below s z ys) (λ zs. onesStep (n - 1) below near angles Q r p zs) h ∙ ap (wrote o a) (sym whole-ones))
-
-          pub ones-returns-on : {zs o′ : List ℕ} {b : ℕ} {w : Memory} → held zs o′ b false ≡ wrote o a (below s z ys) → w ≡ wrote o′ b (onesStep (n - 1) below near angles Q r p zs)
-              → w ≡ wrote out at (onesStep n below near angles Q r sel xs)
-          ones-returns-on h g = onward (wrote-on o a (below s z ys) (λ zs. onesStep (n - 1) below near angles Q r p zs) h g ∙ ap (wrote o a) (sym whole-ones))
+      module _ (s : ℕ) (z p : List Bool) (es : s ≡ without Q r) (ez : z ≡ zerosOf r sel ys) (ep : p ≡ onesOf r sel ys) where
+        pub ones-returns-on : {zs o′ : List ℕ} {b : ℕ} {w : Memory} → held zs o′ b ≡ wrote o a (below s z ys) → w ≡ wrote o′ b (onesStep (n - 1) below near angles Q r p zs)
+            → w ≡ wrote out at (onesStep n below near angles Q r sel xs)
+        unfolding onesThen
+        ones-returns-on h g = onward (wrote-on o a (below s z ys) (λ zs. onesStep (n - 1) below near angles Q r p zs) h g ∙ rw (es, ez, ep))

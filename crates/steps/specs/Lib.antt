@@ -1,3 +1,4 @@
 pub mod Selection
 pub mod Choice
 pub mod Steps
+pub mod Neighbours

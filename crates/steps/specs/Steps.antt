@@ -1,19 +1,15 @@
 -- The base step and the ones step (document 01, "Steps from document 000", after document 000, Figure 1).
-use mathlib.Core.Bool.{Bool, true, false}
+use mathlib.Core.Bool.{Bool}
 use mathlib.Core.List.{List}
 use Prim.Native.Nat.{ℕ, zero, suc}
-use lib.Dec.{eqb, ltb}
+use lib.Dec.{eqb}
 use Rattle.sets.specs.Pick.{pick}
 use Rattle.sets.specs.Size.{sizeOf}
-use Rattle.gates.specs.Limits.{mostQubits}
-use Rattle.emitting.specs.Emit.{emitAt}
-use Rattle.columns.specs.Pieces.{Piece, idle, halted, andThen, Memory, held}
+use Rattle.columns.specs.Pieces.{Piece, idle, andThen}
 use Rattle.columns.specs.Turning.{layCnot}
 use Rattle.columns.specs.Striking.{strikeOff}
 use Rattle.steps.specs.Selection.{countOf, zerosOf, onesOf, liveOf, rowOf}
 use Rattle.steps.specs.Choice.{sparing, without, partner}
-use Rattle.steps.specs.declared.Laid.{Laid}
-use Rattle.steps.specs.declared.Laid.the-variants.{On, Stuck}
 
 -- "If it has any, lay a CNOT from the chosen qubit to it. If not, lay one from the neighbour to the chosen qubit and then one back." r is the chosen qubit, m the neighbour, n its ones
 unfoldable pub crossed : ℕ → ℕ → ℕ → List ℕ → Piece
@@ -34,27 +30,18 @@ onesStep (suc n) below near angles Q r sel xs =
     let m = partner near Q r sel xs in
     let more = andThen (moved angles r m (rowOf sel xs m) xs)
     (λ ys. andThen (below (without Q r) (zerosOf r sel ys) ys) (λ zs. onesStep n below near angles Q r (onesOf r sel ys) zs)) in
-    pick (eqb (countOf sel) 0) (idle xs) (pick (ltb m mostQubits) more (halted xs))
+    pick (eqb (countOf sel) 0) (idle xs) more
 
 -- the base step for q qubits. "Columns with 0 there first take the base step without that qubit; then columns with 1 take the ones step"
 unfoldable pub baseStep : ℕ → List ℕ → List ℕ → Step
-baseStep zero near angles Q sel xs = pick (eqb (countOf sel) 0) (idle xs) (halted xs)
+baseStep zero near angles Q sel xs = idle xs
 baseStep (suc q) near angles Q sel xs =
     let r = sparing near Q sel xs in
     let p = onesOf r sel xs in
     let more = andThen (baseStep q near angles (without Q r) (zerosOf r sel xs) xs) (λ ys. onesStep (countOf p) (baseStep q near angles) near angles Q r p ys) in
-    pick (eqb (countOf sel) 0) (idle xs) (pick (ltb r mostQubits) more (halted xs))
+    pick (eqb (countOf sel) 0) (idle xs) more
 
 -- "Terms are columns over the island's qubits": columns of one qubit first, then the base step
 unfoldable pub stepsFor : List ℕ → ℕ → List ℕ → List ℕ → Piece
 stepsFor near Q ps angles =
     andThen (strikeOff angles ps) (λ xs. baseStep (sizeOf Q) near angles Q (liveOf xs) xs)
-
--- the code's answer and memory, as the memory behind a piece
-abbrev pub ended : List ℕ → List ℕ → Laid → Memory
-ended xs o (On a) = held xs o a false
-ended xs o (Stuck a) = held xs o a true
-
--- the answer where the gates go to `out` from its first place on
-unfoldable pub answerOf : List ℕ → Piece → Laid
-answerOf out p = pick (p .stuck) (Stuck (emitAt out 0 (p .laid))) (On (emitAt out 0 (p .laid)))

@@ -4,20 +4,13 @@ use columns::turning;
 use gates::job::Job;
 ghost use mathlib.Core.Path.{_≡_};
 ghost use lib.ListN.{take};
-ghost use Rattle.emitting.specs.Emit.{emit};
-ghost use Rattle.columns.specs.Pieces.{wrote};
-ghost use Rattle.steps.specs.Steps.{stepsFor, ended, answerOf};
+ghost use Rattle.emitting.specs.Emit.{emit, emitAt};
+ghost use Rattle.columns.specs.Pieces.{held, wrote};
+ghost use Rattle.steps.specs.Steps.{stepsFor};
 
 mod choice;
 mod selection;
 mod steps;
-
-// What the steps come to, with the next place in the lent list: they went on, or a chosen qubit had
-// no neighbour.
-pub enum Laid {
-    On(usize),
-    Stuck(usize),
-}
 
 // Lays the columns: those of one qubit at once, the others by the base step.
 fn lay_columns(
@@ -26,8 +19,8 @@ fn lay_columns(
     cols: &mut [u32],
     angles: &[u32],
     out: &mut [u32],
-) -> Laid
-    ensures { λ r. ⌜ ended (now (cols .exit)) (now (out .exit)) r ≡ wrote (now (out .entry)) 0 (stepsFor near set (now (cols .entry)) (now (angles .entry))) ⌝ }
+) -> usize
+    ensures { λ r. ⌜ held (now (cols .exit)) (now (out .exit)) r ≡ wrote (now (out .entry)) 0 (stepsFor near set (now (cols .entry)) (now (angles .entry))) ⌝ }
 {
     let a = striking::strike(cols, angles, out, 0);
     let live = selection::live(cols);
@@ -43,8 +36,8 @@ pub fn lay_terms(
     angle: [u32; Job::PARITIES],
     count: usize,
     out: &mut [u32],
-) -> Laid
-    ensures { λ r. ⌜ (now (out .exit) ≡ emit (now (out .entry)) 0 (stepsFor near set (take count parity) (take count angle) .laid)) × (r ≡ answerOf (now (out .entry)) (stepsFor near set (take count parity) (take count angle))) ⌝ }
+) -> usize
+    ensures { λ r. ⌜ (now (out .exit) ≡ emit (now (out .entry)) 0 (stepsFor near set (take count parity) (take count angle) .laid)) × (r ≡ emitAt (now (out .entry)) 0 (stepsFor near set (take count parity) (take count angle) .laid)) ⌝ }
 {
     let n = turning::at_most(count, Job::PARITIES);
     let mut cols = parity;

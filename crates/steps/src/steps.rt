@@ -1,18 +1,16 @@
 // The base step and the ones step, which call each other.
-use crate::Laid;
 use crate::choice;
 use crate::selection;
 use columns::striking;
 use columns::turning;
 use gates::job::Job;
 ghost use mathlib.Core.Path.{_≡_};
-ghost use mathlib.Core.Bool.{false};
 ghost use Rattle.columns.specs.Pieces.{held, wrote};
-ghost use Rattle.steps.specs.Steps.{crossed, moved, onesStep, baseStep, ended};
+ghost use Rattle.steps.specs.Steps.{crossed, moved, onesStep, baseStep};
 
 // The CNOTs of a ones step on r and its neighbour m, whose row has `ones` ones.
 pub fn cross(cols: &mut [u32], out: &mut [u32], at: usize, r: usize, m: usize, ones: usize) -> usize
-    ensures { λ a. ⌜ held (now (cols .exit)) (now (out .exit)) a false ≡ wrote (now (out .entry)) at (crossed r m ones (now (cols .entry))) ⌝ }
+    ensures { λ a. ⌜ held (now (cols .exit)) (now (out .exit)) a ≡ wrote (now (out .entry)) at (crossed r m ones (now (cols .entry))) ⌝ }
 {
     if ones == 0 {
         let a = turning::lay_cnot(cols, out, at, m, r);
@@ -30,7 +28,7 @@ pub fn move_on(
     m: usize,
     ones: usize,
 ) -> usize
-    ensures { λ a. ⌜ held (now (cols .exit)) (now (out .exit)) a false ≡ wrote (now (out .entry)) at (moved (now (angles .entry)) r m ones (now (cols .entry))) ⌝ }
+    ensures { λ a. ⌜ held (now (cols .exit)) (now (out .exit)) a ≡ wrote (now (out .entry)) at (moved (now (angles .entry)) r m ones (now (cols .entry))) ⌝ }
 {
     let a = cross(cols, out, at, r, m, ones);
     striking::strike(cols, angles, out, a)
@@ -46,22 +44,19 @@ pub fn base(
     sel: [bool; Job::PARITIES],
     set: u32,
     qubits: usize,
-) -> Laid
-    ensures { λ a. ⌜ ended (now (cols .exit)) (now (out .exit)) a ≡ wrote (now (out .entry)) at (baseStep qubits near (now (angles .entry)) set sel (now (cols .entry))) ⌝ }
+) -> usize
+    ensures { λ a. ⌜ held (now (cols .exit)) (now (out .exit)) a ≡ wrote (now (out .entry)) at (baseStep qubits near (now (angles .entry)) set sel (now (cols .entry))) ⌝ }
 {
-    if selection::count(sel) == 0 {
-        return Laid::On(at);
-    }
     if qubits == 0 {
-        return Laid::Stuck(at);
+        return at;
+    }
+    if selection::count(sel) == 0 {
+        return at;
     }
     let r = choice::spared(near, set, sel, cols);
-    if Job::QUBITS <= r {
-        return Laid::Stuck(at);
-    }
     let zeros = selection::zeros(r, sel, cols);
     let with_one = selection::with_one(r, sel, cols);
-    match base(
+    let a = base(
         near,
         cols,
         angles,
@@ -70,21 +65,19 @@ pub fn base(
         zeros,
         choice::rest(set, r),
         qubits - 1,
-    ) {
-        Laid::Stuck(a) => Laid::Stuck(a),
-        Laid::On(a) => ones(
-            near,
-            cols,
-            angles,
-            out,
-            a,
-            with_one,
-            set,
-            r,
-            qubits - 1,
-            selection::count(with_one),
-        ),
-    }
+    );
+    ones(
+        near,
+        cols,
+        angles,
+        out,
+        a,
+        with_one,
+        set,
+        r,
+        qubits - 1,
+        selection::count(with_one),
+    )
 }
 
 // The ones step on `set`, its qubit r and the selected columns. It falls by `columns`, the columns
@@ -100,23 +93,20 @@ pub fn ones(
     r: usize,
     qubits: usize,
     columns: usize,
-) -> Laid
-    ensures { λ a. ⌜ ended (now (cols .exit)) (now (out .exit)) a ≡ wrote (now (out .entry)) at (onesStep columns (baseStep qubits near (now (angles .entry))) near (now (angles .entry)) set r sel (now (cols .entry))) ⌝ }
+) -> usize
+    ensures { λ a. ⌜ held (now (cols .exit)) (now (out .exit)) a ≡ wrote (now (out .entry)) at (onesStep columns (baseStep qubits near (now (angles .entry))) near (now (angles .entry)) set r sel (now (cols .entry))) ⌝ }
 {
     if columns == 0 {
-        return Laid::On(at);
+        return at;
     }
     if selection::count(sel) == 0 {
-        return Laid::On(at);
+        return at;
     }
     let m = choice::partnered(near, set, r, sel, cols);
-    if Job::QUBITS <= m {
-        return Laid::Stuck(at);
-    }
     let a = move_on(cols, angles, out, at, r, m, selection::row(m, sel, cols));
     let freed = selection::zeros(r, sel, cols);
     let held = selection::with_one(r, sel, cols);
-    match base(
+    let b = base(
         near,
         cols,
         angles,
@@ -125,19 +115,17 @@ pub fn ones(
         freed,
         choice::rest(set, r),
         qubits,
-    ) {
-        Laid::Stuck(b) => Laid::Stuck(b),
-        Laid::On(b) => ones(
-            near,
-            cols,
-            angles,
-            out,
-            b,
-            held,
-            set,
-            r,
-            qubits,
-            columns - 1,
-        ),
-    }
+    );
+    ones(
+        near,
+        cols,
+        angles,
+        out,
+        b,
+        held,
+        set,
+        r,
+        qubits,
+        columns - 1,
+    )
 }

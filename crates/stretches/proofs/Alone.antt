@@ -12,7 +12,8 @@ use Rattle.circuit.specs.Phase.{phaseOf}
 use Rattle.tallies.specs.Tally.{largest}
 use Rattle.laying.specs.declared.lay.Answer.{Answer}
 use Rattle.laying.specs.declared.lay.Answer.the-variants.{Laid, Refused}
-use Rattle.laying.specs.Verdict.{verdictOf, circuitOf, answered, outputOf}
+use Rattle.judging.specs.Tests.{verdictOf}
+use Rattle.laying.specs.Answers.{circuitOf, answered, outputOf}
 use Rattle.laying.proofs.Said.{Counted, laid-says, refused-says, output-front}
 use Rattle.stretches.specs.Asked.{Accepts}
 use Rattle.stretches.specs.Laid.{stretchRecords}

@@ -13,14 +13,14 @@ use Rattle.gates.specs.Layout.{gatesOf}
 use Rattle.verdicts.specs.declared.verdict.Verdict.{Verdict}
 use Rattle.verdicts.specs.declared.verdict.Verdict.the-variants.{Accepted, Room}
 use Rattle.verdicts.specs.Verdicts.{numberOf}
-use Rattle.verdicts.proofs.Judged.{then-on, then-stop}
-use Rattle.laying.specs.Verdict.{countsOf}
+use Rattle.verdicts.proofs.Judged.{zero-accepted, then-on, then-stop}
+use Rattle.laying.specs.Answers.{countsOf}
 use Rattle.laying.specs.declared.lay.Answer.{Answer}
 use Rattle.laying.specs.declared.lay.Answer.the-variants.{Refused}
 use Rattle.stretches.specs.Stretches.{stretchesOf}
 use Rattle.stretches.specs.Tests.{judgedDrawing, judgedParitiesFrom, judgedReaches, jobBound, judgedBound, judgedStretches, jobVerdict}
 use Rattle.stretches.specs.Laid.{jobRecords, jobPhase, jobAnswered, jobOutput}
-use Rattle.stretches.proofs.Passing.{job-passed, stuck-none, job-bounded}
+use Rattle.stretches.proofs.Passing.{job-passed, job-bounded}
 
 module _ (n : ℕ) (xs ys : List ℕ) where
   -- ---- 1 to 7
@@ -77,16 +77,14 @@ module _ (n : ℕ) (xs ys : List ℕ) where
       refused-8 v e ne = answers-refused v (e ∙ stopped) ne
         where
           stopped : judgedBound n ys room ≡ verdict
-          stopped = unfold jobVerdict in then-stop (judgedBound n ys room) _ (λ z. ne (ap numberOf e ∙ z)) ∙ then-on (judgedStretches n xs ys) _ a
+          stopped = unfold jobVerdict in then-on (judgedStretches n xs ys) _ a
 
       -- ---- accepted
 
       module _ (b : numberOf (judgedBound n ys room) ≡ 0) where
         pub accepted-is : verdict ≡ Accepted
         unfolding jobVerdict
-        accepted-is =
-            sym (then-on (judgedStretches n xs ys) _ a) ∙ sym (then-on (judgedBound n ys room) _ b)
-            ∙ stuck-none n xs ys (stretchesOf n ys) (job-passed n xs ys a .accepts)
+        accepted-is = sym (then-on (judgedStretches n xs ys) _ a) ∙ zero-accepted (judgedBound n ys room) b
 
         accepted : eqb (numberOf verdict) 0 ≡ true
         accepted = eq-eqb (numberOf verdict) 0 (ap numberOf accepted-is)

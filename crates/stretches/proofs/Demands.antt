@@ -3,7 +3,7 @@ use mathlib.Core.Path.{_≡_, refl, sym, ap, ap₂, _∙_, subst}
 use mathlib.Core.Logic.{_≢_}
 use mathlib.Core.Bool.{Bool, true, false}
 use mathlib.Core.List.{List, [], _∷_, _++_, map}
-use Prim.Native.Nat.{ℕ, suc, _≤_}
+use Prim.Native.Nat.{ℕ, suc, _≤_, _<_}
 use native.Mathlib.Omega.{arith}
 use lib.Dec.{eqb}
 use lib.ListN.{length, take, drop, length-map}
@@ -21,18 +21,21 @@ use Rattle.verdicts.proofs.Rows.{row-fails}
 use Rattle.circuit.specs.Phase.{phaseOf, phases}
 use Rattle.meaning.specs.Same.{Alike}
 use Rattle.tallies.specs.Tally.{cnotsOf, rotationsOf, depthOf, largest}
+use Rattle.chip.specs.Couplers.{nearOf}
 use Rattle.laying.specs.declared.lay.Answer.{Answer}
 use Rattle.laying.specs.declared.lay.Answer.the-variants.{Laid, Refused}
-use Rattle.laying.specs.Verdict.{countsOf, verdictIn, recordsIn, cnotsIn, rotationsIn, depthIn, phaseIn}
+use Rattle.laying.specs.Answers.{countsOf, verdictIn, recordsIn, cnotsIn, rotationsIn, depthIn, phaseIn}
 use Rattle.laying.specs.Demands.{Island, FlipsLast, Agree}
+use Rattle.laying.specs.Laid.{GoesOnIsland}
+use Rattle.laying.proofs.Demands as laying
 use Rattle.stretches.specs.Cut.{weave, Each, Pairs}
 use Rattle.stretches.specs.Stretches.{stretchesOf, hadamardsOf}
-use Rattle.stretches.specs.Tests.{judgedDrawing, judgedParitiesFrom, judgedReaches, judgedBound, judgedStretches, jobVerdict}
+use Rattle.stretches.specs.Tests.{judgedDrawing, judgedParitiesFrom, judgedReaches, judgedStretches, jobVerdict}
 use Rattle.stretches.specs.Asked.{Accepts}
 use Rattle.stretches.specs.Laid.{stretchRecords, jobRecords, phasesOf, jobPhase, jobAnswered, jobOutput, jobLaid}
 use Rattle.stretches.specs.Meaning.{AlikeJob, ReachableJob}
 use Rattle.stretches.specs.Demands.{sumOfShares, Faithfuls, FaithfulJob, AgreeJob, SameOn, recordsOn}
-use Rattle.stretches.proofs.Eachs.{each-mapped, each-true}
+use Rattle.stretches.proofs.Eachs.{each-map, each-mapped, each-true}
 use Rattle.stretches.proofs.Paired.{pairs-both, pairs-mapped, pairs-self}
 use Rattle.stretches.proofs.Weaving.{cut-size, cut-weave, those-weave}
 use Rattle.stretches.proofs.Passing.{Passed, stretches-six, job-passed, job-bounded}
@@ -209,12 +212,12 @@ module _ (n : ℕ) (couplers : List ℕ) where
   pub demand-2-fits : (gates : List ℕ) (room : ℕ) → numberOf (jobVerdict n couplers gates room) ≡ 0 → length (jobRecords n couplers gates) ≤ room
   unfolding jobVerdict
   demand-2-fits gates room z =
-      let e = then-zero (judgedStretches n couplers gates) _ z .1 in
-      omega (arith, job-bounded n couplers gates (accepted-passed n couplers gates room z), room-enough n couplers gates room (then-zero (judgedBound n gates room) _ e .0))
+      omega (arith, job-bounded n couplers gates (accepted-passed n couplers gates room z), room-enough n couplers gates room (then-zero (judgedStretches n couplers gates) _ z .1))
 
-  -- "steps ran out" is never answered
-  pub demand-2-never-9 : (gates : List ℕ) (room : ℕ) → numberOf (jobVerdict n couplers gates room) ≢ 9
-  demand-2-never-9 gates room = job-rows n couplers gates room .row-9 .exactly .0
+  -- on each island of each stretch every base step has a spare qubit, and every ones step a neighbour to go on with
+  pub demand-2-goes-on : (gates : List ℕ) (room : ℕ) → numberOf (jobVerdict n couplers gates room) ≡ 0 → (q : ℕ) → q < n → Each (λ s. GoesOnIsland (nearOf n couplers) (gatesOf n s) q) (stretchesOf n gates)
+  demand-2-goes-on gates room z q l =
+      each-map (Accepts n couplers) (λ s. GoesOnIsland (nearOf n couplers) (gatesOf n s) q) (λ s a. laying.demand-2-goes-on n couplers s largest a q l) (stretchesOf n gates) (accepted-passed n couplers gates room z .accepts)
 
   -- refused as unreachable only where some stretch has the meaning of no circuit of coupler CNOTs, rotations and X gates
   pub demand-2-unreachable : (gates : List ℕ) (room : ℕ) → numberOf (jobVerdict n couplers gates room) ≡ 7 → ReachableJob n couplers gates → ⊥

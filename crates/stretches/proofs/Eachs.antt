@@ -26,6 +26,11 @@ each-all P f [] = tt
 each-all P f (x ∷ xs) = (f x, each-all P f xs)
 
 -- what becomes of the members
+pub each-map : {A : Type 0} (P Q : A → Type 0) → ((x : A) → P x → Q x) → (xs : List A) → Each P xs → Each Q xs
+unfolding Each
+each-map P Q f [] a = tt
+each-map P Q f (x ∷ xs) a = (f x (a .0), each-map P Q f xs (a .1))
+
 pub each-mapped : {A B : Type 0} (P : A → Type 0) (Q : B → Type 0) (f : A → B) → ((x : A) → P x → Q (f x)) → (xs : List A) → Each P xs → Each Q (map f xs)
 unfolding Each
 each-mapped P Q f g [] a = tt

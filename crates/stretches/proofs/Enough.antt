@@ -25,7 +25,7 @@ use Rattle.stretches.specs.Tests.{judgedDrawing, judgedParitiesFrom, jud
 use Rattle.stretches.specs.Rows.{BringsFrom, UnreachedFrom, Unreached}
 use Rattle.stretches.proofs.Passing.{stretches-six}
 use Rattle.stretches.proofs.Testing.{parities-tests, reaches-tests, bound-tests}
-use Rattle.stretches.proofs.Rows.{judged-all, job-rows}
+use Rattle.stretches.proofs.Rows.{job-rows}
 
 -- ---- 8
 
@@ -35,8 +35,9 @@ job-never-8 n couplers gates room lent e = omega (arith, lent, job-rows n couple
 
 -- there tests 1 to 7 decide
 pub judged-enough : (n : ℕ) (couplers gates : List ℕ) (room : ℕ) → jobBound n gates ≤ room → jobVerdict n couplers gates room ≡ judgedStretches n couplers gates
+unfolding jobVerdict
 judged-enough n couplers gates room lent =
-    sym (judged-all n couplers gates room) ∙ ap (andThen (judgedStretches n couplers gates)) (zero-accepted (judgedBound n gates room) (test-passed (bound-tests n gates room) lent))
+    ap (andThen (judgedStretches n couplers gates)) (zero-accepted (judgedBound n gates room) (test-passed (bound-tests n gates room) lent))
     ∙ then-accepted (judgedStretches n couplers gates)
 
 -- ---- places

@@ -18,7 +18,7 @@ use Rattle.tallies.specs.Tally.{boundOf, largest}
 use Rattle.meaning.specs.Borne.{overAt, terms}
 use Rattle.chip.specs.Couplers.{nearOf}
 use Rattle.isles.specs.Islands.{islandsOf}
-use Rattle.judging.specs.Tests.{judgedReach, judgedJob}
+use Rattle.judging.specs.Tests.{judgedReach, verdictOf}
 use Rattle.stretches.specs.Cut.{Each}
 use Rattle.stretches.specs.Stretches.{stretchesOf, hadamardsOf, endAt, stretchAt, restFrom, hadamardsFrom}
 use Rattle.stretches.specs.Tests.{judgedParitiesAt, judgedParitiesFrom, judgedReachAt, judgedReachFrom, judgedReaches, boundsOf, jobBound, judgedBound}
@@ -104,7 +104,7 @@ module _ (n : ℕ) (xs : List ℕ) where
     unfolding judgedReachFrom
     seventh-end k l r = sym (ap (judgedReachFrom n isls k) (rest-past n xs k l)) ∙ r .same
 
-    module _ (k : ℕ) (l : k ≤ length xs) (s : List ℕ) (e : Lent k s) (v : Verdict) (w : ℕ) (a : v ≡ judgedJob n couplers s largest) (b : w ≡ numberOf v) (r : Seventh k) where
+    module _ (k : ℕ) (l : k ≤ length xs) (s : List ℕ) (e : Lent k s) (v : Verdict) (w : ℕ) (a : v ≡ verdictOf n couplers s largest) (b : w ≡ numberOf v) (r : Seventh k) where
       onlys : Each (OnlyReach n couplers) (s ∷ rest (k + length s + 1))
       onlys = subst (Each (OnlyReach n couplers)) (lent-step k s e l) (r .only)
 
@@ -152,7 +152,7 @@ module _ (n : ℕ) (xs : List ℕ) where
         go (yes m) = m
         go (no m) = absurd (z (ap length d ∙ ap length (behind-none n xs 0 (omega arith) (omega (arith, m)))))
 
-    pub reaches-one : (h : List ℕ) → h ≡ hadamardAt n xs 0 → length h ≡ 0 → Each (OnlyReach n couplers) all → (v : Verdict) → v ≡ judgedJob n couplers xs largest → v ≡ judgedReaches n couplers xs
+    pub reaches-one : (h : List ℕ) → h ≡ hadamardAt n xs 0 → length h ≡ 0 → Each (OnlyReach n couplers) all → (v : Verdict) → v ≡ verdictOf n couplers xs largest → v ≡ judgedReaches n couplers xs
     unfolding judgedReaches
     reaches-one h d z only v a =
         let m = first-none h d z in

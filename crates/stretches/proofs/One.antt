@@ -23,12 +23,12 @@ use Rattle.meaning.specs.Borne.{overAt, terms}
 use Rattle.tallies.specs.Tally.{boundOf}
 use Rattle.chip.specs.Couplers.{nearOf}
 use Rattle.isles.specs.Islands.{islandsOf}
-use Rattle.judging.specs.Tests.{judgedCount, judgedParities, judgedReach, judgedRoom, judgedMeaning, judgedJob}
+use Rattle.judging.specs.Tests.{judgedCount, judgedParities, judgedReach, judgedRoom, judgedMeaning, verdictOf}
 use Rattle.laying.specs.declared.lay.Answer.the-variants.{Refused}
-use Rattle.laying.specs.Verdict.{judgedStuck, verdictOf, circuitOf, countsOf, answered, outputOf}
+use Rattle.laying.specs.Answers.{circuitOf, countsOf, answered, outputOf}
 use Rattle.stretches.specs.Cut.{weave, Each}
 use Rattle.stretches.specs.Stretches.{stretchesOf, hadamardsOf}
-use Rattle.stretches.specs.Tests.{judgedDrawing, judgedParitiesAt, judgedParitiesFrom, judgedReachFrom, judgedReaches, boundsOf, jobBound, judgedBound, judgedStuckIn, judgedStretches, jobVerdict}
+use Rattle.stretches.specs.Tests.{judgedDrawing, judgedParitiesAt, judgedParitiesFrom, judgedReachFrom, judgedReaches, boundsOf, jobBound, judgedBound, judgedStretches, jobVerdict}
 use Rattle.stretches.specs.Laid.{stretchRecords, jobRecords, phasesOf, jobPhase, jobAnswered, jobOutput}
 use Rattle.stretches.proofs.Eachs.{each-head, at-each, each-false}
 use Rattle.stretches.proofs.Passing.{none-one}
@@ -85,15 +85,11 @@ module _ (n : ℕ) (couplers gates : List ℕ) (none : hadamardsOf n gates ≡ [
       let e : boundsOf n (stretchesOf n gates) + length (hadamardsOf n gates) ≡ boundOf n (length (terms gs)) = omega (arith, ap (boundsOf n) one, ap length none) in
       ap (λ (k : ℕ). pick (ltb room k) Room Accepted) e
 
-  one-nine : judgedStuckIn n (nearOf n couplers) (stretchesOf n gates) ≡ judgedStuck n (nearOf n couplers) gs
-  unfolding judgedStuckIn
-  one-nine = ap (judgedStuckIn n (nearOf n couplers)) one ∙ then-accepted (judgedStuck n (nearOf n couplers) gs)
-
   -- ---- all of them
 
-  -- the same verdict: tests 1 to 9 are those of one stretch, with its place of 7
+  -- the same verdict: tests 1 to 8 are those of one stretch, with its place of 7
   pub one-verdict : (room : ℕ) → jobVerdict n couplers gates room ≡ verdictOf n couplers gates room
-  unfolding jobVerdict judgedStretches judgedDrawing verdictOf judgedJob judgedMeaning
+  unfolding jobVerdict judgedStretches judgedDrawing verdictOf judgedMeaning
   one-verdict room =
       let q : Verdict = judgedQubits n in
       let c : Verdict = judgedCouplers n couplers in
@@ -102,19 +98,13 @@ module _ (n : ℕ) (couplers gates : List ℕ) (none : hadamardsOf n gates ≡ [
       let p : Verdict = judgedParities gs in
       let r : Verdict = judgedReach n isls gs in
       let m : Verdict = judgedRoom n gs room in
-      let t : Verdict = judgedStuck n (nearOf n couplers) gs in
       let a : Verdict = andThen (judgedParitiesFrom n 0 (stretchesOf n gates)) (judgedReaches n couplers gates) in
-      let b : Verdict = andThen (judgedBound n gates room) (judgedStuckIn n (nearOf n couplers) (stretchesOf n gates)) in
       let l : Verdict = andThen q (andThen c (andThen k g)) in
-      let left : andThen (andThen l (andThen p r)) (andThen m t) ≡ andThen l (andThen p (andThen r (andThen m t))) =
-      then-assoc l (andThen p r) (andThen m t) ∙ ap (andThen l) (then-assoc p r (andThen m t)) in
-      let right : andThen (andThen l (andThen p (andThen r m))) t ≡ andThen l (andThen p (andThen r (andThen m t))) =
-      then-assoc l (andThen p (andThen r m)) t ∙ ap (andThen l) (then-assoc p (andThen r m) t ∙ ap (andThen p) (then-assoc r m t)) in
+      let left : andThen (andThen l (andThen p r)) m ≡ andThen l (andThen p (andThen r m)) = then-assoc l (andThen p r) m ∙ ap (andThen l) (then-assoc p r m) in
       let flat : andThen l (andThen p (andThen r m)) ≡ andThen q (andThen c (andThen k (andThen g (andThen p (andThen r m))))) =
       then-assoc q (andThen c (andThen k g)) (andThen p (andThen r m)) ∙ ap (andThen q) (then-assoc c (andThen k g) (andThen p (andThen r m)) ∙ ap (andThen c) (then-assoc k g (andThen p (andThen r m)))) in
-      ap (λ (d : Verdict). andThen (andThen (andThen q (andThen c (andThen k d))) a) b) (drawn-gates n gates between)
-      ∙ ap₂ (λ (v w : Verdict). andThen (andThen l v) w) (ap₂ andThen one-six one-seven) (ap₂ andThen (one-eight room) one-nine)
-      ∙ left ∙ sym right ∙ ap (λ (v : Verdict). andThen v t) flat
+      ap (λ (d : Verdict). andThen (andThen (andThen q (andThen c (andThen k d))) a) (judgedBound n gates room)) (drawn-gates n gates between)
+      ∙ ap₂ (λ (v w : Verdict). andThen (andThen l v) w) (ap₂ andThen one-six one-seven) (one-eight room) ∙ left ∙ flat
 
   -- the same answer
   pub one-answer : (room : ℕ) → jobAnswered n couplers gates room ≡ answered n couplers gates room

@@ -28,16 +28,15 @@ use Rattle.meaning.specs.Borne.{overAt, terms}
 use Rattle.meaning.proofs.Bearing.{terms-few}
 use Rattle.chip.specs.Couplers.{nearOf}
 use Rattle.isles.specs.Islands.{islandsOf}
-use Rattle.judging.specs.Tests.{judgedCount, judgedParities, judgedReach, judgedRoom, judgedMeaning, judgedJob}
+use Rattle.judging.specs.Tests.{judgedCount, judgedParities, judgedReach, judgedRoom, judgedMeaning, verdictOf}
 use Rattle.judging.proofs.Judging.{over-le, over-few, qubits-few, parities-pass}
-use Rattle.laying.specs.Verdict.{judgedStuck, verdictOf, circuitOf}
+use Rattle.laying.specs.Answers.{circuitOf}
 use Rattle.laying.specs.Demands.{judgedSix}
-use Rattle.laying.proofs.Accepted.{job-accepted}
 use Rattle.laying.proofs.Demands.{demand-2}
 use Rattle.laying.proofs.Rows.{tests-4}
 use Rattle.stretches.specs.Cut.{ahead, cutAt, those, weave, Each}
 use Rattle.stretches.specs.Stretches.{stretchesOf, hadamardsOf}
-use Rattle.stretches.specs.Tests.{judgedDrawing, judgedParitiesAt, judgedParitiesFrom, judgedReachAt, judgedReachFrom, judgedReaches, boundsOf, jobBound, judgedStuckIn, judgedStretches}
+use Rattle.stretches.specs.Tests.{judgedDrawing, judgedParitiesAt, judgedParitiesFrom, judgedReachAt, judgedReachFrom, judgedReaches, boundsOf, jobBound, judgedStretches}
 use Rattle.stretches.specs.Asked.{OnlyReach, Counted, Accepts}
 use Rattle.stretches.specs.Laid.{stretchRecords, jobRecords}
 use Rattle.stretches.proofs.Eachs.{each-one, each-both, each-at, at-each, each-cut, each-short, cut-few}
@@ -160,7 +159,7 @@ room-passed n s few c =
 module _ (n : ℕ) (couplers : List ℕ) (qubits : numberOf (judgedQubits n) ≡ 0) (listed : numberOf (judgedCouplers n couplers) ≡ 0)
     (s : List ℕ) (fair : Each (Fair n) s) (short : length s < mostGates + 1) (c : Counted n s) where
   only-reach : OnlyReach n couplers s
-  unfolding judgedJob judgedMeaning
+  unfolding verdictOf judgedMeaning
   only-reach =
       let reach : Verdict = judgedReach n (islandsOf (nearOf n couplers)) (gatesOf n s) in
       let r : Verdict = andThen reach (judgedRoom n (gatesOf n s) largest) in
@@ -185,7 +184,7 @@ module _ (n : ℕ) (couplers : List ℕ) (qubits : numberOf (judgedQubits n) ≡
       ∙ parities-pass (gatesOf n s) c)
 
   stretch-accepted : Reaches n (islandsOf (nearOf n couplers)) s → Accepts n couplers s
-  stretch-accepted z = ap numberOf (job-accepted n couplers s largest (ap numberOf only-reach ∙ z))
+  stretch-accepted z = ap numberOf only-reach ∙ z
 
 -- ---- all of them
 
@@ -248,17 +247,6 @@ module _ (n : ℕ) (couplers gates : List ℕ) where
             (stretches (a .0) (λ s. Counted n s → Reaches n isls s → Accepts n couplers s) (λ s f l p. stretch-accepted n couplers (d .qubits) (d .couplers-listed) s f l p))
             (each-both (Counted n) (Reaches n isls) (λ s. Counted n s × Reaches n isls s) (λ s x y. (x, y)) (stretchesOf n gates) c (reaches-each n couplers gates (b .1)));
       }
-
-  not-stuck : (s : List ℕ) → Accepts n couplers s → numberOf (judgedStuck n (nearOf n couplers) (gatesOf n s)) ≡ 0
-  unfolding verdictOf
-  not-stuck s a = then-zero (judgedJob n couplers s largest) (judgedStuck n (nearOf n couplers) (gatesOf n s)) a .1
-
-  -- "steps ran out" in no stretch
-  pub stuck-none : (ss : List (List ℕ)) → Each (Accepts n couplers) ss → judgedStuckIn n (nearOf n couplers) ss ≡ Accepted
-  unfolding judgedStuckIn Each
-  stuck-none [] a = refl
-  stuck-none (s ∷ ss) a =
-      sym (then-on (judgedStuck n (nearOf n couplers) (gatesOf n s)) (judgedStuckIn n (nearOf n couplers) ss) (not-stuck s (a .0))) ∙ stuck-none ss (a .1)
 
   -- ---- what is laid
 

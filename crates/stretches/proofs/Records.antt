@@ -19,10 +19,11 @@ use Rattle.circuit.specs.Phase.{phaseOf}
 use Rattle.meaning.specs.Same.{Alike}
 use Rattle.tallies.specs.Tally.{largest}
 use Rattle.laying.specs.declared.lay.Answer.the-variants.{Refused}
-use Rattle.laying.specs.Verdict.{verdictOf, circuitOf, countsOf, answered, phaseIn, laidRecords}
+use Rattle.judging.specs.Tests.{verdictOf}
+use Rattle.laying.specs.Answers.{circuitOf, countsOf, answered, phaseIn, laidRecords}
 use Rattle.laying.specs.Demands.{Island, Faithful, FlipsLast, SameCouplers, Agree}
 use Rattle.laying.proofs.Accepting.{job-layable}
-use Rattle.laying.proofs.Demands.{accepted-job, demand-2, demand-2-flips-last, records-are}
+use Rattle.laying.proofs.Demands.{demand-2, demand-2-flips-last, records-are}
 use Rattle.laying.proofs.Archive.{each-qubit-has-an-island, meaning-agrees, one-circuit-for-one-meaning}
 use Rattle.stretches.specs.Cut.{Each}
 use Rattle.stretches.specs.Asked.{Accepts}
@@ -38,7 +39,7 @@ records-between n (g ∷ gs) few a = (good-between n g few (a .0), records-betwe
 module _ (n : ℕ) (couplers s : List ℕ) (room : ℕ) (z : numberOf (verdictOf n couplers s room) ≡ 0) where
   -- its qubits fit a record
   pub stretch-few : n ≤ 256
-  stretch-few = let f = job-layable n couplers s room (accepted-job n couplers s room z) .few in omega arith
+  stretch-few = let f = job-layable n couplers s room z .few in omega arith
 
   -- the gates of its records are its circuit
   pub stretch-gates : gatesOf n (stretchRecords n couplers s) ≡ circuitOf n couplers s

@@ -1,25 +1,23 @@
 -- The table of document 01 holds of what laying a job answers, row by row. Assumes nothing.
 use mathlib.Core.Path.{_≡_, refl, sym, ap, _∙_, subst}
-use mathlib.Core.Logic.{_≢_, _⊎_, inl, inr}
+use mathlib.Core.Logic.{inl, inr}
 use mathlib.Core.List.{List}
-use Prim.Native.Nat.{ℕ, _≤_, _<_}
+use Prim.Native.Nat.{ℕ}
 use native.Mathlib.Omega.{arith}
-use native.Mathlib.Decide.{ℕ-discrete}
 use Rattle.verdicts.specs.declared.verdict.Verdict.{Verdict}
-use Rattle.verdicts.specs.Verdicts.{numberOf, placeOf, judgedQubits, judgedCouplers, judgedDrawn}
+use Rattle.verdicts.specs.Verdicts.{numberOf, judgedQubits, judgedCouplers, judgedDrawn}
 use Rattle.verdicts.specs.InOrder.{andThen}
-use Rattle.verdicts.specs.Rows.{Row, Nowhere, Passes1, Passes2, Passes3, PassesDrawn}
-use Rattle.verdicts.proofs.Judged.{then-accepted, then-on, then-stop, then-assoc}
+use Rattle.verdicts.specs.Rows.{Row, Passes1, Passes2, Passes3, PassesDrawn}
+use Rattle.verdicts.proofs.Judged.{then-on, then-assoc}
 use Rattle.verdicts.proofs.Rows.{Tests, test-passed, row-fails, row-passes, row-then, row-first, Beyond, beyond-not, beyond-test, beyond-then, tests-1, tests-2, tests-3, tests-drawn, judgedMany, judgedWrong, couplers-parted}
-use Rattle.chip.specs.Couplers.{nearOf}
 use Rattle.judging.specs.Tests.{judgedCount}
 use Rattle.laying.specs.Rows.{Passes4}
 use Rattle.laying.proofs.Rows.{tests-4, Later, later-not, later-than}
 use Rattle.stretches.specs.Stretches.{stretchesOf}
-use Rattle.stretches.specs.Tests.{judgedDrawing, judgedParitiesFrom, judgedReaches, jobBound, judgedBound, judgedStuckIn, judgedStretches, jobVerdict}
+use Rattle.stretches.specs.Tests.{judgedDrawing, judgedParitiesFrom, judgedReaches, judgedBound, judgedStretches, jobVerdict}
 use Rattle.stretches.specs.Meaning.{ReachableJob}
 use Rattle.stretches.specs.Rows.{PassesSix, Unreached, JobRows}
-use Rattle.stretches.proofs.Passing.{stretches-six, job-passed, stuck-none}
+use Rattle.stretches.proofs.Passing.{stretches-six}
 use Rattle.stretches.proofs.Testing.{parities-tests, reaches-tests, bound-tests}
 
 module _ (n : ℕ) (couplers gates : List ℕ) (room : ℕ) where
@@ -57,8 +55,8 @@ module _ (n : ℕ) (couplers gates : List ℕ) (room : ℕ) where
   all = andThen (judgedQubits n) behind1
 
   -- 1 to 8, of which 2 and 3 are one function
-  all-judged : all ≡ andThen (judgedStretches n couplers gates) bound
-  unfolding judgedStretches judgedDrawing
+  all-judged : all ≡ jobVerdict n couplers gates room
+  unfolding jobVerdict judgedStretches judgedDrawing
   all-judged =
       let k : Verdict = judgedCount gates in
       let g : Verdict = judgedDrawn n gates in
@@ -67,18 +65,6 @@ module _ (n : ℕ) (couplers gates : List ℕ) (room : ℕ) where
       ∙ ap (andThen (judgedCouplers n couplers)) (sym (then-assoc k g behind5)) ∙ sym (then-assoc (judgedCouplers n couplers) (andThen k g) behind5))
       ∙ sym (then-assoc (judgedQubits n) (andThen (judgedCouplers n couplers) (andThen k g)) behind5)
       ∙ ap (andThen (judgedDrawing n couplers gates)) (sym (then-assoc parities reach bound)) ∙ sym (then-assoc (judgedDrawing n couplers gates) (andThen parities reach) bound)
-
-  -- 9 is always passed
-  pub judged-all : andThen (judgedStretches n couplers gates) bound ≡ jobVerdict n couplers gates room
-  unfolding jobVerdict
-  judged-all = go (ℕ-discrete (numberOf (judgedStretches n couplers gates)) 0)
-    where
-      stuck : Verdict
-      stuck = judgedStuckIn n (nearOf n couplers) stretches
-
-      go : Dec (numberOf (judgedStretches n couplers gates) ≡ 0) → andThen (judgedStretches n couplers gates) bound ≡ andThen (judgedStretches n couplers gates) (andThen bound stuck)
-      go (yes z) = ap (andThen (judgedStretches n couplers gates)) (sym (then-accepted bound) ∙ ap (andThen bound) (sym (stuck-none n couplers gates stretches (job-passed n couplers gates z .accepts))))
-      go (no ne) = sym (then-stop (judgedStretches n couplers gates) bound ne) ∙ then-stop (judgedStretches n couplers gates) (andThen bound stuck) ne
 
   module _ (p1 : Passes1 n) (p2 : Passes2 couplers) (p3 : Passes3 n couplers) where
     couplers-passed : numberOf (judgedCouplers n couplers) ≡ 0
@@ -144,19 +130,6 @@ module _ (n : ℕ) (couplers gates : List ℕ) (room : ℕ) where
 
   -- ---- the table
 
-  -- 9 is answered by no test
-  bound-never-9 : numberOf bound ≢ 9
-  bound-never-9 e = go (bound-tests n gates room .decided)
-    where
-      go : ((numberOf bound ≡ 0) × (jobBound n gates ≤ room)) ⊎ ((numberOf bound ≡ 8) × (room < jobBound n gates) × Nowhere (placeOf bound)) → ⊥
-      go (inl d) = omega (arith, e, d .0)
-      go (inr d) = omega (arith, e, d .0)
-
-  never-9 : numberOf all ≢ 9
-  never-9 e =
-      let none : Row bound 9 ⊥ Nowhere = record { exactly = (bound-never-9, λ f. absurd f); place = λ z. absurd (bound-never-9 z) } in
-      past7 9 (inr (omega arith)) none .exactly .0 e .1 .1 .1 .1 .1 .1 .1
-
   all-rows : JobRows n couplers gates room all
   all-rows = record {
     row-0 = past7 0 (inl refl) (row-passes (bound-tests n gates room));
@@ -170,9 +143,8 @@ module _ (n : ℕ) (couplers gates : List ℕ) (room : ℕ) where
         past6 7 (inr (omega arith))
         (λ p1 p2 p3 p4 p5 p6. row-first (tests-7 p1 p2 p3 p4 p5 p6) bound (λ p7. beyond-not 7 bound (omega arith) (beyond-test (bound-tests n gates room) 7 (omega arith))));
     row-8 = past7 8 (inr (omega arith)) (row-fails (bound-tests n gates room));
-    row-9 = record { exactly = (never-9, λ f. absurd f); place = λ e. absurd (never-9 e) };
   }
 
   -- every row holds of the verdict of a job
   pub job-rows : JobRows n couplers gates room (jobVerdict n couplers gates room)
-  job-rows = subst (JobRows n couplers gates room) (all-judged ∙ judged-all) all-rows
+  job-rows = subst (JobRows n couplers gates room) all-judged all-rows

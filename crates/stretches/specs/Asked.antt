@@ -9,12 +9,11 @@ use Rattle.tallies.specs.Tally.{largest}
 use Rattle.meaning.specs.Borne.{overAt}
 use Rattle.chip.specs.Couplers.{nearOf}
 use Rattle.isles.specs.Islands.{islandsOf}
-use Rattle.judging.specs.Tests.{judgedReach, judgedJob}
-use Rattle.laying.specs.Verdict.{verdictOf}
+use Rattle.judging.specs.Tests.{judgedReach, verdictOf}
 
 -- as a job of its own only test 7 can refuse it
 abbrev pub OnlyReach : ℕ → List ℕ → List ℕ → Type 0
-OnlyReach n couplers s = judgedJob n couplers s largest ≡ judgedReach n (islandsOf (nearOf n couplers)) (gatesOf n s)
+OnlyReach n couplers s = verdictOf n couplers s largest ≡ judgedReach n (islandsOf (nearOf n couplers)) (gatesOf n s)
 
 -- it passed test 6
 abbrev pub Counted : ℕ → List ℕ → Type 0

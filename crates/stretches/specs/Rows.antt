@@ -47,4 +47,3 @@ pub record JobRows (n : ℕ) (couplers gates : List ℕ) (room : ℕ) (v : Verdi
   pub row-6 : Row v 6 (Passes1 n × (Passes2 couplers × (Passes3 n couplers × (Passes4 gates × (PassesDrawn n gates × (PassesSix n (stretchesOf n gates) → ⊥)))))) (BringsFrom n 0 (stretchesOf n gates))
   pub row-7 : Row v 7 (Passes1 n × (Passes2 couplers × (Passes3 n couplers × (Passes4 gates × (PassesDrawn n gates × (PassesSix n (stretchesOf n gates) × (ReachableJob n couplers gates → ⊥))))))) (Unreached n couplers gates)
   pub row-8 : Row v 8 (Passes1 n × (Passes2 couplers × (Passes3 n couplers × (Passes4 gates × (PassesDrawn n gates × (PassesSix n (stretchesOf n gates) × (ReachableJob n couplers gates × (room < jobBound n gates)))))))) Nowhere
-  pub row-9 : Row v 9 ⊥ Nowhere

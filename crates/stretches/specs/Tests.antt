@@ -1,4 +1,4 @@
--- The tests of a job, in which Hadamards may stand (document 01, "Records and refusals"; request E12). Tests 6, 7 and 9 are those of one stretch, made of every stretch; test 8 is of all together.
+-- The tests of a job, in which Hadamards may stand (document 01, "Records and refusals"; request E12). Tests 6 and 7 are those of one stretch, made of every stretch; test 8 is of all together.
 use mathlib.Core.List.{List, [], _∷_}
 use Prim.Native.Nat.{ℕ, _+_}
 use lib.Dec.{eqb, ltb}
@@ -14,7 +14,6 @@ use Rattle.meaning.specs.Borne.{overAt, terms}
 use Rattle.chip.specs.Couplers.{nearOf}
 use Rattle.isles.specs.Islands.{islandsOf}
 use Rattle.judging.specs.Tests.{judgedCount, judgedReach}
-use Rattle.laying.specs.Verdict.{judgedStuck}
 use Rattle.stretches.specs.Stretches.{stretchesOf, hadamardsOf}
 
 -- ---- 1 to 5, of all gates
@@ -59,19 +58,12 @@ jobBound n gates = boundsOf n (stretchesOf n gates) + length (hadamardsOf n gate
 unfoldable pub judgedBound : ℕ → List ℕ → ℕ → Verdict
 judgedBound n gates room = pick (ltb room (jobBound n gates)) Room Accepted
 
--- ---- 9
-
-unfoldable pub judgedStuckIn : ℕ → List ℕ → List (List ℕ) → Verdict
-judgedStuckIn n near [] = Accepted
-judgedStuckIn n near (s ∷ ss) = andThen (judgedStuck n near (gatesOf n s)) (judgedStuckIn n near ss)
-
 -- ---- in order
 
 -- 1 to 7: "all stretches pass 6 before any is tested for 7"
 unfoldable pub judgedStretches : ℕ → List ℕ → List ℕ → Verdict
 judgedStretches n couplers gates = andThen (judgedDrawing n couplers gates) (andThen (judgedParitiesFrom n 0 (stretchesOf n gates)) (judgedReaches n couplers gates))
 
--- "Laying tests 1 to 9 in that order"
+-- "Laying tests 1 to 9 in that order", 9 being gone with request E7
 unfoldable pub jobVerdict : ℕ → List ℕ → List ℕ → ℕ → Verdict
-jobVerdict n couplers gates room =
-    andThen (judgedStretches n couplers gates) (andThen (judgedBound n gates room) (judgedStuckIn n (nearOf n couplers) (stretchesOf n gates)))
+jobVerdict n couplers gates room = andThen (judgedStretches n couplers gates) (judgedBound n gates room)

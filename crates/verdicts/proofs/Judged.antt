@@ -1,5 +1,6 @@
 -- Tests in order: the first refusal decides, and the number 0 is that of acceptance alone. Assumes nothing.
 use mathlib.Core.Path.{_≡_, refl, sym, ap, _∙_}
+use mathlib.Core.Logic.{_≢_}
 use mathlib.Core.Bool.{Bool, true, false}
 use Prim.Native.Nat.{ℕ}
 use native.Mathlib.Omega.{arith}
@@ -7,7 +8,7 @@ use lib.Dec.{eqb}
 use borrow.Author.Tests.{eqb-true, eq-eqb, ne-eqb}
 use Rattle.sets.specs.Pick.{pick}
 use Rattle.verdicts.specs.declared.verdict.Verdict.{Verdict}
-use Rattle.verdicts.specs.declared.verdict.Verdict.the-variants.{Accepted, Qubits, ManyCouplers, WrongCoupler, ManyGates, BadGate, ManyParities, Unreachable, Room, Stuck, Line, LongText}
+use Rattle.verdicts.specs.declared.verdict.Verdict.the-variants.{Accepted, Qubits, ManyCouplers, WrongCoupler, ManyGates, BadGate, ManyParities, Unreachable, Room, Line, LongText}
 use Rattle.verdicts.specs.Verdicts.{numberOf}
 use Rattle.verdicts.specs.InOrder.{andThen}
 
@@ -22,9 +23,22 @@ zero-accepted (BadGate k) e = let z : _≡_ {A = ℕ} 5 0 = e in absurd (omega a
 zero-accepted (ManyParities k) e = let z : _≡_ {A = ℕ} 6 0 = e in absurd (omega arith)
 zero-accepted (Unreachable k) e = let z : _≡_ {A = ℕ} 7 0 = e in absurd (omega arith)
 zero-accepted Room e = let z : _≡_ {A = ℕ} 8 0 = e in absurd (omega arith)
-zero-accepted Stuck e = let z : _≡_ {A = ℕ} 9 0 = e in absurd (omega arith)
 zero-accepted (Line k) e = let z : _≡_ {A = ℕ} 10 0 = e in absurd (omega arith)
 zero-accepted LongText e = let z : _≡_ {A = ℕ} 11 0 = e in absurd (omega arith)
+
+-- no answer has the number 9
+pub no-nine : (v : Verdict) → numberOf v ≢ 9
+no-nine Accepted e = let z : _≡_ {A = ℕ} 0 9 = e in omega arith
+no-nine Qubits e = let z : _≡_ {A = ℕ} 1 9 = e in omega arith
+no-nine ManyCouplers e = let z : _≡_ {A = ℕ} 2 9 = e in omega arith
+no-nine (WrongCoupler k) e = let z : _≡_ {A = ℕ} 3 9 = e in omega arith
+no-nine ManyGates e = let z : _≡_ {A = ℕ} 4 9 = e in omega arith
+no-nine (BadGate k) e = let z : _≡_ {A = ℕ} 5 9 = e in omega arith
+no-nine (ManyParities k) e = let z : _≡_ {A = ℕ} 6 9 = e in omega arith
+no-nine (Unreachable k) e = let z : _≡_ {A = ℕ} 7 9 = e in omega arith
+no-nine Room e = let z : _≡_ {A = ℕ} 8 9 = e in omega arith
+no-nine (Line k) e = let z : _≡_ {A = ℕ} 10 9 = e in omega arith
+no-nine LongText e = let z : _≡_ {A = ℕ} 11 9 = e in omega arith
 
 -- v stands for the verdict w of a test, and k for v's number
 module _ {v w : Verdict} {k : ℕ} (e : v ≡ w) (f : k ≡ numberOf v) where

@@ -1,4 +1,4 @@
--- Tests in order (document 01, "Records and refusals": "Laying tests 1 to 9 in that order; reading tests 11, 10, 8; writing tests 1, 2, 3, 5 and then 8").
+-- Tests in order (document 01, "Records and refusals", with request E7: laying tests 1 to 8 in that order; "reading tests 11, 10, 8; writing tests 1, 2, 3, 5 and then 8").
 use lib.Dec.{eqb}
 use Rattle.sets.specs.Pick.{pick}
 use Rattle.verdicts.specs.declared.verdict.Verdict.{Verdict}

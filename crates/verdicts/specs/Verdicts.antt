@@ -10,7 +10,7 @@ use Rattle.gates.specs.Limits.{mostQubits, mostCouplers}
 use Rattle.gates.specs.Layout.{gateOf, isBad, couplerOf, isWrong}
 use Rattle.gates.specs.Hadamards.{isHadamard}
 use Rattle.verdicts.specs.declared.verdict.Verdict.{Verdict}
-use Rattle.verdicts.specs.declared.verdict.Verdict.the-variants.{Accepted, Qubits, ManyCouplers, WrongCoupler, ManyGates, BadGate, ManyParities, Unreachable, Room, Stuck, Line, LongText}
+use Rattle.verdicts.specs.declared.verdict.Verdict.the-variants.{Accepted, Qubits, ManyCouplers, WrongCoupler, ManyGates, BadGate, ManyParities, Unreachable, Room, Line, LongText}
 
 -- the column "No."
 abbrev pub numberOf : Verdict → ℕ
@@ -23,7 +23,6 @@ numberOf (BadGate k) = 5
 numberOf (ManyParities k) = 6
 numberOf (Unreachable k) = 7
 numberOf Room = 8
-numberOf Stuck = 9
 numberOf (Line k) = 10
 numberOf LongText = 11
 
@@ -38,7 +37,6 @@ placeOf (BadGate k) = k
 placeOf (ManyParities k) = k
 placeOf (Unreachable k) = k
 placeOf Room = 0
-placeOf Stuck = 0
 placeOf (Line k) = k
 placeOf LongText = 0
 

@@ -16,7 +16,6 @@ pub enum Verdict {
     ManyParities(usize),
     Unreachable(usize),
     Room,
-    Stuck,
     Line(usize),
     LongText,
 }
@@ -34,7 +33,6 @@ pub fn number(v: Verdict) -> u32
         Verdict::ManyParities(_) => 6,
         Verdict::Unreachable(_) => 7,
         Verdict::Room => 8,
-        Verdict::Stuck => 9,
         Verdict::Line(_) => 10,
         Verdict::LongText => 11,
     }
@@ -53,7 +51,6 @@ pub fn place(v: Verdict) -> usize
         Verdict::ManyParities(k) => k,
         Verdict::Unreachable(k) => k,
         Verdict::Room => 0,
-        Verdict::Stuck => 0,
         Verdict::Line(k) => k,
         Verdict::LongText => 0,
     }

@@ -1,11 +1,10 @@
 -- One island laid: by the shorter of the two ways, each with its closing (document 01, "Steps from document 000"; docs/LAYING.md).
-use mathlib.Core.List.{List, [], _++_}
+use mathlib.Core.List.{List, _++_}
 use Prim.Native.Nat.{ℕ}
 use lib.Dec.{ltb}
 use lib.ListN.{length}
 use Rattle.sets.specs.Pick.{pick}
 use Rattle.gates.specs.declared.gate.Gate.{Gate}
-use Rattle.columns.specs.Pieces.{Piece, piece}
 use Rattle.steps.specs.Steps.{stepsFor}
 use Rattle.nearest.specs.Nearest.{nearestFor}
 use Rattle.ending.specs.Closing.{closingOf}
@@ -19,9 +18,7 @@ unfoldable pub shorter : List Gate → List Gate → List Gate
 shorter a b = pick (ltb (length b) (length a)) b a
 
 -- an island: its neighbours, its qubits, its terms with their angles, the parities asked for on its wires and their mirror.
--- The shorter of the steps and nearest first, each with its closing, "the steps in a tie"; it is stuck where the steps are
-unfoldable pub islandLaid : List ℕ → ℕ → List ℕ → List ℕ → List ℕ → List ℕ → Piece
+-- The shorter of the steps and nearest first, each with its closing, "the steps in a tie"
+unfoldable pub islandLaid : List ℕ → ℕ → List ℕ → List ℕ → List ℕ → List ℕ → List Gate
 islandLaid near Q ps angles asked mirror =
-    piece []
-    (shorter (withClosing near Q asked mirror (stepsFor near Q ps angles .laid)) (withClosing near Q asked mirror (nearestFor near Q ps angles .laid)))
-    (stepsFor near Q ps angles .stuck)
+    shorter (withClosing near Q asked mirror (stepsFor near Q ps angles .laid)) (withClosing near Q asked mirror (nearestFor near Q ps angles .laid))

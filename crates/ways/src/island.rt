@@ -4,12 +4,11 @@ use ending::closing;
 use gates::gate;
 use gates::job::Job;
 use share::own::Own;
-use steps::Laid;
 use tallies::tally;
 ghost use mathlib.Core.Path.{_≡_};
 ghost use Rattle.gates.specs.Layout.{gatesOf};
 ghost use Rattle.emitting.specs.Emit.{emit, emitAt};
-ghost use Rattle.ways.specs.Memory.{held, closedBy, stepsOwn, nearestOwn, heldOwn, answerAt, memoryAt};
+ghost use Rattle.ways.specs.Memory.{held, closedBy, stepsOwn, nearestOwn, heldOwn};
 
 // The gates of the records once more.
 pub fn replay(laid: &[u32], out: &mut [u32], at: usize) -> usize
@@ -33,18 +32,16 @@ fn closed(own: Own, laid: &[u32], out: &mut [u32]) -> usize
     closing::close(near, own.set, asked, mirror, laid, out, at)
 }
 
-fn by_steps(own: Own, out: &mut [u32]) -> Laid
-    ensures { λ r. ⌜ (now (out .exit) ≡ memoryAt (stepsOwn own) (closedBy own (held (stepsOwn own .laid))) (now (out .entry)) 0) × (r ≡ answerAt (stepsOwn own) (closedBy own (held (stepsOwn own .laid))) (now (out .entry)) 0) ⌝ }
+fn by_steps(own: Own, out: &mut [u32]) -> usize
+    ensures { λ r. ⌜ (now (out .exit) ≡ emit (now (out .entry)) 0 (closedBy own (held (stepsOwn own .laid)))) × (r ≡ emitAt (now (out .entry)) 0 (closedBy own (held (stepsOwn own .laid)))) ⌝ }
 {
     let near = own.near;
     let terms = own.terms;
     let parity = terms.parity;
     let sum = terms.sum;
     let mut way = [0u32; tally::LARGEST];
-    match steps::lay_terms(near, own.set, parity, sum, terms.len, &mut way) {
-        Laid::On(k) => Laid::On(closed(own, &way[..k], out)),
-        Laid::Stuck(_) => Laid::Stuck(0),
-    }
+    let k = steps::lay_terms(near, own.set, parity, sum, terms.len, &mut way);
+    closed(own, &way[..k], out)
 }
 
 fn by_nearest(own: Own, out: &mut [u32]) -> usize
@@ -60,19 +57,15 @@ fn by_nearest(own: Own, out: &mut [u32]) -> usize
 }
 
 // The gates of the island behind those that are laid: the shorter way, the steps in a tie.
-pub fn lay_island(own: Own, out: &mut [u32], at: usize) -> Laid
-    ensures { λ r. ⌜ (now (out .exit) ≡ memoryAt (heldOwn own) (heldOwn own .laid) (now (out .entry)) at) × (r ≡ answerAt (heldOwn own) (heldOwn own .laid) (now (out .entry)) at) ⌝ }
+pub fn lay_island(own: Own, out: &mut [u32], at: usize) -> usize
+    ensures { λ r. ⌜ (now (out .exit) ≡ emit (now (out .entry)) at (heldOwn own)) × (r ≡ emitAt (now (out .entry)) at (heldOwn own)) ⌝ }
 {
     let mut first = [0u32; tally::LARGEST];
-    match by_steps(own, &mut first) {
-        Laid::On(a) => {
-            let mut second = [0u32; tally::LARGEST];
-            let b = by_nearest(own, &mut second);
-            if b < a {
-                return Laid::On(replay(&second[..b], out, at));
-            }
-            Laid::On(replay(&first[..a], out, at))
-        }
-        Laid::Stuck(_) => Laid::Stuck(at),
+    let a = by_steps(own, &mut first);
+    let mut second = [0u32; tally::LARGEST];
+    let b = by_nearest(own, &mut second);
+    if b < a {
+        return replay(&second[..b], out, at);
     }
+    replay(&first[..a], out, at)
 }

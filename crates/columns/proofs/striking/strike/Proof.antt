@@ -1,7 +1,6 @@
 -- `columns::striking::strike` meets its contract: what is left to strike off leads to the same memory. Assumes nothing.
 use mathlib.Core.Path.{_≡_, refl, sym, ap, _∙_}
 use mathlib.Core.Logic.{⊎-elim}
-use mathlib.Core.Bool.{false}
 use mathlib.Core.List.{List}
 use Prim.Native.Nat.{ℕ, _≤_, _-_}
 use lib.ListN.{length}
@@ -49,7 +48,7 @@ loop-less c = search needs
 -- the memory behind the row of q: laid by the call, or passed over
 abbrev Rowed : ℕ → List ℕ → List ℕ → List ℕ → ℕ → List ℕ → List ℕ → ℕ → Type 0
 Rowed q angles cols out at cols′ out′ a =
-    (length cols′ ≡ length cols) × (length out′ ≡ length out) × (held cols′ out′ a false ≡ wrote out at (strikeRow (length cols) 0 q angles cols))
+    (length cols′ ≡ length cols) × (length out′ ≡ length out) × (held cols′ out′ a ≡ wrote out at (strikeRow (length cols) 0 q angles cols))
 
 rowed : (c : tie.Joined2 Inv-loop μ-loop)
     → let at = c .before .before .before .loop in Rowed (at .q) (c .before .before .before .before .before .before .before .before .before .before .args .angles .now) (at .cols) (at .out) (at .a) (c .if2 .cols) (c .if2 .out) (c .if2 .a)

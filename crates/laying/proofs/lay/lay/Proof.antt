@@ -4,7 +4,7 @@ use Rattle.verdicts.specs.Verdicts.{numberOf}
 use Rattle.tallies.specs.Tally.{boundOf}
 use Rattle.laying.proofs.Accepting.{job-layable}
 use Rattle.ways.proofs.Owned.{part-fits, part-long}
-use Rattle.laying.proofs.Answering.{refused, copied, on-same, on-not-stuck}
+use Rattle.laying.proofs.Answering.{refused, copied}
 use borrow.Author.Needs.{needs}
 use Rattle.laying.proofs.lay.lay.Statement.{statement}
 use Rattle.laying.proofs.lay.lay.Tie as tie
@@ -16,51 +16,44 @@ number-requires : tie.Need-number-requires
 number-requires c κs = search needs
 
 returns : tie.Need-returns
-returns c = refused (c .before .before .before .before .before .before .args .n) (c .before .before .before .before .before .before .args .couplers .now) (c .before .before .before .before .before .before .args .gates .now) (c .before .before .before .before .before .before .args .out .now) (c .before .before .judge .result) (c .before .before .judge .ensures) (λ z. c .if1 .taken (c .before .number .ensures ∙ z))
+returns c = let a = c .before .before .before .before .before .before .args in refused (a .n) (a .couplers .now) (a .gates .now) (a .out .now) (c .before .before .judge .result) (c .before .before .judge .ensures) (λ e. c .if1 .taken (c .before .number .ensures ∙ e))
 
 slice-aggregate-lay-islands : tie.Need-slice-aggregate-lay-islands
 slice-aggregate-lay-islands c = search needs
 
 lay-islands-requires : tie.Need-lay-islands-requires
-lay-islands-requires c κs = job-layable (c .before .before .before .before .before .before .before .args .n) (c .before .before .before .before .before .before .before .args .couplers .now) (c .before .before .before .before .before .before .before .args .gates .now) _ (ap numberOf (sym (c .before .before .before .judge .ensures)) ∙ sym (c .before .before .number .ensures) ∙ c .before .if1 .left)
-
-enum-known-went : tie.Need-enum-known-went
-enum-known-went c = search needs
+lay-islands-requires c κs = let a = c .before .before .before .before .before .before .before .args in job-layable (a .n) (a .couplers .now) (a .gates .now) _ (ap numberOf (sym (c .before .before .before .judge .ensures)) ∙ sym (c .before .before .number .ensures) ∙ c .before .if1 .left)
 
 array-share-prefix-laid : tie.Need-array-share-prefix-laid
 unfolding boundOf
-array-share-prefix-laid c = part-fits _ _ _ (c .before .before .before .before .lay-islands .ensures .0) (on-same _ _ _ (c .before .went .given .1) (c .before .before .before .before .lay-islands .ensures .1))
+array-share-prefix-laid c = part-fits _ _ _ (c .before .lay-islands .ensures .0) (c .before .lay-islands .ensures .1)
 
 slice-aggregate-replay : tie.Need-slice-aggregate-replay
 unfolding boundOf
-slice-aggregate-replay c = part-long _ _ _ (c .before .before .before .before .before .lay-islands .ensures .0) (on-same _ _ _ (c .before .before .went .given .1) (c .before .before .before .before .before .lay-islands .ensures .1))
+slice-aggregate-replay c = part-long _ _ _ (c .before .before .lay-islands .ensures .0) (c .before .before .lay-islands .ensures .1)
 
 replay-requires : tie.Need-replay-requires
 replay-requires c κs = search needs
 
 array-share-prefix-laid-2 : tie.Need-array-share-prefix-laid-2
 unfolding boundOf
-array-share-prefix-laid-2 c = part-fits _ _ _ (c .before .before .before .before .before .before .before .before .before .lay-islands .ensures .0) (on-same _ _ _ (c .before .before .before .before .before .before .went .given .1) (c .before .before .before .before .before .before .before .before .before .lay-islands .ensures .1))
+array-share-prefix-laid-2 c = part-fits _ _ _ (c .before .before .before .before .before .before .lay-islands .ensures .0) (c .before .before .before .before .before .before .lay-islands .ensures .1)
 
 slice-aggregate-counted : tie.Need-slice-aggregate-counted
 unfolding boundOf
-slice-aggregate-counted c = part-long _ _ _ (c .before .before .before .before .before .before .before .before .before .before .lay-islands .ensures .0) (on-same _ _ _ (c .before .before .before .before .before .before .before .went .given .1) (c .before .before .before .before .before .before .before .before .before .before .lay-islands .ensures .1))
+slice-aggregate-counted c = part-long _ _ _ (c .before .before .before .before .before .before .before .lay-islands .ensures .0) (c .before .before .before .before .before .before .before .lay-islands .ensures .1)
 
 counted-requires : tie.Need-counted-requires
 counted-requires c κs = search needs
-
-enum-told : tie.Need-enum-told
-enum-told c = search needs
 
 same-length : tie.Need-same-length
 same-length c = search needs
 
 returns-2 : tie.Need-returns-2
 unfolding boundOf
-returns-2 c = copied (c .before .before .before .before .before .before .before .before .before .before .before .before .before .before .before .before .before .before .before .args .n) (c .before .before .before .before .before .before .before .before .before .before .before .before .before .before .before .before .before .before .before .args .couplers .now) (c .before .before .before .before .before .before .before .before .before .before .before .before .before .before .before .before .before .before .before .args .gates .now) (c .before .before .before .before .before .before .before .before .before .before .before .before .before .before .before .before .before .before .before .args .out .now) (ap numberOf (sym (c .before .before .before .before .before .before .before .before .before .before .before .before .before .before .before .judge .ensures)) ∙ sym (c .before .before .before .before .before .before .before .before .before .before .before .before .before .before .number .ensures) ∙ c .before .before .before .before .before .before .before .before .before .before .before .before .before .if1 .left) _ _ (c .before .before .before .before .before .before .before .before .before .before .before .lay-islands .ensures .0) (on-same _ _ _ (c .before .before .before .before .before .before .before .before .went .given .1) (c .before .before .before .before .before .before .before .before .before .before .before .lay-islands .ensures .1)) _ _ _ (c .before .before .before .before .before .before .before .before .before .before .before .lay-islands .ensures .2) (c .counted .ensures) (c .before .before .before .before .replay .ensures .0)
-
-returns-3 : tie.Need-returns-3
-returns-3 c = absurd (on-not-stuck _ _ _ (c .before .before .before .lay-islands .ensures .1) (c .enum-told .given .1))
+returns-2 c = let a = c .before .before .before .before .before .before .before .before .before .before .before .before .before .before .before .before .args in
+    let l = c .before .before .before .before .before .before .before .before .lay-islands .ensures in
+    copied (a .n) (a .couplers .now) (a .gates .now) (a .out .now) (ap numberOf (sym (c .before .before .before .before .before .before .before .before .before .before .before .before .judge .ensures)) ∙ sym (c .before .before .before .before .before .before .before .before .before .before .before .number .ensures) ∙ c .before .before .before .before .before .before .before .before .before .before .if1 .left) _ _ (l .0) (l .1) _ _ _ (l .2) (c .counted .ensures) (c .before .before .before .before .replay .ensures .0)
 
 pub lay-spec : {M : Type 1} → statement M
 lay-spec =
@@ -71,14 +64,11 @@ lay-spec =
     returns
     slice-aggregate-lay-islands
     lay-islands-requires
-    enum-known-went
     array-share-prefix-laid
     slice-aggregate-replay
     replay-requires
     array-share-prefix-laid-2
     slice-aggregate-counted
     counted-requires
-    enum-told
     same-length
-    returns-2
-    returns-3)
+    returns-2)

@@ -9,7 +9,7 @@ stands-requires : tie.Need-stands-requires
 stands-requires c κs = search needs
 
 returns : tie.Need-returns
-returns c = let w = c .before .before .before .pre (sym (c .before .stands .ensures) ∙ c .if1 .taken) in idle (c .before .before .before .args .own) (w .0) (w .1) _ _
+returns c = idle (c .before .before .before .args .own) (c .before .before .before .pre (sym (c .before .stands .ensures) ∙ c .if1 .taken)) _ _
 
 lay-island-requires : tie.Need-lay-island-requires
 lay-island-requires c κs = search needs

@@ -1,11 +1,10 @@
 -- The cycle of calls {base, ones}: each meets its contract. It falls by the qubits left, then by the columns left. Assumes nothing.
-use mathlib.Core.Path.{sym, _∙_, ap}
+use mathlib.Core.Path.{sym, _∙_}
 use Prim.Native.Nat.{ℕ, _<_, _+_, _*_}
 use borrow.Author.Needs.{needs}
 use native.Mathlib.Omega.{arith}
-use Rattle.steps.specs.Steps.{ended}
 use Rattle.steps.proofs.Selecting.{count-few}
-use Rattle.steps.proofs.Unfolding.{base-returns-none, base-returns-zero, base-returns-lost, base-returns-stuck, base-returns-on, ones-returns-zero, ones-returns-none, ones-returns-lost, ones-returns-stuck, ones-returns-on}
+use Rattle.steps.proofs.Unfolding.{base-returns-zero, base-returns-none, base-returns-on, ones-returns-zero, ones-returns-none, ones-returns-on}
 use borrow.Fn.Kinds.{In}
 use borrow.Fn.PlainCycle.{Measures, is, falls, and}
 use Rattle.steps.proofs.steps.base.Reads as base
@@ -49,26 +48,19 @@ base-claims t = (count-reads.Asked, count-reads.Learnt, spared-reads.Asked, spar
 abbrev ones-claims : ℕ → ones-lts.Claims
 ones-claims t = (count-reads.Asked, count-reads.Learnt, partnered-reads.Asked, partnered-reads.Learnt, row-reads.Asked, row-reads.Learnt, move-on-reads.Asked, move-on-reads.Learnt, zeros-reads.Asked, zeros-reads.Learnt, with-one-reads.Asked, with-one-reads.Learnt, rest-reads.Asked, rest-reads.Learnt, base-below t, base.Post, ones-below t, ones.Post)
 
+base-returns : (t : ℕ) → base-lts.Need-returns (base-claims t) (base-at t) base.Post
+base-returns t c =
+    base-returns-zero _ _ _ _ _ _ _ _ (c .if1 .taken)
+
 base-count-requires : (t : ℕ) → base-lts.Need-count-requires (base-claims t) (base-at t) base.Post
 base-count-requires t c κs = search needs
 
-base-returns : (t : ℕ) → base-lts.Need-returns (base-claims t) (base-at t) base.Post
-base-returns t c =
-    base-returns-none _ _ _ _ _ _ _ _ (sym (c .before .count .ensures) ∙ c .if1 .taken)
-
 base-returns-2 : (t : ℕ) → base-lts.Need-returns-2 (base-claims t) (base-at t) base.Post
 base-returns-2 t c =
-    base-returns-zero _ _ _ _ _ _ _ _ (λ e. c .before .if1 .left (c .before .before .count .ensures ∙ e)) (c .if2 .taken)
+    base-returns-none _ _ _ _ _ _ _ _ (sym (c .before .count .ensures) ∙ c .if2 .taken)
 
 base-spared-requires : (t : ℕ) → base-lts.Need-spared-requires (base-claims t) (base-at t) base.Post
 base-spared-requires t c κs = search needs
-
-base-same-length : (t : ℕ) → base-lts.Need-same-length (base-claims t) (base-at t) base.Post
-base-same-length t c = search needs
-
-base-returns-3 : (t : ℕ) → base-lts.Need-returns-3 (base-claims t) (base-at t) base.Post
-base-returns-3 t c =
-    base-returns-lost _ _ _ _ _ _ _ _ _ (c .before .spared .ensures) (λ e. c .before .before .before .before .if1 .left (c .before .before .before .before .before .count .ensures ∙ e)) (c .before .before .before .if2 .left) (c .if3 .taken)
 
 base-zeros-requires : (t : ℕ) → base-lts.Need-zeros-requires (base-claims t) (base-at t) base.Post
 base-zeros-requires t c κs = search needs
@@ -84,13 +76,7 @@ base-sub-base t c = search needs
 
 base-base-requires : (t : ℕ) → base-lts.Need-base-requires (base-claims t) (base-at t) base.Post
 base-base-requires t c κs =
-    (omega (arith, c .before .before .before .before .before .before .before .before .before .before .before .before .before .before .before .before .pre .0, c .before .before .before .before .before .before .before .before .before .before .if2 .left), c .before .before .before .before .before .before .before .before .before .before .before .before .before .before .before .before .pre .1)
-
-base-enum-known-a : (t : ℕ) → base-lts.Need-enum-known-a (base-claims t) (base-at t) base.Post
-base-enum-known-a t c = search needs
-
-base-enum-known-a-2 : (t : ℕ) → base-lts.Need-enum-known-a-2 (base-claims t) (base-at t) base.Post
-base-enum-known-a-2 t c = search needs
+    (omega (arith, c .before .before .before .before .before .before .before .before .before .before .before .before .before .before .before .pre .0, c .before .before .before .before .before .before .before .before .before .before .before .if1 .left), c .before .before .before .before .before .before .before .before .before .before .before .before .before .before .before .pre .1)
 
 base-sub-ones : (t : ℕ) → base-lts.Need-sub-ones (base-claims t) (base-at t) base.Post
 base-sub-ones t c = search needs
@@ -100,31 +86,18 @@ base-count-requires-2 t c κs = search needs
 
 base-ones-requires : (t : ℕ) → base-lts.Need-ones-requires (base-claims t) (base-at t) base.Post
 base-ones-requires t c κs =
-    (omega (arith, c .before .before .before .before .before .before .before .before .before .before .before .before .before .before .before .before .before .before .before .before .before .before .before .before .before .before .before .pre .0, c .before .before .before .before .before .before .before .before .before .before .before .before .before .before .before .before .before .before .before .before .before .if2 .left, count-few _ _ (c .count2 .ensures)), c .before .before .before .before .before .before .before .before .before .before .before .before .before .before .before .before .before .before .before .before .before .before .before .before .before .before .before .pre .1)
+    (omega (arith, c .before .before .before .before .before .before .before .before .before .before .before .before .before .before .before .before .before .before .before .before .before .before .before .pre .0, c .before .before .before .before .before .before .before .before .before .before .before .before .before .before .before .before .before .before .before .if1 .left, count-few _ _ (c .count2 .ensures)), c .before .before .before .before .before .before .before .before .before .before .before .before .before .before .before .before .before .before .before .before .before .before .before .pre .1)
+
+base-same-length : (t : ℕ) → base-lts.Need-same-length (base-claims t) (base-at t) base.Post
+base-same-length t c = search needs
 
 base-same-length-2 : (t : ℕ) → base-lts.Need-same-length-2 (base-claims t) (base-at t) base.Post
 base-same-length-2 t c = search needs
 
-base-same-length-3 : (t : ℕ) → base-lts.Need-same-length-3 (base-claims t) (base-at t) base.Post
-base-same-length-3 t c = search needs
-
-base-returns-4 : (t : ℕ) → base-lts.Need-returns-4 (base-claims t) (base-at t) base.Post
-base-returns-4 t c =
-    let b = c .before .before .before .before .before .before .before .base in
-    base-returns-stuck _ _ _ _ _ _ _ _ _ (c .before .before .before .before .before .before .before .before .before .before .before .before .before .before .before .before .spared .ensures) (λ e. c .before .before .before .before .before .before .before .before .before .before .before .before .before .before .before .before .before .before .before .if1 .left (c .before .before .before .before .before .before .before .before .before .before .before .before .before .before .before .before .before .before .before .before .count .ensures ∙ e)) (c .before .before .before .before .before .before .before .before .before .before .before .before .before .before .before .before .before .before .if2 .left) (c .before .before .before .before .before .before .before .before .before .before .before .before .before .before .before .if3 .left) _ _ _ (c .before .before .before .before .before .before .before .before .rest .ensures) (c .before .before .before .before .before .before .before .before .before .before .before .before .before .zeros .ensures) (c .before .before .before .before .before .before .before .before .before .before .before .with-one .ensures)
-    (sym (ap (λ r. ended (b .last .1 .0) (b .last .1 .1 .1 .0) r) (c .before .a .given .1)) ∙ b .ensures)
-
-base-same-length-4 : (t : ℕ) → base-lts.Need-same-length-4 (base-claims t) (base-at t) base.Post
-base-same-length-4 t c = search needs
-
-base-same-length-5 : (t : ℕ) → base-lts.Need-same-length-5 (base-claims t) (base-at t) base.Post
-base-same-length-5 t c = search needs
-
-base-returns-5 : (t : ℕ) → base-lts.Need-returns-5 (base-claims t) (base-at t) base.Post
-base-returns-5 t c =
-    let b = c .before .before .before .before .before .before .before .before .before .before .before .before .before .before .before .base in
-    base-returns-on _ _ _ _ _ _ _ _ _ (c .before .before .before .before .before .before .before .before .before .before .before .before .before .before .before .before .before .before .before .before .before .before .before .before .spared .ensures) (λ e. c .before .before .before .before .before .before .before .before .before .before .before .before .before .before .before .before .before .before .before .before .before .before .before .before .before .before .before .if1 .left (c .before .before .before .before .before .before .before .before .before .before .before .before .before .before .before .before .before .before .before .before .before .before .before .before .before .before .before .before .count .ensures ∙ e)) (c .before .before .before .before .before .before .before .before .before .before .before .before .before .before .before .before .before .before .before .before .before .before .before .before .before .before .if2 .left) (c .before .before .before .before .before .before .before .before .before .before .before .before .before .before .before .before .before .before .before .before .before .before .before .if3 .left) _ _ _ (c .before .before .before .before .before .before .before .before .before .before .before .before .before .before .before .before .rest .ensures) (c .before .before .before .before .before .before .before .before .before .before .before .before .before .before .before .before .before .before .before .before .before .zeros .ensures) (c .before .before .before .before .before .before .before .before .before .before .before .before .before .before .before .before .before .before .before .with-one .ensures)
-    (sym (ap (λ r. ended (b .last .1 .0) (b .last .1 .1 .1 .0) r) (c .before .before .before .before .before .before .before .before .before .a2 .given .1)) ∙ b .ensures) (c .before .before .before .before .before .count2 .ensures) (c .before .before .before .before .ones .ensures)
+base-returns-3 : (t : ℕ) → base-lts.Need-returns-3 (base-claims t) (base-at t) base.Post
+base-returns-3 t c =
+    base-returns-on _ _ _ _ _ _ _ _ _ (c .before .before .before .before .before .before .before .before .before .before .before .before .before .before .before .before .before .before .before .before .spared .ensures) (λ e. c .before .before .before .before .before .before .before .before .before .before .before .before .before .before .before .before .before .before .before .before .before .before .if2 .left (c .before .before .before .before .before .before .before .before .before .before .before .before .before .before .before .before .before .before .before .before .before .before .before .count .ensures ∙ e)) (c .before .before .before .before .before .before .before .before .before .before .before .before .before .before .before .before .before .before .before .before .before .before .before .before .if1 .left) _ _ _ (c .before .before .before .before .before .before .before .before .before .before .before .before .before .rest .ensures) (c .before .before .before .before .before .before .before .before .before .before .before .before .before .before .before .before .before .before .zeros .ensures) (c .before .before .before .before .before .before .before .before .before .before .before .before .before .before .before .before .with-one .ensures)
+    (c .before .before .before .before .before .before .before .before .before .before .before .before .base .ensures) (c .before .before .before .before .before .count2 .ensures) (c .before .before .before .before .ones .ensures)
 
 ones-returns : (t : ℕ) → ones-lts.Need-returns (ones-claims t) (ones-at t) ones.Post
 ones-returns t c =
@@ -139,13 +112,6 @@ ones-returns-2 t c =
 
 ones-partnered-requires : (t : ℕ) → ones-lts.Need-partnered-requires (ones-claims t) (ones-at t) ones.Post
 ones-partnered-requires t c κs = search needs
-
-ones-same-length : (t : ℕ) → ones-lts.Need-same-length (ones-claims t) (ones-at t) ones.Post
-ones-same-length t c = search needs
-
-ones-returns-3 : (t : ℕ) → ones-lts.Need-returns-3 (ones-claims t) (ones-at t) ones.Post
-ones-returns-3 t c =
-    ones-returns-lost _ _ _ _ _ _ _ _ _ _ _ (c .before .partnered .ensures) (λ e. c .before .before .before .if2 .left (c .before .before .before .before .count .ensures ∙ e)) (c .before .before .before .before .before .if1 .left) (c .if3 .taken)
 
 ones-row-requires : (t : ℕ) → ones-lts.Need-row-requires (ones-claims t) (ones-at t) ones.Post
 ones-row-requires t c κs = search needs
@@ -164,92 +130,95 @@ ones-rest-requires t c κs = search needs
 
 ones-base-requires : (t : ℕ) → ones-lts.Need-base-requires (ones-claims t) (ones-at t) ones.Post
 ones-base-requires t c κs =
-    (omega (arith, c .before .before .before .before .before .before .before .before .before .before .before .before .before .before .before .before .before .before .before .before .before .before .before .before .before .pre .0), c .before .before .before .before .before .before .before .before .before .before .before .before .before .before .before .before .before .before .before .before .before .before .before .before .before .pre .1)
-
-ones-enum-known-b : (t : ℕ) → ones-lts.Need-enum-known-b (ones-claims t) (ones-at t) ones.Post
-ones-enum-known-b t c = search needs
-
-ones-enum-known-b-2 : (t : ℕ) → ones-lts.Need-enum-known-b-2 (ones-claims t) (ones-at t) ones.Post
-ones-enum-known-b-2 t c = search needs
+    (omega (arith, c .before .before .before .before .before .before .before .before .before .before .before .before .before .before .before .before .before .before .before .before .before .before .before .before .pre .0), c .before .before .before .before .before .before .before .before .before .before .before .before .before .before .before .before .before .before .before .before .before .before .before .before .pre .1)
 
 ones-sub-ones : (t : ℕ) → ones-lts.Need-sub-ones (ones-claims t) (ones-at t) ones.Post
 ones-sub-ones t c =
-    omega (arith, c .before .before .before .before .before .before .before .before .before .before .before .before .before .before .before .before .before .before .before .before .before .before .before .before .before .before .before .before .before .before .before .if1 .left)
+    omega (arith, c .before .before .before .before .before .before .before .before .before .before .before .before .before .before .before .before .before .before .before .before .before .before .before .before .before .before .before .if1 .left)
 
 ones-ones-requires : (t : ℕ) → ones-lts.Need-ones-requires (ones-claims t) (ones-at t) ones.Post
 ones-ones-requires t c κs =
-    (omega (arith, c .before .before .before .before .before .before .before .before .before .before .before .before .before .before .before .before .before .before .before .before .before .before .before .before .before .before .before .before .before .before .before .before .before .before .before .pre .0, c .before .before .before .before .before .before .before .before .before .before .before .before .before .before .before .before .before .before .before .before .before .before .before .before .before .before .before .before .before .before .before .if1 .left), c .before .before .before .before .before .before .before .before .before .before .before .before .before .before .before .before .before .before .before .before .before .before .before .before .before .before .before .before .before .before .before .before .before .before .before .pre .1)
+    (omega (arith, c .before .before .before .before .before .before .before .before .before .before .before .before .before .before .before .before .before .before .before .before .before .before .before .before .before .before .before .before .before .before .before .pre .0, c .before .before .before .before .before .before .before .before .before .before .before .before .before .before .before .before .before .before .before .before .before .before .before .before .before .before .before .if1 .left), c .before .before .before .before .before .before .before .before .before .before .before .before .before .before .before .before .before .before .before .before .before .before .before .before .before .before .before .before .before .before .before .pre .1)
+
+ones-same-length : (t : ℕ) → ones-lts.Need-same-length (ones-claims t) (ones-at t) ones.Post
+ones-same-length t c = search needs
 
 ones-same-length-2 : (t : ℕ) → ones-lts.Need-same-length-2 (ones-claims t) (ones-at t) ones.Post
 ones-same-length-2 t c = search needs
 
-ones-same-length-3 : (t : ℕ) → ones-lts.Need-same-length-3 (ones-claims t) (ones-at t) ones.Post
-ones-same-length-3 t c = search needs
-
-ones-returns-4 : (t : ℕ) → ones-lts.Need-returns-4 (ones-claims t) (ones-at t) ones.Post
-ones-returns-4 t c =
-    let b = c .before .before .before .before .before .before .before .base in
-    ones-returns-stuck _ _ _ _ _ _ _ _ _ _ _ (c .before .before .before .before .before .before .before .before .before .before .before .before .before .before .before .before .before .before .before .before .before .before .before .before .before .partnered .ensures) (λ e. c .before .before .before .before .before .before .before .before .before .before .before .before .before .before .before .before .before .before .before .before .before .before .before .before .before .before .before .if2 .left (c .before .before .before .before .before .before .before .before .before .before .before .before .before .before .before .before .before .before .before .before .before .before .before .before .before .before .before .before .count .ensures ∙ e)) (c .before .before .before .before .before .before .before .before .before .before .before .before .before .before .before .before .before .before .before .before .before .before .before .before .before .before .before .before .before .if1 .left) (c .before .before .before .before .before .before .before .before .before .before .before .before .before .before .before .before .before .before .before .before .before .before .before .before .if3 .left) _ (c .before .before .before .before .before .before .before .before .before .before .before .before .before .before .before .before .before .before .before .before .row .ensures) (c .before .before .before .before .before .before .before .before .before .before .before .before .before .before .before .before .before .before .before .move-on .ensures) _ _ _ (c .before .before .before .before .before .before .before .before .rest .ensures) (c .before .before .before .before .before .before .before .before .before .before .before .before .before .zeros .ensures) (c .before .before .before .before .before .before .before .before .before .before .before .with-one .ensures)
-    (sym (ap (λ r. ended (b .last .1 .0) (b .last .1 .1 .1 .0) r) (c .before .b .given .1)) ∙ b .ensures)
-
-ones-same-length-4 : (t : ℕ) → ones-lts.Need-same-length-4 (ones-claims t) (ones-at t) ones.Post
-ones-same-length-4 t c = search needs
-
-ones-same-length-5 : (t : ℕ) → ones-lts.Need-same-length-5 (ones-claims t) (ones-at t) ones.Post
-ones-same-length-5 t c = search needs
-
-ones-returns-5 : (t : ℕ) → ones-lts.Need-returns-5 (ones-claims t) (ones-at t) ones.Post
-ones-returns-5 t c =
-    let b = c .before .before .before .before .before .before .before .before .before .before .before .before .before .before .base in
-    ones-returns-on _ _ _ _ _ _ _ _ _ _ _ (c .before .before .before .before .before .before .before .before .before .before .before .before .before .before .before .before .before .before .before .before .before .before .before .before .before .before .before .before .before .before .before .before .partnered .ensures) (λ e. c .before .before .before .before .before .before .before .before .before .before .before .before .before .before .before .before .before .before .before .before .before .before .before .before .before .before .before .before .before .before .before .before .before .before .if2 .left (c .before .before .before .before .before .before .before .before .before .before .before .before .before .before .before .before .before .before .before .before .before .before .before .before .before .before .before .before .before .before .before .before .before .before .before .count .ensures ∙ e)) (c .before .before .before .before .before .before .before .before .before .before .before .before .before .before .before .before .before .before .before .before .before .before .before .before .before .before .before .before .before .before .before .before .before .before .before .before .if1 .left) (c .before .before .before .before .before .before .before .before .before .before .before .before .before .before .before .before .before .before .before .before .before .before .before .before .before .before .before .before .before .before .before .if3 .left) _ (c .before .before .before .before .before .before .before .before .before .before .before .before .before .before .before .before .before .before .before .before .before .before .before .before .before .before .before .row .ensures) (c .before .before .before .before .before .before .before .before .before .before .before .before .before .before .before .before .before .before .before .before .before .before .before .before .before .before .move-on .ensures) _ _ _ (c .before .before .before .before .before .before .before .before .before .before .before .before .before .before .before .rest .ensures) (c .before .before .before .before .before .before .before .before .before .before .before .before .before .before .before .before .before .before .before .before .zeros .ensures) (c .before .before .before .before .before .before .before .before .before .before .before .before .before .before .before .before .before .before .with-one .ensures)
-    (sym (ap (λ r. ended (b .last .1 .0) (b .last .1 .1 .1 .0) r) (c .before .before .before .before .before .before .before .before .b2 .given .1)) ∙ b .ensures) (c .before .before .before .before .ones .ensures)
+ones-returns-3 : (t : ℕ) → ones-lts.Need-returns-3 (ones-claims t) (ones-at t) ones.Post
+ones-returns-3 t c =
+    ones-returns-on _ _ _ _ _ _ _ _ _ _ _ (c .before .before .before .before .before .before .before .before .before .before .before .before .before .before .before .before .before .before .before .before .before .before .before .before .before .before .before .before .partnered .ensures) (λ e. c .before .before .before .before .before .before .before .before .before .before .before .before .before .before .before .before .before .before .before .before .before .before .before .before .before .before .before .before .before .before .if2 .left (c .before .before .before .before .before .before .before .before .before .before .before .before .before .before .before .before .before .before .before .before .before .before .before .before .before .before .before .before .before .before .before .count .ensures ∙ e)) (c .before .before .before .before .before .before .before .before .before .before .before .before .before .before .before .before .before .before .before .before .before .before .before .before .before .before .before .before .before .before .before .before .if1 .left) _ (c .before .before .before .before .before .before .before .before .before .before .before .before .before .before .before .before .before .before .before .before .before .before .before .before .row .ensures) (c .before .before .before .before .before .before .before .before .before .before .before .before .before .before .before .before .before .before .before .before .before .before .before .move-on .ensures) _ _ _ (c .before .before .before .before .before .before .before .before .before .before .before .before .rest .ensures) (c .before .before .before .before .before .before .before .before .before .before .before .before .before .before .before .before .before .zeros .ensures) (c .before .before .before .before .before .before .before .before .before .before .before .before .before .before .before .with-one .ensures)
+    (c .before .before .before .before .before .before .before .before .before .before .before .base .ensures) (c .before .before .before .before .ones .ensures)
 
 pub +base+ones-spec : {M : Type 1} → statement M
-+base+ones-spec = close μ-base μ-ones (λ t. base-lts.spec (base-claims t) (base-at t)
++base+ones-spec = close μ-base μ-ones (λ t. base-lts.spec (
+  count-reads.Asked,
+  count-reads.Learnt,
+  spared-reads.Asked,
+  spared-reads.Learnt,
+  zeros-reads.Asked,
+  zeros-reads.Learnt,
+  with-one-reads.Asked,
+  with-one-reads.Learnt,
+  rest-reads.Asked,
+  rest-reads.Learnt,
+  base-below t,
+  base.Post,
+  ones-below t,
+  ones.Post,
+)
+    (base-at t)
     base.Post
-    (base-count-requires t)
     (base-returns t)
+    (base-count-requires t)
     (base-returns-2 t)
     (base-spared-requires t)
-    (base-same-length t)
-    (base-returns-3 t)
     (base-zeros-requires t)
     (base-with-one-requires t)
     (base-rest-requires t)
     (base-sub-base t)
     (base-base-requires t)
-    (base-enum-known-a t)
-    (base-enum-known-a-2 t)
     (base-sub-ones t)
     (base-count-requires-2 t)
     (base-ones-requires t)
+    (base-same-length t)
     (base-same-length-2 t)
-    (base-same-length-3 t)
-    (base-returns-4 t)
-    (base-same-length-4 t)
-    (base-same-length-5 t)
-    (base-returns-5 t))
-    λ t. ones-lts.spec (ones-claims t) (ones-at t)
+    (base-returns-3 t))
+    λ t. ones-lts.spec (
+      count-reads.Asked,
+      count-reads.Learnt,
+      partnered-reads.Asked,
+      partnered-reads.Learnt,
+      row-reads.Asked,
+      row-reads.Learnt,
+      move-on-reads.Asked,
+      move-on-reads.Learnt,
+      zeros-reads.Asked,
+      zeros-reads.Learnt,
+      with-one-reads.Asked,
+      with-one-reads.Learnt,
+      rest-reads.Asked,
+      rest-reads.Learnt,
+      base-below t,
+      base.Post,
+      ones-below t,
+      ones.Post,
+    )
+    (ones-at t)
     ones.Post
     (ones-returns t)
     (ones-count-requires t)
     (ones-returns-2 t)
     (ones-partnered-requires t)
-    (ones-same-length t)
-    (ones-returns-3 t)
     (ones-row-requires t)
     (ones-move-on-requires t)
     (ones-zeros-requires t)
     (ones-with-one-requires t)
     (ones-rest-requires t)
     (ones-base-requires t)
-    (ones-enum-known-b t)
-    (ones-enum-known-b-2 t)
     (ones-sub-ones t)
     (ones-ones-requires t)
+    (ones-same-length t)
     (ones-same-length-2 t)
-    (ones-same-length-3 t)
-    (ones-returns-4 t)
-    (ones-same-length-4 t)
-    (ones-same-length-5 t)
-    (ones-returns-5 t)
+    (ones-returns-3 t)

@@ -4,9 +4,8 @@ use mathlib.Core.List.{List}
 use Rattle.gates.specs.declared.gate.Gate.{Gate}
 use Rattle.tallies.specs.Tally.{boundOf}
 use Rattle.emitting.specs.Emit.{emit, emitAt}
-use Rattle.steps.specs.declared.Laid.the-variants.{On}
 use Rattle.ways.specs.Memory.{parities, angles, stepsOwn, closedBy}
-use Rattle.ways.proofs.Owned.{part-fits, part-long, part-held, steps-on, steps-stuck, memory-on, memory-stuck, answer-on, answer-stuck}
+use Rattle.ways.proofs.Owned.{part-fits, part-long, part-held}
 use borrow.Author.Needs.{needs}
 use Rattle.ways.proofs.island.by_steps.Statement.{statement}
 use Rattle.ways.proofs.island.by_steps.Tie as tie
@@ -17,22 +16,16 @@ slice-aggregate-lay-terms c = search needs
 lay-terms-requires : tie.Need-lay-terms-requires
 lay-terms-requires c κs = search needs
 
-enum-known-k : tie.Need-enum-known-k
-enum-known-k c = search needs
-
 array-share-prefix-way : tie.Need-array-share-prefix-way
 unfolding stepsOwn parities angles boundOf
-array-share-prefix-way c = part-fits (stepsOwn (c .before .before .before .before .before .before .before .before .before .before .before .args .own) .laid) _ _ (c .before .before .before .before .lay-terms .ensures .0) (steps-on (stepsOwn (c .before .before .before .before .before .before .before .before .before .before .before .args .own)) _ (c .before .before .before .before .lay-terms .ensures .1) _ (c .before .k .given .1) .1)
+array-share-prefix-way c = part-fits (stepsOwn (c .before .before .before .before .before .before .before .before .args .own) .laid) _ _ (c .before .lay-terms .ensures .0) (c .before .lay-terms .ensures .1)
 
 slice-aggregate-closed : tie.Need-slice-aggregate-closed
 unfolding stepsOwn parities angles boundOf
-slice-aggregate-closed c = part-long (stepsOwn (c .before .before .before .before .before .before .before .before .before .before .before .before .args .own) .laid) _ _ (c .before .before .before .before .before .lay-terms .ensures .0) (steps-on (stepsOwn (c .before .before .before .before .before .before .before .before .before .before .before .before .args .own)) _ (c .before .before .before .before .before .lay-terms .ensures .1) _ (c .before .before .k .given .1) .1)
+slice-aggregate-closed c = part-long (stepsOwn (c .before .before .before .before .before .before .before .before .before .args .own) .laid) _ _ (c .before .before .lay-terms .ensures .0) (c .before .before .lay-terms .ensures .1)
 
 closed-requires : tie.Need-closed-requires
 closed-requires c κs = search needs
-
-enum-told : tie.Need-enum-told
-enum-told c = search needs
 
 same-length : tie.Need-same-length
 same-length c = search needs
@@ -40,19 +33,11 @@ same-length c = search needs
 returns : tie.Need-returns
 unfolding stepsOwn parities angles boundOf
 returns c =
-    let o = c .before .before .before .before .before .before .before .before .before .before .before .before .before .before .before .before .args .own in
-    let w = steps-on (stepsOwn (c .before .before .before .before .before .before .before .before .before .before .before .before .before .before .before .before .args .own)) _ (c .before .before .before .before .before .before .before .before .before .lay-terms .ensures .1) _ (c .before .before .before .before .before .before .k .given .1) in
-    let back = part-held (stepsOwn o .laid) _ _ (c .before .before .before .before .before .before .before .before .before .lay-terms .ensures .0) (w .1) in (
-      c .before .before .closed .ensures .0 ∙ ap (λ (gs : List Gate). emit (c .before .before .before .before .before .before .before .before .before .before .before .before .before .before .before .before .args .out .now) 0 (closedBy o gs)) back ∙ memory-on (stepsOwn o) _ _ 0 (w .0),
-      ap On (c .before .before .closed .ensures .1 ∙ ap (λ (gs : List Gate). emitAt (c .before .before .before .before .before .before .before .before .before .before .before .before .before .before .before .before .args .out .now) 0 (closedBy o gs)) back) ∙ answer-on (stepsOwn o) _ _ 0 (w .0),
+    let o = c .before .before .before .before .before .before .before .before .before .before .before .before .before .args .own in
+    let back = part-held (stepsOwn o .laid) _ _ (c .before .before .before .before .before .before .lay-terms .ensures .0) (c .before .before .before .before .before .before .lay-terms .ensures .1) in (
+      c .before .before .closed .ensures .0 ∙ ap (λ (gs : List Gate). emit (c .before .before .before .before .before .before .before .before .before .before .before .before .before .args .out .now) 0 (closedBy o gs)) back,
+      c .before .before .closed .ensures .1 ∙ ap (λ (gs : List Gate). emitAt (c .before .before .before .before .before .before .before .before .before .before .before .before .before .args .out .now) 0 (closedBy o gs)) back,
     )
-
-returns-2 : tie.Need-returns-2
-unfolding stepsOwn parities angles boundOf
-returns-2 c =
-    let o = c .before .before .before .before .before .before .before .before .before .before .args .own in
-    let s = steps-stuck (stepsOwn o) _ (c .before .before .before .lay-terms .ensures .1) _ (c .enum-told .given .1) in
-    (memory-stuck (stepsOwn o) _ _ 0 s, answer-stuck (stepsOwn o) _ _ 0 s)
 
 pub by-steps-spec : {M : Type 1} → statement M
 by-steps-spec =
@@ -60,11 +45,8 @@ by-steps-spec =
     (tie.spec
     slice-aggregate-lay-terms
     lay-terms-requires
-    enum-known-k
     array-share-prefix-way
     slice-aggregate-closed
     closed-requires
-    enum-told
     same-length
-    returns
-    returns-2)
+    returns)

@@ -1,8 +1,8 @@
 -- `ways::island::lay_island` meets its contract: the shorter list is read back and laid. Assumes nothing.
 use native.Mathlib.Omega.{arith}
 use Rattle.tallies.specs.Tally.{boundOf}
-use Rattle.ways.specs.Memory.{held, heldOwn}
-use Rattle.ways.proofs.Owned.{first, second, part-fits, part-long, part-held, part-count, first-count, first-memory, first-on, first-stuck, laid-on, held-first, held-second, memory-stuck, answer-stuck}
+use Rattle.ways.specs.Memory.{held}
+use Rattle.ways.proofs.Owned.{first, second, part-fits, part-long, part-held, part-count, laid-on, held-first, held-second}
 use borrow.Author.Needs.{needs}
 use Rattle.ways.proofs.island.lay_island.Statement.{statement}
 use Rattle.ways.proofs.island.lay_island.Tie as tie
@@ -13,9 +13,6 @@ slice-aggregate-by-steps c = search needs
 by-steps-requires : tie.Need-by-steps-requires
 by-steps-requires c κs = search needs
 
-enum-known-a : tie.Need-enum-known-a
-enum-known-a c = search needs
-
 slice-aggregate-by-nearest : tie.Need-slice-aggregate-by-nearest
 slice-aggregate-by-nearest c = search needs
 
@@ -24,11 +21,11 @@ by-nearest-requires c κs = search needs
 
 array-share-prefix-second : tie.Need-array-share-prefix-second
 unfolding boundOf
-array-share-prefix-second c = part-fits (second (c .before .before .before .before .before .before .before .before .before .before .before .args .own)) _ _ (c .before .before .by-nearest .ensures .0) (c .before .before .by-nearest .ensures .1)
+array-share-prefix-second c = part-fits (second (c .before .before .before .before .before .before .before .before .args .own)) _ _ (c .before .before .by-nearest .ensures .0) (c .before .before .by-nearest .ensures .1)
 
 slice-aggregate-replay : tie.Need-slice-aggregate-replay
 unfolding boundOf
-slice-aggregate-replay c = part-long (second (c .before .before .before .before .before .before .before .before .before .before .before .before .args .own)) _ _ (c .before .before .before .by-nearest .ensures .0) (c .before .before .before .by-nearest .ensures .1)
+slice-aggregate-replay c = part-long (second (c .before .before .before .before .before .before .before .before .before .args .own)) _ _ (c .before .before .before .by-nearest .ensures .0) (c .before .before .before .by-nearest .ensures .1)
 
 replay-requires : tie.Need-replay-requires
 replay-requires c κs = search needs
@@ -38,62 +35,33 @@ same-length c = search needs
 
 returns : tie.Need-returns
 unfolding boundOf
-returns c =
-    let o = c .before .before .before .before .before .before .before .before .before .before .before .before .before .before .before .before .args .own in
-    let s = c .before .before .before .before .before .before .before .before .before .before .before .before .before .by-steps .ensures in
+returns c = let o = c .before .before .before .before .before .before .before .before .before .before .before .before .before .args .own in
+    let a = c .before .before .before .before .before .before .before .before .before .before .by-steps .ensures in
     let b = c .before .before .before .before .before .before .before .by-nearest .ensures in
-    let e = c .before .before .before .before .before .before .before .before .before .before .a .given .1 in
-    let j = part-count (second o) _ _ (b .0) (b .1) in
-    let i = part-count (first o) _ _ (first-memory o _ _ (s .0) (s .1) _ e) (first-count o _ _ (s .0) (s .1) _ e) in
-    laid-on o _ _ _ _ (held (second o)) _ (first-on o _ _ (s .0) (s .1) _ e) (held-second o (omega (arith, i, j, c .before .before .before .before .before .if1 .taken)))
+    laid-on o _ _ _ _ (held (second o)) _ (held-second o (omega (arith, part-count (first o) _ _ (a .0) (a .1), part-count (second o) _ _ (b .0) (b .1), c .before .before .before .before .before .if1 .taken)))
     (part-held (second o) _ _ (b .0) (b .1)) (c .before .before .replay .ensures .0) (c .before .before .replay .ensures .1)
 
 array-share-prefix-first : tie.Need-array-share-prefix-first
 unfolding boundOf
-array-share-prefix-first c =
-    let o = c .before .before .before .before .before .before .before .before .before .before .before .args .own in
-    let s = c .before .before .before .before .before .before .before .before .by-steps .ensures in
-    let e = c .before .before .before .before .before .a .given .1 in
-    part-fits (first o) _ _ (first-memory o _ _ (s .0) (s .1) _ e) (first-count o _ _ (s .0) (s .1) _ e)
+array-share-prefix-first c = part-fits (first (c .before .before .before .before .before .before .before .before .args .own)) _ _ (c .before .before .before .before .before .by-steps .ensures .0) (c .before .before .before .before .before .by-steps .ensures .1)
 
 slice-aggregate-replay-2 : tie.Need-slice-aggregate-replay-2
 unfolding boundOf
-slice-aggregate-replay-2 c =
-    let o = c .before .before .before .before .before .before .before .before .before .before .before .before .args .own in
-    let s = c .before .before .before .before .before .before .before .before .before .by-steps .ensures in
-    let e = c .before .before .before .before .before .before .a .given .1 in
-    part-long (first o) _ _ (first-memory o _ _ (s .0) (s .1) _ e) (first-count o _ _ (s .0) (s .1) _ e)
+slice-aggregate-replay-2 c = part-long (first (c .before .before .before .before .before .before .before .before .before .args .own)) _ _ (c .before .before .before .before .before .before .by-steps .ensures .0) (c .before .before .before .before .before .before .by-steps .ensures .1)
 
 replay-requires-2 : tie.Need-replay-requires-2
 replay-requires-2 c κs = search needs
-
-enum-told : tie.Need-enum-told
-enum-told c = search needs
 
 same-length-2 : tie.Need-same-length-2
 same-length-2 c = search needs
 
 returns-2 : tie.Need-returns-2
 unfolding boundOf
-returns-2 c =
-    let o = c .before .before .before .before .before .before .before .before .before .before .before .before .before .before .before .before .args .own in
-    let s = c .before .before .before .before .before .before .before .before .before .before .before .before .before .by-steps .ensures in
+returns-2 c = let o = c .before .before .before .before .before .before .before .before .before .before .before .before .before .args .own in
+    let a = c .before .before .before .before .before .before .before .before .before .before .by-steps .ensures in
     let b = c .before .before .before .before .before .before .before .by-nearest .ensures in
-    let e = c .before .before .before .before .before .before .before .before .before .before .a .given .1 in
-    let w = first-memory o _ _ (s .0) (s .1) _ e in
-    let k = first-count o _ _ (s .0) (s .1) _ e in
-    let j = part-count (second o) _ _ (b .0) (b .1) in
-    let i = part-count (first o) _ _ w k in
-    laid-on o _ _ _ _ (held (first o)) _ (first-on o _ _ (s .0) (s .1) _ e) (held-first o (omega (arith, i, j, c .before .before .before .before .before .if1 .left)))
-    (part-held (first o) _ _ w k) (c .before .before .replay2 .ensures .0) (c .before .before .replay2 .ensures .1)
-
-returns-3 : tie.Need-returns-3
-unfolding boundOf
-returns-3 c =
-    let o = c .before .before .before .before .before .before .args .own in
-    let s = c .before .before .before .by-steps .ensures in
-    let t = first-stuck o _ _ (s .0) (s .1) _ (c .enum-told .given .1) in
-    (memory-stuck (heldOwn o) _ _ _ t, answer-stuck (heldOwn o) _ _ _ t)
+    laid-on o _ _ _ _ (held (first o)) _ (held-first o (omega (arith, part-count (first o) _ _ (a .0) (a .1), part-count (second o) _ _ (b .0) (b .1), c .before .before .before .before .before .if1 .left)))
+    (part-held (first o) _ _ (a .0) (a .1)) (c .before .before .replay2 .ensures .0) (c .before .before .replay2 .ensures .1)
 
 pub lay-island-spec : {M : Type 1} → statement M
 lay-island-spec =
@@ -101,7 +69,6 @@ lay-island-spec =
     (tie.spec
     slice-aggregate-by-steps
     by-steps-requires
-    enum-known-a
     slice-aggregate-by-nearest
     by-nearest-requires
     array-share-prefix-second
@@ -112,7 +79,5 @@ lay-island-spec =
     array-share-prefix-first
     slice-aggregate-replay-2
     replay-requires-2
-    enum-told
     same-length-2
-    returns-2
-    returns-3)
+    returns-2)

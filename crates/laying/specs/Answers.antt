@@ -1,4 +1,4 @@
--- Test 9 behind tests 1 to 8, and what an acceptance answers and leaves ("Records and refusals").
+-- What laying answers and leaves ("Records and refusals").
 use mathlib.Core.List.{List, _++_, map}
 use Prim.Native.Nat.{ℕ}
 use lib.Dec.{eqb}
@@ -6,28 +6,16 @@ use lib.ListN.{length, take, drop}
 use Rattle.sets.specs.Pick.{pick}
 use Rattle.gates.specs.declared.gate.Gate.{Gate}
 use Rattle.verdicts.specs.declared.verdict.Verdict.{Verdict}
-use Rattle.verdicts.specs.declared.verdict.Verdict.the-variants.{Accepted, Stuck}
+use Rattle.verdicts.specs.declared.verdict.Verdict.the-variants.{Accepted}
 use Rattle.gates.specs.Layout.{gatesOf, recordOf}
 use Rattle.circuit.specs.Phase.{phaseOf}
 use Rattle.tallies.specs.Tally.{cnotsOf, rotationsOf, depthOf}
 use Rattle.verdicts.specs.Verdicts.{numberOf}
-use Rattle.verdicts.specs.InOrder.{andThen}
 use Rattle.chip.specs.Couplers.{nearOf}
-use Rattle.laying.specs.Laid.{laidOf, stuckOn}
+use Rattle.laying.specs.Laid.{laidOf}
 use Rattle.laying.specs.declared.lay.Answer.{Answer}
 use Rattle.laying.specs.declared.lay.Answer.the-variants.{Laid, Refused}
-use Rattle.judging.specs.Tests.{judgedJob}
-
--- ---- 9
-
-unfoldable pub judgedStuck : ℕ → List ℕ → List Gate → Verdict
-judgedStuck n near gs = pick (stuckOn n near gs) Stuck Accepted
-
--- "Laying tests 1 to 9 in that order"
-unfoldable pub verdictOf : ℕ → List ℕ → List ℕ → ℕ → Verdict
-verdictOf n couplers gates room = andThen (judgedJob n couplers gates room) (judgedStuck n (nearOf n couplers) (gatesOf n gates))
-
--- ---- answers
+use Rattle.judging.specs.Tests.{verdictOf}
 
 -- the gates that an accepted job gets
 unfoldable pub circuitOf : ℕ → List ℕ → List ℕ → List Gate
