@@ -1,4 +1,4 @@
--- The circuit of a job that can be laid: its meaning, its couplers, its size; and test 9 is always passed. Assumes nothing.
+-- The circuit of a job that can be laid: its meaning, its couplers, its size. Assumes nothing.
 use mathlib.Core.Path.{_≡_, refl, sym, ap, _∙_}
 use mathlib.Core.List.{List, [], _∷_}
 use Prim.Native.Nat.{ℕ, _+_, _-_, _*_, _%_, _≤_, _<_}

@@ -20,7 +20,7 @@ onIsland near gs q =
     let ps = ownTerms Q (terms gs) in
     islandLaid (ownSets Q near) Q ps (sumsOf gs ps) (ownSets Q (run gs start)) (ownSets Q (mirrorsOf gs))
 
--- with these no step is at a loss
+-- on the island of q no step is at a loss with what it is handed
 unfoldable pub GoesOnIsland : List ℕ → List Gate → ℕ → Type 0
 GoesOnIsland near gs q =
     let Q = islandOf near q in

@@ -64,7 +64,7 @@ module _ (n : ℕ) (couplers gates out : List ℕ) where
   abbrev phase : ℕ
   phase = jobPhase n gates
 
-  -- every job gets the answer of the first test that it fails, of 1 to 9 in that order, or is accepted
+  -- every job gets the answer of the first test that it fails, of 1 to 8 in that order, or is accepted
   pub demand-1-verdict : verdictIn answer ≡ verdict
   unfolding jobAnswered
   demand-1-verdict = go (eqb (numberOf verdict) 0) refl
