@@ -17,7 +17,7 @@ use Rattle.tallies.specs.Tally.{tally, oneCnot, oneRotation, cnotsOf, rotations
 use Rattle.tallies.proofs.Tallies.{cnots-append, rotations-append, cnots-most, rotations-most}
 use Rattle.tallies.proofs.DepthLaws.{highest-layers}
 use Rattle.tallies.proofs.InParts.{layers-append, after-fits}
-use Rattle.laying.specs.Answers.{circuitOf}
+use Rattle.laying.specs.Verdict.{circuitOf}
 use Rattle.laying.proofs.Demands.{demand-2-fits}
 use Rattle.stretches.specs.Cut.{Each}
 use Rattle.stretches.specs.Stretches.{stretchesOf, endAt, stretchAt, restFrom}

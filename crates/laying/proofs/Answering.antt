@@ -19,7 +19,7 @@ use Rattle.laying.specs.declared.lay.Answer.{Answer}
 use Rattle.laying.specs.declared.lay.Answer.the-variants.{Refused}
 use Rattle.laying.specs.Layable.{Layable}
 use Rattle.judging.specs.Tests.{verdictOf}
-use Rattle.laying.specs.Answers.{circuitOf, countsOf, answered, outputOf}
+use Rattle.laying.specs.Verdict.{circuitOf, countsOf, answered, outputOf}
 use Rattle.ways.proofs.Replaying.{zeros, gates-read, held-fine}
 use Rattle.ways.proofs.Owned.{part-held}
 use Rattle.laying.proofs.Accepting.{job-layable, job-room}

@@ -33,7 +33,7 @@ use Rattle.laying.specs.declared.lay.Answer.the-variants.{Laid, Refused}
 use Rattle.laying.specs.Layable.{Layable}
 use Rattle.laying.specs.Laid.{GoesOnIsland}
 use Rattle.judging.specs.Tests.{judgedCount, judgedParities, judgedReach, judgedRoom, judgedMeaning, verdictOf}
-use Rattle.laying.specs.Answers.{circuitOf, countsOf, answered, outputOf, verdictIn, recordsIn, cnotsIn, rotationsIn, depthIn, phaseIn, laidRecords}
+use Rattle.laying.specs.Verdict.{circuitOf, countsOf, answered, outputOf, verdictIn, recordsIn, cnotsIn, rotationsIn, depthIn, phaseIn, laidRecords}
 use Rattle.laying.specs.Reach.{Within}
 use Rattle.laying.specs.Demands.{Island, InIsland, gatesOn, Faithful, FlipsLast, judgedSix, Stays, InIslands, Strays, Agree}
 use Rattle.laying.proofs.Job.{only-inside}

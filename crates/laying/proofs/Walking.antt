@@ -36,7 +36,7 @@ use Rattle.laying.specs.Layable.{Layable}
 use Rattle.laying.specs.Stands.{standsOf, Idles}
 use Rattle.ways.specs.Memory.{stepsOwn, nearestOwn, closedBy, heldOwn}
 use Rattle.ways.proofs.Owned.{AllFine, held-laid}
-use Rattle.laying.specs.Answers.{circuitOf}
+use Rattle.laying.specs.Verdict.{circuitOf}
 use Rattle.laying.proofs.Job.{parts}
 use Rattle.laying.proofs.Composing.{laid-led, laid-not}
 use Rattle.laying.proofs.Tabled.{own-parities, own-angles, own-count, laid-is}

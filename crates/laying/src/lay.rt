@@ -20,7 +20,7 @@ ghost use Rattle.laying.specs.Layable.{Layable};
 ghost use Rattle.emitting.specs.Emit.{emit, emitAt};
 ghost use Rattle.ways.specs.Memory.{heldOwn};
 ghost use Rattle.laying.specs.Stands.{Idles};
-ghost use Rattle.laying.specs.Answers.{circuitOf, countsOf, answered, outputOf};
+ghost use Rattle.laying.specs.Verdict.{circuitOf, countsOf, answered, outputOf};
 
 // What laying answers: the counts of the laid gates, or why there are none.
 pub enum Answer {

@@ -41,7 +41,7 @@ module _ (near : List ℕ) (angles : List ℕ) (sy : Symm near) where
     S = without Q r
 
     -- the ones step for n columns at most, where each has a one at r
-    abbrev OnesMeets : ℕ → Type 0
+    abbrev pub OnesMeets : ℕ → Type 0
     OnesMeets n =
         (sel : List Bool) (xs : List ℕ) → Ready Q sel xs → ((k : ℕ) → getD sel k false ≡ true → In r (getD xs k 0)) → countOf sel ≤ n
         → Done near Q angles sel xs (onesStep n below near angles Q r sel xs) × OnesGoesOn n below Below near angles Q r sel xs
@@ -126,7 +126,7 @@ module _ (near : List ℕ) (angles : List ℕ) (sy : Symm near) where
     ones-none : (n : ℕ) (sel : List Bool) (xs : List ℕ) → Ready Q sel xs → countOf sel ≡ 0 → Done near Q angles sel xs (onesStep n below near angles Q r sel xs)
     ones-none n sel xs ready e = subst (Done near Q angles sel xs) (sym (ones-idle below near angles Q r sel xs n e)) (done-idle near Q angles sel xs ready e)
 
-    ones-meets : (n : ℕ) → OnesMeets n
+    pub ones-meets : (n : ℕ) → OnesMeets n
     unfolding OnesGoesOn
     ones-meets zero sel xs ready has-r l = let e : countOf sel ≡ 0 = omega arith in (ones-none 0 sel xs ready e, e)
     ones-meets (suc n) sel xs ready has-r l = go (ℕ-discrete (countOf sel) 0) (ones-meets n)
