@@ -154,7 +154,7 @@ module _ (n m : ℕ) (xs xs′ ys ys′ : List ℕ) (job : Layable n xs ys) (job
 
   pub same-gates : gatesOn S (circuitOf n xs ys) ≡ gatesOn S (circuitOf m xs′ ys′)
   unfolding laidOn
-  same-gates = gates-are n xs ys job ok S q here ∙ ap₂ (λ (p l : List Gate). p ++ l) alike same-flips ∙ sym (gates-are m xs′ ys′ job′ ok′ S r there)
+  same-gates = gates-are n xs ys job ok S q here ∙ ap₂ _++_ alike same-flips ∙ sym (gates-are m xs′ ys′ job′ ok′ S r there)
     where
       alike : laidOn S (nearOf n xs) one ≡ laidOn S (nearOf m xs′) two
       alike = cc (same-near, same-terms, same-sums, same-finals, same-mirrors)

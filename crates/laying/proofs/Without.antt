@@ -55,5 +55,5 @@ module _ (n : ℕ) (couplers gates : List ℕ) (none : All NoX (gatesOf n gates)
     flips = λ i. flip-is drawn i ∙ ap (λ (F : List ℕ). getD F i 0) unflipped ∙ none-flipped i;
     phase = phase-none drawn quiet;
     sums = λ p. sum-is p drawn quiet;
-    laid = laid-alike (islandOf near) (islandOf near) (withFlips near drawn) (λ q. onIsland near drawn q) n (λ q l. refl) (λ q l e. nothing-behind q);
+    laid = laid-alike (islandOf near) (islandOf near) (withFlips near drawn) (onIsland near drawn) n (λ q l. refl) (λ q l e. nothing-behind q);
   }

@@ -17,4 +17,4 @@ pub record WithoutX (n : ℕ) (couplers gates : List ℕ) : Type 0 where
   pub flips : (i : ℕ) → flipOf (gatesOf n gates) i ≡ 0
   pub phase : phaseOf (gatesOf n gates) ≡ 0
   pub sums : (p : ℕ) → sumOf p (gatesOf n gates) ≡ given p (gatesOf n gates) start % 65536
-  pub laid : circuitOf n couplers gates ≡ laidTo (islandOf (nearOf n couplers)) (λ q. onIsland (nearOf n couplers) (gatesOf n gates) q) n
+  pub laid : circuitOf n couplers gates ≡ laidTo (islandOf (nearOf n couplers)) (onIsland (nearOf n couplers) (gatesOf n gates)) n
