@@ -3,5 +3,7 @@ pub mod Growth
 pub mod Closure
 pub mod Tests
 pub mod Rounds
+pub mod Enough
+pub mod Searching
 pub mod Neighbours
 pub mod Order

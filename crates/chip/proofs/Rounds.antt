@@ -1,8 +1,8 @@
--- Rounds of growing, one turn of a loop at a time: the neighbours of a set, and the closure. Assumes nothing.
+-- The neighbours of a set, one turn of a loop at a time, and the size of what rounds reach. Assumes nothing.
 use mathlib.Core.Path.{_≡_, refl, sym, ap, ap₂, _∙_}
 use mathlib.Core.Bool.{true, false}
 use mathlib.Core.List.{List, _∷_}
-use Prim.Native.Nat.{ℕ, zero, suc, _+_, _-_, _/_, _%_, _^_, _≤_, _<_}
+use Prim.Native.Nat.{ℕ, zero, suc, _+_, _/_, _%_, _^_, _≤_, _<_}
 use native.Mathlib.Nat.{lt-of-le-of-lt}
 use native.Mathlib.Omega.{arith}
 use native.Mathlib.Numerals.{add-one}
@@ -14,7 +14,6 @@ use Rattle.sets.specs.Bit.{bit, has, when}
 use Rattle.sets.proofs.Bits.{or-assoc}
 use Rattle.sets.proofs.Words.{has-true, has-false}
 use Rattle.chip.specs.Graph.{nbrs, grow, closure}
-use Rattle.sets.proofs.Finding.{sub-suc, sub-none}
 
 -- ---- the neighbours of a set: `all` so far, and those of the members from u on
 
@@ -54,29 +53,6 @@ nbrs-end near S u all h = ap (λ (l : List ℕ). bitOr all (nbrs (S / 2 ^ u) l))
 -- ---- the closure
 
 module _ (near : List ℕ) (Q : ℕ) where
-  closure-step : (k S : ℕ) → closure near Q (suc k) S ≡ closure near Q k (grow near Q S)
-  unfolding closure
-  closure-step k S = refl
-
-  pub closure-none : (S : ℕ) → closure near Q 0 S ≡ S
-  unfolding closure
-  closure-none S = refl
-
-  pub closure-round : (n k S : ℕ) → k < n → closure near Q (n - k) S ≡ closure near Q (n - (k + 1)) (grow near Q S)
-  closure-round n k S h = ap (λ (d : ℕ). closure near Q d S) (sub-suc n k h) ∙ closure-step (n - (k + 1)) S
-
-  pub closure-done : (n k S : ℕ) → n ≤ k → closure near Q (n - k) S ≡ S
-  closure-done n k S h = ap (λ (d : ℕ). closure near Q d S) (sub-none n k h) ∙ closure-none S
-
-  closure-snoc : (k S : ℕ) → grow near Q (closure near Q k S) ≡ closure near Q (suc k) S
-  unfolding closure
-  closure-snoc zero S = refl
-  closure-snoc (suc k) S = closure-snoc k (grow near Q S)
-
-  -- the last round instead of the first
-  pub closure-last : (k S : ℕ) → grow near Q (closure near Q k S) ≡ closure near Q (k + 1) S
-  closure-last k S = closure-snoc k S ∙ ap (λ (n : ℕ). closure near Q n S) (sym (add-one k))
-
   pub closure-lt : (n k S : ℕ) → Q < 2 ^ n → S < 2 ^ n → closure near Q k S < 2 ^ n
   unfolding closure grow
   closure-lt n zero S hq hs = hs

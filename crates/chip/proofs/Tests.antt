@@ -7,17 +7,13 @@ use native.Mathlib.Omega.{arith}
 use native.Mathlib.Decide.{decLt}
 use lib.Dec.{ltb}
 use lib.ListN.{length, List·getD-eq-default}
-use borrow.Author.Tests.{ltb-true, ltb-false}
+use borrow.Author.Tests.{ltb-false}
 use Rattle.sets.specs.Bit.{bit}
 use Rattle.sets.specs.Search.{firstOf, someOf}
 use Rattle.sets.proofs.Bits.{bit-of-zero}
-use Rattle.sets.proofs.Finding.{first-true, first-before}
+use Rattle.sets.proofs.Finding.{first-before}
 use Rattle.chip.specs.Graph.{Near}
 use Rattle.sets.proofs.Deciding.{never}
-
-pub some-true : (f : ℕ → Bool) (n : ℕ) → someOf f n ≡ true → (u : ℕ) × (u < n) × (f u ≡ true)
-unfolding someOf
-some-true f n e = let h : firstOf f n 0 < n = ltb-true (firstOf f n 0) n e in (firstOf f n 0, h, first-true f n 0 (omega arith))
 
 pub some-of : (f : ℕ → Bool) (n u : ℕ) → u < n → f u ≡ true → someOf f n ≡ true
 unfolding someOf

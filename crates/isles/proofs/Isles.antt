@@ -2,19 +2,23 @@
 use mathlib.Core.Path.{_≡_, refl, sym, ap, _∙_, subst}
 use mathlib.Core.Logic.{_⊎_, inl, inr}
 use mathlib.Core.List.{List}
-use Prim.Native.Nat.{ℕ, zero, suc, _+_, _-_, _*_, _/_, _^_, _<_}
+use Prim.Native.Nat.{ℕ, zero, suc, _+_, _*_, _/_, _^_, _≤_, _<_}
 use native.Mathlib.Nat.{pow-suc, le-of-suc-le-suc}
 use native.Mathlib.Omega.{arith}
 use native.Mathlib.Decide.{ℕ-discrete}
 use lib.Dec.{lit<}
-use lib.ListN.{length, getD}
-use lib.Pow.{pow-lt, suc-ones}
+use lib.ListN.{length, getD, set, length-set}
+use lib.Seq.{getD-set-same, getD-set-other, ext-getD}
+use lib.Pow.{pow-lt}
 use lib.Bits.{bitAnd}
 use lib.Count.{ones-le}
+use borrow.Author.Count.{below-more}
 use Rattle.sets.specs.Bit.{bit, In}
-use Rattle.sets.proofs.Bits.{bit-zero, bit-suc, bit-pow-same, bit-cases, zero-ext}
-use Rattle.sets.proofs.Members.{in-lt, in-pow, in-and, sub-eq, some-bit}
+use Rattle.sets.specs.Size.{onlyOf}
+use Rattle.sets.proofs.Bits.{bit-suc, bit-pow-same, bit-cases, zero-ext}
+use Rattle.sets.proofs.Members.{in-lt, in-pow, in-and, sub-eq, some-bit, all-in}
 use Rattle.sets.proofs.Ones.{ones-pow}
+use Rattle.sets.proofs.Words.{only-is}
 use Rattle.chip.specs.Graph.{Near, Symm, Chain, here, next, Joined, closure}
 use Rattle.isles.specs.Islands.{everyQubit, islandOf, islandsFrom, islandsOf}
 use Rattle.chip.proofs.Chains.{chain-cat, chain-rev, chain-start, chain-end}
@@ -23,14 +27,6 @@ use Rattle.chip.proofs.Closure.{closure-keeps, closure-chain, closure-fix, fixe
 use Rattle.chip.proofs.Rounds.{closure-lt}
 
 -- every qubit below 20 is in the set of all, and no other
-all-in : (k i : ℕ) → i < k → bit (2 ^ k - 1) i ≡ 1
-all-in zero i h = absurd (omega arith)
-all-in (suc k) zero h = let p : 2 ^ suc k ≡ 2 ^ k * 2 = pow-suc 2 k in bit-zero (2 ^ suc k - 1) ∙ omega (arith, suc-ones k)
-all-in (suc k) (suc i) h =
-    let p : 2 ^ suc k ≡ 2 ^ k * 2 = pow-suc 2 k in
-    let e : (2 ^ suc k - 1) / 2 ≡ 2 ^ k - 1 = omega (arith, suc-ones k) in
-    bit-suc (2 ^ suc k - 1) i ∙ ap (λ (n : ℕ). bit n i) e ∙ all-in k i (omega arith)
-
 pub every-in : (i : ℕ) → i < 20 → In i everyQubit
 every-in i h = all-in 20 i h
 
@@ -133,10 +129,6 @@ module _ (near : List ℕ) (sy : Symm near) where
 
 -- ---- the list of all islands
 
-pub island-is : (near : List ℕ) (q : ℕ) → closure near everyQubit 20 (2 ^ q) ≡ islandOf near q
-unfolding islandOf
-island-is near q = refl
-
 islands-at : (near : List ℕ) (d q i : ℕ) → i < d → getD (islandsFrom near d q) i 0 ≡ islandOf near (q + i)
 unfolding islandsFrom
 islands-at near zero q i h = absurd (omega arith)
@@ -159,3 +151,26 @@ getD-islands near q h = islands-at near 20 0 q h ∙ ap (islandOf near) (omega a
 pub island-lt : (near : List ℕ) (q : ℕ) → q < 20 → islandOf near q < 2 ^ 20
 unfolding islandOf
 island-lt near q h = closure-lt near everyQubit 20 20 (2 ^ q) (lit< tt) (pow-lt h)
+
+-- the islands of the qubits below q stand in `all`
+pub record Found (near : List ℕ) (q : ℕ) (all : List ℕ) : Type 0 where
+  pub long : length all ≡ 20
+  pub each : (k : ℕ) → k < q → getD all k 0 ≡ islandOf near k
+
+pub found-none : (near all : List ℕ) → length all ≡ 20 → Found near 0 all
+found-none near all l = record { long = l; each = λ k h. absurd (omega arith) }
+
+-- x is what the search finds from q, d the set of q alone
+pub found-next : (near : List ℕ) (q : ℕ) (all : List ℕ) (d x : ℕ) → q < 20 → Found near q all → d ≡ onlyOf q → x ≡ closure near everyQubit 20 d → Found near (q + 1) (set all q x)
+unfolding islandOf
+found-next near q all d x h f e ex = record {
+  long = length-set all q x ∙ f .long;
+  each = below-more (λ k. getD (set all q x) k 0 ≡ islandOf near k) q
+      (λ k l. getD-set-other all q k x 0 (λ (z : k ≡ q). omega arith) ∙ f .each k l)
+      (getD-set-same all q x 0 (omega (arith, f .long)) ∙ ex ∙ ap (closure near everyQubit 20) (e ∙ only-is q (omega arith)));
+}
+
+pub found-all : (near : List ℕ) (q : ℕ) (all : List ℕ) → 20 ≤ q → Found near q all → all ≡ islandsOf near
+found-all near q all h f =
+    ext-getD 0 all (islandsOf near) (f .long ∙ sym (length-islands near))
+    (λ k l. f .each k (omega (arith, f .long)) ∙ sym (getD-islands near k (omega (arith, f .long))))

@@ -1,2 +1,1 @@
 pub mod Isles
-pub mod Tables

@@ -1,2 +1,1 @@
 pub mod Islands
-pub mod Pairs

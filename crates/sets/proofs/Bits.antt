@@ -1,7 +1,7 @@
 -- The bits of a number, and of xor, and, or: a law of sets is shown bit by bit (`ext`). Assumes nothing.
 use mathlib.Core.Path.{_≡_, refl, sym, ap, _∙_}
 use mathlib.Core.Logic.{_≢_, _⊎_, inl, inr}
-use Prim.Native.Nat.{ℕ, zero, suc, _+_, _*_, _/_, _%_, _^_, _≤_, _<_, suc-le-suc, max}
+use Prim.Native.Nat.{ℕ, zero, suc, _+_, _*_, _/_, _%_, _^_, _≤_, _<_, max}
 use native.Mathlib.Nat.{le-of-suc-le-suc, zero-lt-suc, mod-lt, pow-suc}
 use native.Mathlib.Omega.{arith}
 use native.Mathlib.Numerals.{one-add}
@@ -68,16 +68,6 @@ ext =
     let e : n / 2 ≡ y / 2 = ih (y / 2) (λ i. sym (bit-suc n i) ∙ h (suc i) ∙ bit-suc y i) in
     let z : n % 2 ≡ y % 2 = sym (bit-zero n) ∙ h 0 ∙ bit-zero y in
     omega arith)
-
--- the same for numbers of k digits, by k bits
-pub ext-below : (k x y : ℕ) → x < 2 ^ k → y < 2 ^ k → ((i : ℕ) → i < k → bit x i ≡ bit y i) → x ≡ y
-ext-below zero x y hx hy h = lt-one hx ∙ sym (lt-one hy)
-ext-below (suc k) x y hx hy h =
-    let hx2 : x < 2 ^ k * 2 = rw pow-suc at hx in
-    let hy2 : y < 2 ^ k * 2 = rw pow-suc at hy in
-    let e : x / 2 ≡ y / 2 = ext-below k (x / 2) (y / 2) (omega arith) (omega arith) (λ i l. sym (bit-suc x i) ∙ h (suc i) (suc-le-suc l) ∙ bit-suc y i) in
-    let z : x % 2 ≡ y % 2 = sym (bit-zero x) ∙ h 0 (zero-lt-suc k) ∙ bit-zero y in
-    omega arith
 
 -- past the k digits there is nothing
 pub bit-high : (k x i : ℕ) → x < 2 ^ k → k ≤ i → bit x i ≡ 0

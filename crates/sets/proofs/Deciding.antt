@@ -1,28 +1,17 @@
--- Tests joined by "both" and "either", and the facts that they decide. Assumes nothing.
+-- Tests joined by "both", and the facts that they decide. Assumes nothing.
 use mathlib.Core.Path.{_≡_, refl, sym, _∙_}
-use mathlib.Core.Logic.{_⊎_, inl, inr}
 use mathlib.Core.Bool.{Bool, true, false}
 use Prim.Native.Nat.{ℕ}
 use native.Mathlib.Omega.{arith}
-use Rattle.sets.specs.Pick.{both, either}
+use Rattle.sets.specs.Pick.{both}
 
 pub never : {x : Bool} → x ≡ true → x ≡ false → ⊥
 never a b = let z : _≡_ {A = Bool} true false = sym a ∙ b in let y : _≡_ {A = ℕ} 0 1 = cc in omega arith
-
--- two tests are equal where each is true with the other
-pub same-test : (a b : Bool) → (a ≡ true → b ≡ true) → (b ≡ true → a ≡ true) → a ≡ b
-same-test true b f g = sym (f refl)
-same-test false true f g = g refl
-same-test false false f g = refl
 
 pub both-true : (a b : Bool) → both a b ≡ true → (a ≡ true) × (b ≡ true)
 both-true true b e = (refl, e)
 both-true false true e = (e, refl)
 both-true false false e = (e, e)
-
-pub either-true : (a b : Bool) → either a b ≡ true → (a ≡ true) ⊎ (b ≡ true)
-either-true true b e = inl refl
-either-true false b e = inr e
 
 pub both-yes : (a b : Bool) → a ≡ true → b ≡ true → both a b ≡ true
 both-yes true b p q = q

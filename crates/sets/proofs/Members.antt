@@ -1,12 +1,14 @@
 -- Members and parts of a set. Assumes nothing.
 use mathlib.Core.Path.{_≡_, refl, sym, ap, ap₂, _∙_, subst}
 use mathlib.Core.Logic.{_≢_, _⊎_, inl, inr}
-use Prim.Native.Nat.{ℕ, zero, suc, _*_, _/_, _%_, _^_, _<_}
+use Prim.Native.Nat.{ℕ, zero, suc, _-_, _*_, _/_, _%_, _^_, _<_}
+use native.Mathlib.Nat.{pow-suc}
 use native.Mathlib.Omega.{arith}
 use native.Mathlib.Decide.{ℕ-discrete, decLt}
 use lib.Arith.{bin-ind}
 use lib.Bits.{bitAnd, bitOr, bitXor}
 use lib.Count.{ones, ones-step}
+use lib.Pow.{suc-ones}
 use Rattle.sets.specs.Bit.{bit, In, Sub}
 use Rattle.sets.proofs.Bits.{bit-zero, bit-suc, bit-lt, bit-cases, bit-xor, bit-and, bit-or, bit-of-zero, ext, bit-pow-same, bit-pow-other, bit-high}
 
@@ -115,3 +117,12 @@ single-sub q x f ne =
     let r = some-bit x ne in
     let e : r .0 ≡ q = in-pow q (r .0) (f (r .0) (r .1)) in
     sub-eq x (2 ^ q) f (λ i h. subst (λ (j : ℕ). In j x) (e ∙ sym (in-pow q i h)) (r .1))
+
+-- the set of the first k numbers
+pub all-in : (k i : ℕ) → i < k → In i (2 ^ k - 1)
+all-in zero i h = absurd (omega arith)
+all-in (suc k) zero h = let p : 2 ^ suc k ≡ 2 ^ k * 2 = pow-suc 2 k in bit-zero (2 ^ suc k - 1) ∙ omega (arith, suc-ones k)
+all-in (suc k) (suc i) h =
+    let p : 2 ^ suc k ≡ 2 ^ k * 2 = pow-suc 2 k in
+    let e : (2 ^ suc k - 1) / 2 ≡ 2 ^ k - 1 = omega (arith, suc-ones k) in
+    bit-suc (2 ^ suc k - 1) i ∙ ap (λ (n : ℕ). bit n i) e ∙ all-in k i (omega arith)

@@ -10,22 +10,40 @@ use native.Mathlib.Decide.{ℕ-discrete}
 use lib.Dec.{eqb}
 use lib.Bits.{bitXor, xor-lt}
 use lib.Pow.{pow-lt, pow-mono}
-use lib.Count.{ones, ones-le}
+use lib.Count.{ones, ones-le, trailingZeros}
 use borrow.Author.Tests.{eq-eqb, ne-eqb, eqb-true}
 use Rattle.sets.specs.Pick.{both, either}
-use Rattle.sets.specs.Bit.{has, In}
-use Rattle.sets.specs.Size.{lowestOf}
+use Rattle.sets.specs.Bit.{bit, has, In}
+use Rattle.sets.specs.Size.{lowestOf, onlyOf}
 use Rattle.sets.proofs.Bits.{bit-of-zero}
-use Rattle.sets.proofs.Members.{in-lt}
-use Rattle.sets.proofs.Words.{has-true, in-has, lowest-in}
+use Rattle.sets.proofs.Members.{in-lt, sub-eq}
+use Rattle.sets.proofs.Words.{has-true, in-has, lowest-in, only-lowest}
 use Rattle.chip.specs.Graph.{Near, Symm, Joined, closure}
 use Rattle.spares.specs.Spare.{reachOf, connectedOf, spareOf}
 use Rattle.chip.proofs.Growth.{joined-shrink, joined-neighbour}
-use Rattle.chip.proofs.Closure.{closure-joined, joined-closure}
+use Rattle.chip.proofs.Closure.{closure-in, closure-joined, joined-closure}
 
 pub joined-empty : (near : List ℕ) → Joined near 0
 unfolding Joined
 joined-empty near a b ha hb = absurd (omega (arith, ha, bit-of-zero a))
+
+only-none : onlyOf (lowestOf 0) ≡ 0
+unfolding onlyOf lowestOf trailingZeros
+only-none = refl
+
+-- what the code tests: r is what the search reaches in S from its lowest member, d the set of that alone; the empty set is reached from nothing
+pub reached-connected : (near : List ℕ) (S d r : ℕ) → S < 2 ^ 32 → d ≡ onlyOf (lowestOf S) → r ≡ closure near S 20 d → eqb r S ≡ connectedOf near S
+unfolding connectedOf reachOf
+reached-connected near S d r low ed er = go (ℕ-discrete S 0)
+  where
+    go : Dec (S ≡ 0) → eqb r S ≡ either (eqb S 0) (eqb (closure near S 20 (2 ^ lowestOf S)) S)
+    go (yes z) =
+        let n : d ≡ 0 = ed ∙ ap (λ (k : ℕ). onlyOf (lowestOf k)) z ∙ only-none in
+        let e : r ≡ S = er ∙ sub-eq (closure near S 20 d) S (closure-in near S 20 d (λ i h. absurd (omega (arith, ap (λ (k : ℕ). bit k i) n, bit-of-zero i)))) (λ i h. absurd (omega (arith, ap (λ (k : ℕ). bit k i) z, bit-of-zero i))) in
+        eq-eqb r S e ∙ sym (ap (λ (b : Bool). either b (eqb (closure near S 20 (2 ^ lowestOf S)) S)) (eq-eqb S 0 z))
+    go (no ne) =
+        ap (λ (k : ℕ). eqb k S) (er ∙ ap (closure near S 20) (ed ∙ only-lowest S low ne))
+        ∙ sym (ap (λ (b : Bool). either b (eqb (closure near S 20 (2 ^ lowestOf S)) S)) (ne-eqb S 0 ne))
 
 -- S is a set of qubits below 20
 module _ (near : List ℕ) (S : ℕ) (low : S < 2 ^ 20) where

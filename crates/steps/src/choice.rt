@@ -1,5 +1,6 @@
 // The qubits that the steps choose.
 use crate::selection;
+use chip::search;
 use gates::job::Job;
 use spares::spare;
 ghost use mathlib.Core.Path.{_≡_};
@@ -82,17 +83,11 @@ pub fn rest(set: u32, r: usize) -> u32
     set ^ sets::only(r)
 }
 
-fn near_to(near: [u32; Job::QUBITS], r: usize) -> u32
-    ensures { λ s. ⌜ s ≡ getD near r 0 ⌝ }
-{
-    if r < Job::QUBITS { near[r] } else { 0 }
-}
-
 // The neighbours of r in `set`.
 pub fn neighbours(near: [u32; Job::QUBITS], set: u32, r: usize) -> u32
     ensures { λ s. ⌜ s ≡ beside near set r ⌝ }
 {
-    near_to(near, r) & rest(set, r)
+    search::neighbours(near, r) & rest(set, r)
 }
 
 // The members of a set.

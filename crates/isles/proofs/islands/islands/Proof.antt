@@ -1,59 +1,45 @@
--- `isles::islands::islands` meets its contract: after k rounds the table shows what k rounds reach. Assumes nothing.
-use mathlib.Core.Path.{_≡_, subst}
-use Prim.Native.Nat.{ℕ, _≤_, _+_, _-_}
-use Rattle.isles.specs.Pairs.{Round}
-use Rattle.isles.proofs.Tables.{After, after-start, after-round, after-still, after-end}
+-- `isles::islands::islands` meets its contract: the islands of the qubits passed are found. Assumes nothing.
+use Prim.Native.Nat.{_≤_, _-_}
+use Rattle.isles.proofs.Isles.{Found, found-none, found-next, found-all}
 use borrow.Author.Needs.{needs}
 use native.Mathlib.Omega.{arith}
 use Rattle.isles.proofs.islands.islands.Statement.{statement}
 use Rattle.isles.proofs.islands.islands.Tie as tie
 
 abbrev Inv-loop : tie.InvT-loop
-Inv-loop near table₀ k₀ table k = (k ≤ 20) × After near k table
+Inv-loop near all₀ q₀ all q = (q ≤ 20) × Found near q all
 
 abbrev μ-loop : tie.MeasureT-loop
-μ-loop near table₀ k₀ table k = 20 - k
-
-start-requires : tie.Need-start-requires Inv-loop μ-loop
-start-requires c κs = search needs
+μ-loop near all₀ q₀ all q = 20 - q
 
 loop-holds : tie.Need-loop-holds Inv-loop μ-loop
-loop-holds c = (search needs, after-start _ _ (c .start .ensures))
+loop-holds c = (search needs, found-none _ _ (search needs))
 
-round-requires : tie.Need-round-requires Inv-loop μ-loop
-round-requires c κs = search needs
+only-requires : tie.Need-only-requires Inv-loop μ-loop
+only-requires c κs = search needs
 
-same-requires : tie.Need-same-requires Inv-loop μ-loop
-same-requires c κs = search needs
+reached-requires : tie.Need-reached-requires Inv-loop μ-loop
+reached-requires c κs = search needs
 
-rows-requires : tie.Need-rows-requires Inv-loop μ-loop
-rows-requires c κs = search needs
+mul-all : tie.Need-mul-all Inv-loop μ-loop
+mul-all c = search needs
 
-returns : tie.Need-returns Inv-loop μ-loop
-returns c =
-    let at = c .before .before .before .before .before .loop in
-    let a = c .before .before .before .before .before .before .before .args in
-    let still = subst (Round (a .near) (at .table)) (c .before .before .same .ensures (c .before .if1 .taken)) (c .before .before .before .round .ensures) in
-    let e : at .k + (20 - at .k) ≡ 20 = omega arith in
-    after-end (a .near) (at .table) _ (subst (λ (n : ℕ). After (a .near) n (at .table)) e (after-still (a .near) (20 - at .k) (at .k) (at .table) (search needs) (at .inv .1) still)) (c .rows .ensures)
+array-write-all : tie.Need-array-write-all Inv-loop μ-loop
+array-write-all c = omega (arith, c .before .before .before .loop .inv .1 .long)
 
-add-k : tie.Need-add-k Inv-loop μ-loop
-add-k c = search needs
+add-q : tie.Need-add-q Inv-loop μ-loop
+add-q c = search needs
 
 loop-less : tie.Need-loop-less Inv-loop μ-loop
 loop-less c = search needs
 
 loop-again : tie.Need-loop-again Inv-loop μ-loop
-loop-again c = (search needs, after-round _ (c .before .before .before .before .loop .k) _ _ (search needs) (c .before .before .before .before .loop .inv .1) (c .before .before .round .ensures))
+loop-again c =
+    let at = c .before .before .before .loop in
+    (search needs, found-next _ (at .q) (at .all) _ _ (search needs) (at .inv .1) (c .before .only .ensures) (c .reached .ensures))
 
-rows-requires-2 : tie.Need-rows-requires-2 Inv-loop μ-loop
-rows-requires-2 c κs = search needs
-
-returns-2 : tie.Need-returns-2 Inv-loop μ-loop
-returns-2 c =
-    let at = c .before .before .loop in
-    let e : at .k ≡ 20 = omega arith in
-    after-end (c .before .before .before .before .args .near) (at .table) _ (rw e at (at .inv .1)) (c .rows2 .ensures)
+returns : tie.Need-returns Inv-loop μ-loop
+returns c = found-all _ (c .before .loop .q) _ (search needs) (c .before .loop .inv .1)
 
 pub islands-spec : {M : Type 1} → statement M
 islands-spec =
@@ -61,14 +47,12 @@ islands-spec =
     (tie.spec
     Inv-loop
     μ-loop
-    start-requires
     loop-holds
-    round-requires
-    same-requires
-    rows-requires
-    returns
-    add-k
+    only-requires
+    reached-requires
+    mul-all
+    array-write-all
+    add-q
     loop-less
     loop-again
-    rows-requires-2
-    returns-2)
+    returns)

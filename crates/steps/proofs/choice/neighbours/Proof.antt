@@ -6,15 +6,15 @@ use borrow.Author.Needs.{needs}
 use Rattle.steps.proofs.choice.neighbours.Statement.{statement}
 use Rattle.steps.proofs.choice.neighbours.Tie as tie
 
-near-to-requires : tie.Need-near-to-requires
-near-to-requires c κs = search needs
+neighbours-requires : tie.Need-neighbours-requires
+neighbours-requires c κs = search needs
 
 rest-requires : tie.Need-rest-requires
 rest-requires c κs = search needs
 
 returns : tie.Need-returns
 unfolding beside
-returns c = ap₂ bitAnd (c .before .near-to .ensures) (c .rest .ensures)
+returns c = ap₂ bitAnd (c .before .neighbours .ensures) (c .rest .ensures)
 
 pub neighbours-spec : {M : Type 1} → statement M
-neighbours-spec = tie.close (tie.spec near-to-requires rest-requires returns)
+neighbours-spec = tie.close (tie.spec neighbours-requires rest-requires returns)

@@ -1,9 +1,9 @@
--- `gathering::gather::neighbours` meets its contract. Assumes nothing.
+-- `chip::search::neighbours` meets its contract. Assumes nothing.
 use mathlib.Core.Path.{sym}
 use lib.ListN.{List·getD-eq-default}
 use borrow.Author.Needs.{needs}
-use Rattle.gathering.proofs.gather.neighbours.Statement.{statement}
-use Rattle.gathering.proofs.gather.neighbours.Tie as tie
+use Rattle.chip.proofs.search.neighbours.Statement.{statement}
+use Rattle.chip.proofs.search.neighbours.Tie as tie
 
 mul-result : tie.Need-mul-result
 mul-result c = search needs
