@@ -14,6 +14,7 @@ use Rattle.gates.specs.declared.gate.Gate.{Gate}
 use Rattle.table.specs.declared.sums.Sums.{Sums}
 use Rattle.meaning.specs.declared.told.Told.{Told}
 use Rattle.meaning.specs.declared.told.Meaning.{Meaning}
+use Rattle.verdicts.specs.declared.verdict.Verdict.{Verdict}
 use Rattle.verdicts.specs.declared.verdict.Verdict.the-variants.{Accepted, Qubits, ManyGates, ManyParities, Unreachable, Room}
 use Rattle.gates.specs.Layout.{gateOf, gatesOf}
 use Rattle.circuit.specs.Circuit.{run, start}
@@ -29,7 +30,7 @@ use Rattle.meaning.proofs.Terms.{termTable, terms-table}
 use Rattle.table.proofs.Keeping.{take-padded}
 use Rattle.chip.specs.Couplers.{nearOf}
 use Rattle.isles.specs.Islands.{islandsOf}
-use Rattle.judging.specs.Tests.{judgedCount, judgedParities, strayAt, scattered, judgedReach, judgedRoom, judgedMeaning, verdictOf}
+use Rattle.judging.specs.Tests.{judgedCount, judgedParities, strayAt, scattered, judgedReach, judgedRoom, judgedMeaning, verdictOf, judgedInside, verdictOn}
 
 -- ---- 6
 
@@ -89,7 +90,7 @@ module _ (n : ℕ) (gs : List Gate) (room : ℕ) where
 
 -- ---- 6 to 8, from what was told
 
-module _ (n : ℕ) (xs ys : List ℕ) (room : ℕ) (t : Told) (e : t ≡ toldOf n ys) where
+module _ (n : ℕ) (islands ys : List ℕ) (room : ℕ) (t : Told) (e : t ≡ toldOf n ys) where
   abbrev gs : List Gate
   gs = gatesOf n ys
 
@@ -100,8 +101,8 @@ module _ (n : ℕ) (xs ys : List ℕ) (room : ℕ) (t : Told) (e : t ≡ toldOf 
   unfolding toldOf
   fed-is = ap (λ (u : Told). u .fed) e
 
-  pub told-over : t .fed < length ys → ManyParities (t .fed) ≡ judgedMeaning n xs gs room
-  unfolding judgedMeaning
+  pub told-over : t .fed < length ys → ManyParities (t .fed) ≡ judgedInside n islands gs room
+  unfolding judgedInside
   told-over h = rw (parities-fail gs (omega (arith, fed-is, long))) (ap ManyParities fed-is)
 
   module _ (all : length ys ≤ t .fed) where
@@ -120,16 +121,13 @@ module _ (n : ℕ) (xs ys : List ℕ) (room : ℕ) (t : Told) (e : t ≡ toldOf 
     unfolding meaningOf
     sums-are = ap (λ (m : Meaning). m .sums) told-is
 
-    module _ (near islands : List ℕ) (d : near ≡ nearOf n xs) (i : islands ≡ islandsOf near) (w : ℕ) (s : w ≡ strayAt n islands (t .meaning .wires .parity)) where
-      islands-are : islands ≡ islandsOf (nearOf n xs)
-      islands-are = i ∙ ap islandsOf d
+    module _ (w : ℕ) (s : w ≡ strayAt n islands (t .meaning .wires .parity)) where
+      stray-is : w ≡ strayAt n islands (run gs start)
+      stray-is = s ∙ ap (strayAt n islands) wires-are
 
-      stray-is : w ≡ strayAt n (islandsOf (nearOf n xs)) (run gs start)
-      stray-is = s ∙ ap₂ (strayAt n) islands-are wires-are
-
-      pub told-stray : w < n → Unreachable w ≡ judgedMeaning n xs gs room
-      unfolding judgedMeaning
-      told-stray h = rw (parities-pass gs whole, reach-stray n (islandsOf (nearOf n xs)) gs (subst (λ (k : ℕ). k < n) stray-is h)) (ap Unreachable stray-is)
+      pub told-stray : w < n → Unreachable w ≡ judgedInside n islands gs room
+      unfolding judgedInside
+      told-stray h = rw (parities-pass gs whole, reach-stray n islands gs (subst (λ (k : ℕ). k < n) stray-is h)) (ap Unreachable stray-is)
 
       module _ (none : n ≤ w) (u : Sums) (v : u ≡ termsIn (t .meaning .sums)) where
         table-is : u ≡ termTable gs
@@ -146,30 +144,30 @@ module _ (n : ℕ) (xs ys : List ℕ) (room : ℕ) (t : Told) (e : t ≡ toldOf 
         pub told-few : u .len ≤ 256
         told-few = omega (arith, count-is, terms-few gs, over-few gs whole)
 
-        clear : n ≤ strayAt n (islandsOf (nearOf n xs)) (run gs start)
+        clear : n ≤ strayAt n islands (run gs start)
         clear = subst (λ (k : ℕ). n ≤ k) stray-is none
 
         module _ (b : Bool) (c : b ≡ scattered islands (take (u .len) (u .parity))) where
-          scattered-is : scattered (islandsOf (nearOf n xs)) (terms gs) ≡ b
-          scattered-is = sym (c ∙ ap₂ scattered islands-are terms-are)
+          scattered-is : scattered islands (terms gs) ≡ b
+          scattered-is = sym (c ∙ ap (scattered islands) terms-are)
 
-          pub told-scattered : b ≡ true → Unreachable n ≡ judgedMeaning n xs gs room
-          unfolding judgedMeaning
-          told-scattered y = rw (parities-pass gs whole, reach-scattered n (islandsOf (nearOf n xs)) gs clear (scattered-is ∙ y))
+          pub told-scattered : b ≡ true → Unreachable n ≡ judgedInside n islands gs room
+          unfolding judgedInside
+          told-scattered y = rw (parities-pass gs whole, reach-scattered n islands gs clear (scattered-is ∙ y))
 
           module _ (y : b ≡ false) (B : ℕ) (m : B ≡ boundOf n (u .len)) where
             bound-is : B ≡ boundOf n (length (terms gs))
             bound-is = m ∙ ap (boundOf n) count-is
 
-            pub told-short : room < B → Room ≡ judgedMeaning n xs gs room
-            unfolding judgedMeaning
+            pub told-short : room < B → Room ≡ judgedInside n islands gs room
+            unfolding judgedInside
             told-short h =
-                rw (parities-pass gs whole, reach-pass n (islandsOf (nearOf n xs)) gs clear (scattered-is ∙ y), room-fail n gs room (subst (λ (k : ℕ). room < k) bound-is h))
+                rw (parities-pass gs whole, reach-pass n islands gs clear (scattered-is ∙ y), room-fail n gs room (subst (λ (k : ℕ). room < k) bound-is h))
 
-            pub told-pass : B ≤ room → Accepted ≡ judgedMeaning n xs gs room
-            unfolding judgedMeaning
+            pub told-pass : B ≤ room → Accepted ≡ judgedInside n islands gs room
+            unfolding judgedInside
             told-pass h =
-                rw (parities-pass gs whole, reach-pass n (islandsOf (nearOf n xs)) gs clear (scattered-is ∙ y), room-pass n gs room (subst (λ (k : ℕ). k ≤ room) bound-is h))
+                rw (parities-pass gs whole, reach-pass n islands gs clear (scattered-is ∙ y), room-pass n gs room (subst (λ (k : ℕ). k ≤ room) bound-is h))
 
 -- ---- 1 to 8
 
@@ -182,19 +180,24 @@ qubits-few n e = go (leb 1 n) (leb n 20) refl refl e
     go true false p q z = absurd (let y : _≡_ {A = ℕ} 1 0 = z in omega arith)
     go false b p q z = absurd (let y : _≡_ {A = ℕ} 1 0 = z in omega arith)
 
-module _ (n : ℕ) (xs ys : List ℕ) (room : ℕ) where
-  pub job-qubits : (numberOf (judgedQubits n) ≡ 0 → ⊥) → judgedQubits n ≡ verdictOf n xs ys room
-  unfolding verdictOf
+module _ (n : ℕ) (xs islands ys : List ℕ) (room : ℕ) where
+  -- on the islands of the job's own couplers it is the job's verdict
+  pub verdict-found : (near : List ℕ) → near ≡ nearOf n xs → islands ≡ islandsOf near → (v : Verdict) → v ≡ verdictOn n xs islands ys room → v ≡ verdictOf n xs ys room
+  unfolding verdictOn judgedInside verdictOf judgedMeaning
+  verdict-found near d i v e = e ∙ ap (λ (all : List ℕ). verdictOn n xs all ys room) (i ∙ ap islandsOf d)
+
+  pub job-qubits : (numberOf (judgedQubits n) ≡ 0 → ⊥) → judgedQubits n ≡ verdictOn n xs islands ys room
+  unfolding verdictOn
   job-qubits a = then-stop (judgedQubits n) _ a
 
   module _ (a : numberOf (judgedQubits n) ≡ 0) where
-    pub job-couplers : (numberOf (judgedCouplers n xs) ≡ 0 → ⊥) → judgedCouplers n xs ≡ verdictOf n xs ys room
-    unfolding verdictOf
+    pub job-couplers : (numberOf (judgedCouplers n xs) ≡ 0 → ⊥) → judgedCouplers n xs ≡ verdictOn n xs islands ys room
+    unfolding verdictOn
     job-couplers b = then-stop (judgedCouplers n xs) _ b ∙ then-on (judgedQubits n) _ a
 
     module _ (b : numberOf (judgedCouplers n xs) ≡ 0) where
-      pub job-count : 4096 < length ys → ManyGates ≡ verdictOf n xs ys room
-      unfolding verdictOf judgedCount
+      pub job-count : 4096 < length ys → ManyGates ≡ verdictOn n xs islands ys room
+      unfolding verdictOn judgedCount
       job-count h =
           let c : judgedCount ys ≡ ManyGates = ap (λ (t : Bool). pick t ManyGates Accepted) (lt-ltb 4096 (length ys) h) in
           sym c ∙ then-stop (judgedCount ys) _ (λ z. let y : _≡_ {A = ℕ} 4 0 = sym (ap numberOf c) ∙ z in omega arith)
@@ -205,10 +208,10 @@ module _ (n : ℕ) (xs ys : List ℕ) (room : ℕ) where
         unfolding judgedCount
         count-zero = ap (λ (t : Bool). numberOf (pick t ManyGates Accepted)) (le-ltb 4096 (length ys) few)
 
-        pub job-gates : (numberOf (judgedGates n ys) ≡ 0 → ⊥) → judgedGates n ys ≡ verdictOf n xs ys room
-        unfolding verdictOf
+        pub job-gates : (numberOf (judgedGates n ys) ≡ 0 → ⊥) → judgedGates n ys ≡ verdictOn n xs islands ys room
+        unfolding verdictOn
         job-gates d = then-stop (judgedGates n ys) _ d ∙ then-on (judgedCount ys) _ count-zero ∙ then-on (judgedCouplers n xs) _ b ∙ then-on (judgedQubits n) _ a
 
-        pub job-meaning : numberOf (judgedGates n ys) ≡ 0 → judgedMeaning n xs (gatesOf n ys) room ≡ verdictOf n xs ys room
-        unfolding verdictOf
-        job-meaning d = then-on (judgedGates n ys) _ d ∙ then-on (judgedCount ys) _ count-zero ∙ then-on (judgedCouplers n xs) _ b ∙ then-on (judgedQubits n) _ a
+        pub job-inside : numberOf (judgedGates n ys) ≡ 0 → judgedInside n islands (gatesOf n ys) room ≡ verdictOn n xs islands ys room
+        unfolding verdictOn
+        job-inside d = then-on (judgedGates n ys) _ d ∙ then-on (judgedCount ys) _ count-zero ∙ then-on (judgedCouplers n xs) _ b ∙ then-on (judgedQubits n) _ a

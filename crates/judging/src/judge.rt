@@ -1,8 +1,6 @@
 // Tests 1 to 8 in document 01's order.
 use crate::reach;
-use chip::couplers;
 use gates::job::Job;
-use isles::islands;
 use meaning::told;
 use tallies::tally;
 use verdicts::verdict;
@@ -10,18 +8,17 @@ use verdicts::verdict::Verdict;
 ghost use mathlib.Core.Path.{_≡_};
 ghost use Prim.Native.Nat.{_≤_};
 ghost use Rattle.gates.specs.Layout.{gatesOf};
-ghost use Rattle.judging.specs.Tests.{judgedMeaning, verdictOf};
+ghost use Rattle.judging.specs.Tests.{judgedInside, verdictOn};
 
 // Tests 6, 7 and 8.
-fn judge_meaning(n: usize, couplers: &[u32], gates: &[u32], room: usize) -> Verdict
+fn judge_inside(n: usize, islands: [u32; Job::QUBITS], gates: &[u32], room: usize) -> Verdict
     requires { ⌜ n ≤ 20 ⌝ }
-    ensures { λ r. ⌜ r ≡ judgedMeaning n (now (couplers .entry)) (gatesOf n (now (gates .entry))) room ⌝ }
+    ensures { λ r. ⌜ r ≡ judgedInside n islands (gatesOf n (now (gates .entry))) room ⌝ }
 {
     let told = told::tell(gates, n);
     if told.fed < gates.len() {
         return Verdict::ManyParities(told.fed);
     }
-    let islands = islands::islands(couplers::near(couplers, n));
     let meaning = told.meaning;
     let wires = meaning.wires;
     let parity = wires.parity;
@@ -42,8 +39,15 @@ fn judge_meaning(n: usize, couplers: &[u32], gates: &[u32], room: usize) -> Verd
     Verdict::Accepted
 }
 
-pub fn judge(n: usize, couplers: &[u32], gates: &[u32], room: usize) -> Verdict
-    ensures { λ r. ⌜ r ≡ verdictOf n (now (couplers .entry)) (now (gates .entry)) room ⌝ }
+// The islands are handed in: found once, they serve every stretch of a job.
+pub fn judge_on(
+    n: usize,
+    couplers: &[u32],
+    islands: [u32; Job::QUBITS],
+    gates: &[u32],
+    room: usize,
+) -> Verdict
+    ensures { λ r. ⌜ r ≡ verdictOn n (now (couplers .entry)) islands (now (gates .entry)) room ⌝ }
 {
     let qubits = verdict::judge_qubits(n);
     if verdict::number(qubits) != 0 {
@@ -60,5 +64,5 @@ pub fn judge(n: usize, couplers: &[u32], gates: &[u32], room: usize) -> Verdict
     if verdict::number(drawn) != 0 {
         return drawn;
     }
-    judge_meaning(n, couplers, gates, room)
+    judge_inside(n, islands, gates, room)
 }

@@ -17,6 +17,8 @@ use Rattle.emitting.specs.Emit.{emit, emitAt}
 use Rattle.emitting.proofs.Emitting.{emit-room}
 use Rattle.laying.specs.declared.lay.Answer.{Answer}
 use Rattle.laying.specs.declared.lay.Answer.the-variants.{Refused}
+use Rattle.chip.specs.Couplers.{nearOf}
+use Rattle.laying.specs.Laid.{laidOf}
 use Rattle.laying.specs.Layable.{Layable}
 use Rattle.judging.specs.Tests.{verdictOf}
 use Rattle.laying.specs.Verdict.{circuitOf, countsOf, answered, outputOf}
@@ -31,6 +33,11 @@ module _ (n : ℕ) (xs ys : List ℕ) (out : List ℕ) where
 
   abbrev C : List Gate
   C = circuitOf n xs ys
+
+  -- what is laid on the job's own chip is its circuit
+  pub circuit-on : (near : List ℕ) → near ≡ nearOf n xs → laidOf n near (gatesOf n ys) ≡ C
+  unfolding circuitOf
+  circuit-on near e = ap (λ (l : List ℕ). laidOf n l (gatesOf n ys)) e
 
   -- ---- refused
 

@@ -1,5 +1,5 @@
 -- The walk over the qubits that lays each island at its lowest qubit. Assumes nothing.
-use mathlib.Core.Path.{_≡_, refl, sym, ap, ap₂, _∙_}
+use mathlib.Core.Path.{_≡_, refl, sym, ap, ap₂, _∙_, subst}
 use mathlib.Core.Bool.{true, false}
 use mathlib.Core.List.{List, _++_}
 use Prim.Native.Nat.{ℕ, suc, _+_, _≤_, _<_}
@@ -32,34 +32,22 @@ use Rattle.share.specs.OwnTable.{ownOf}
 use Rattle.laying.specs.Islands.{leads, laidTo}
 use Rattle.laying.specs.Laid.{onIsland, withFlips, laidOf}
 use Rattle.ways.specs.Ways.{withClosing}
-use Rattle.laying.specs.Layable.{Layable}
+use Rattle.laying.specs.Layable.{Layable, LayableOn}
 use Rattle.laying.specs.Stands.{standsOf, Idles}
 use Rattle.ways.specs.Memory.{stepsOwn, nearestOwn, closedBy, heldOwn}
 use Rattle.ways.proofs.Owned.{AllFine, held-laid}
-use Rattle.laying.specs.Verdict.{circuitOf}
 use Rattle.laying.proofs.Job.{parts}
 use Rattle.laying.proofs.Composing.{laid-led, laid-not}
 use Rattle.laying.proofs.Tabled.{own-parities, own-angles, own-count, laid-is}
 use Rattle.laying.proofs.Standing.{no-terms, own-asked}
 use Rattle.laying.proofs.Both.{bySteps, byNearest, steps-work, nearest-work, way-fine, ended-fine, island-none}
 
-module _ (n : ℕ) (xs ys : List ℕ) where
-  abbrev gs : List Gate
-  gs = gatesOf n ys
-
-  abbrev isl : ℕ → ℕ
-  isl = islandOf (nearOf n xs)
-
-  abbrev plain : ℕ → List Gate
-  plain q = onIsland (nearOf n xs) gs q
-
-  abbrev on : ℕ → List Gate
-  on = withFlips (nearOf n xs) gs
-
+module _ (n : ℕ) (near ys : List ℕ) where
+  -- the gates of the islands led below q
   abbrev upTo : ℕ → List Gate
-  upTo = laidTo isl on
+  upTo = laidTo (islandOf near) (withFlips near (gatesOf n ys))
 
-  -- the memory when the islands led below q are laid
+  -- the memory when those are laid
   pub record Walked (out₀ : List ℕ) (q : ℕ) (out : List ℕ) (at : ℕ) : Type 0 where
     pub within : q ≤ n
     pub size : length out ≡ length out₀
@@ -74,107 +62,128 @@ module _ (n : ℕ) (xs ys : List ℕ) where
   walked-moved out₀ q out out′ at at′ a b w = rw (a, b, add-one q) w
 
   pub walked-all : (out₀ : List ℕ) (q : ℕ) (out : List ℕ) (at : ℕ) → n ≤ q → Walked out₀ q out at
-      → (out ≡ emit out₀ 0 (circuitOf n xs ys)) × (at ≡ emitAt out₀ 0 (circuitOf n xs ys))
-  unfolding circuitOf laidOf
+      → (out ≡ emit out₀ 0 (laidOf n near (gatesOf n ys))) × (at ≡ emitAt out₀ 0 (laidOf n near (gatesOf n ys)))
+  unfolding laidOf
   walked-all out₀ q out at l w =
       let e : q ≡ n = let b = w .within in omega arith in
       (w .memory ∙ ap (λ (k : ℕ). emit out₀ 0 (upTo k)) e, w .place ∙ ap (λ (k : ℕ). emitAt out₀ 0 (upTo k)) e)
 
-  module _ (job : Layable n xs ys) (near all : List ℕ) (t : Told) (mirror : List ℕ) (d : near ≡ nearOf n xs) (i : all ≡ islandsOf near) (e : t ≡ toldOf n ys) (m : mirror ≡ mirrorsOf gs) where
-    told-is : t .meaning ≡ meaningOf gs
-    unfolding toldOf
-    told-is = ap (λ (u : Told). u .meaning) e ∙ ap meaningOf (take-all (overAt gs) gs (let w = job .whole in omega arith))
+module _ (n : ℕ) (near all ys : List ℕ) (p : LayableOn n near all ys) (t : Told) (mirror : List ℕ) (e : t ≡ toldOf n ys) (m : mirror ≡ mirrorsOf (gatesOf n ys)) where
+  abbrev gs : List Gate
+  gs = gatesOf n ys
 
-    wires-are : t .meaning .wires .parity ≡ run gs start
-    unfolding meaningOf wiresOf
-    wires-are = ap (λ (u : Meaning). u .wires .parity) told-is
+  abbrev xs : List ℕ
+  xs = p .couplers
 
-    flips-are : t .meaning .wires .flip ≡ flipRun gs noFlips
-    unfolding meaningOf wiresOf
-    flips-are = ap (λ (u : Meaning). u .wires .flip) told-is
+  abbrev job : Layable n xs ys
+  job = p .layable
 
-    pub phase-is : t .meaning .phase ≡ phaseOf gs
-    unfolding meaningOf
-    phase-is = ap (λ (u : Meaning). u .phase) told-is
+  abbrev isl : ℕ → ℕ
+  isl = islandOf (nearOf n xs)
 
-    sums-are : t .meaning .sums ≡ tableOf gs
-    unfolding meaningOf
-    sums-are = ap (λ (u : Meaning). u .sums) told-is
+  abbrev plain : ℕ → List Gate
+  plain q = onIsland (nearOf n xs) gs q
 
-    module _ (q : ℕ) (l : q < n) where
-      below : q < 20
-      below = let f = job .few in omega arith
+  abbrev on : ℕ → List Gate
+  on = withFlips (nearOf n xs) gs
 
-      set-is : getD all q 0 ≡ isl q
-      set-is = ap (λ (x : List ℕ). getD x q 0) (i ∙ ap islandsOf d) ∙ getD-islands (nearOf n xs) q below
+  abbrev below : ℕ → List Gate
+  below = upTo n near ys
 
-      leads-yes : lowestOf (getD all q 0) ≡ q → leads isl q ≡ true
-      unfolding leads
-      leads-yes h = eq-eqb (lowestOf (isl q)) q (ap lowestOf (sym set-is) ∙ h)
+  told-is : t .meaning ≡ meaningOf gs
+  unfolding toldOf
+  told-is = ap (λ (u : Told). u .meaning) e ∙ ap meaningOf (take-all (overAt gs) gs (let w = job .whole in omega arith))
 
-      leads-no : (lowestOf (getD all q 0) ≡ q → ⊥) → leads isl q ≡ false
-      unfolding leads
-      leads-no h = ne-eqb (lowestOf (isl q)) q (λ k. h (ap lowestOf set-is ∙ k))
+  wires-are : t .meaning .wires .parity ≡ run gs start
+  unfolding meaningOf wiresOf
+  wires-are = ap (λ (u : Meaning). u .wires .parity) told-is
 
-      pub walked-not : (out₀ out : List ℕ) (at : ℕ) → (lowestOf (getD all q 0) ≡ q → ⊥) → Walked out₀ q out at → Walked out₀ (suc q) out at
-      walked-not out₀ out at h w =
-          let k : upTo (suc q) ≡ upTo q = laid-not n isl (job .few) (parts n xs (job .few)) on q (leads-no h) in
-          record { within = l; size = w .size; memory = w .memory ∙ ap (emit out₀ 0) (sym k); place = w .place ∙ ap (emitAt out₀ 0) (sym k) }
+  flips-are : t .meaning .wires .flip ≡ flipRun gs noFlips
+  unfolding meaningOf wiresOf
+  flips-are = ap (λ (u : Meaning). u .wires .flip) told-is
 
-      module _ (h : Own) (k : h ≡ ownOf (getD all q 0) near (t .meaning .sums) (t .meaning .wires .parity) mirror) where
-        abbrev o : Own
-        o = ownOf (isl q) (nearOf n xs) (tableOf gs) (run gs start) (mirrorsOf gs)
+  pub phase-is : t .meaning .phase ≡ phaseOf gs
+  unfolding meaningOf
+  phase-is = ap (λ (u : Meaning). u .phase) told-is
 
-        own-is : h ≡ o
-        own-is = cc (k, set-is, d, sums-are, wires-are, m)
+  sums-are : t .meaning .sums ≡ tableOf gs
+  unfolding meaningOf
+  sums-are = ap (λ (u : Meaning). u .sums) told-is
 
-        fine : AllFine o
-        unfolding stepsOwn nearestOwn closedBy withClosing ownOf
-        fine =
-            rw (own-parities (nearOf n xs) gs q (job .fit), own-angles (nearOf n xs) gs q (job .fit)) (
-              way-fine n xs ys job q l bySteps steps-work,
-              way-fine n xs ys job q l byNearest nearest-work,
-              ended-fine n xs ys job q l bySteps steps-work,
-              ended-fine n xs ys job q l byNearest nearest-work,
-            )
+  module _ (q : ℕ) (l : q < n) where
+    in-20 : q < 20
+    in-20 = let f = job .few in omega arith
 
-        gates-are : heldOwn h ≡ plain q
-        gates-are = ap heldOwn own-is ∙ held-laid o fine ∙ laid-is (nearOf n xs) gs q (job .fit)
+    set-is : getD all q 0 ≡ isl q
+    set-is = ap (λ (x : List ℕ). getD x q 0) (p .islands-are ∙ ap islandsOf (p .near-are)) ∙ getD-islands (nearOf n xs) q in-20
 
-        -- where it stands it gets nothing
-        pub idles : Idles h
-        unfolding ownOf
-        idles s =
-            let t : standsOf o ≡ true = ap standsOf (sym own-is) ∙ s in
-            gates-are ∙ island-none n xs ys job q l (sym (own-count (nearOf n xs) gs q (job .fit)) ∙ no-terms o t)
-            (λ i m. own-asked o t i (in-lt 20 (isl q) i (island-lt (nearOf n xs) q below) m) m)
+    leads-yes : lowestOf (getD all q 0) ≡ q → leads isl q ≡ true
+    unfolding leads
+    leads-yes h = eq-eqb (lowestOf (isl q)) q (ap lowestOf (sym set-is) ∙ h)
 
-        -- the island's own gates, and the X gates behind them
-        module _ (out₀ out out′ out″ : List ℕ) (at next end : ℕ) (a : out′ ≡ emit out at (heldOwn h)) (b : next ≡ emitAt out at (heldOwn h))
-            (c : out″ ≡ emit out′ next (xsOn (getD all q 0) (t .meaning .wires .flip))) (f : end ≡ emitAt out′ next (xsOn (getD all q 0) (t .meaning .wires .flip))) where
-          memory-is : out′ ≡ emit out at (plain q)
-          memory-is = a ∙ ap (emit out at) gates-are
+    leads-no : (lowestOf (getD all q 0) ≡ q → ⊥) → leads isl q ≡ false
+    unfolding leads
+    leads-no h = ne-eqb (lowestOf (isl q)) q (λ k. h (ap lowestOf set-is ∙ k))
 
-          behind : next ≡ emitAt out at (plain q)
-          behind = b ∙ ap (emitAt out at) gates-are
+    pub walked-not : (out₀ out : List ℕ) (at : ℕ) → (lowestOf (getD all q 0) ≡ q → ⊥) → Walked n near ys out₀ q out at → Walked n near ys out₀ (suc q) out at
+    walked-not out₀ out at h w =
+        let k : below (suc q) ≡ below q = subst (λ (z : List ℕ). upTo n z ys (suc q) ≡ upTo n z ys q) (sym (p .near-are)) (laid-not n isl (job .few) (parts n xs (job .few)) on q (leads-no h)) in
+        record { within = l; size = w .size; memory = w .memory ∙ ap (emit out₀ 0) (sym k); place = w .place ∙ ap (emitAt out₀ 0) (sym k) }
 
-          xs-are : xsOn (getD all q 0) (t .meaning .wires .flip) ≡ xsOn (isl q) (flipRun gs noFlips)
-          xs-are = ap₂ xsOn set-is flips-are
+    module _ (h : Own) (k : h ≡ ownOf (getD all q 0) near (t .meaning .sums) (t .meaning .wires .parity) mirror) where
+      abbrev o : Own
+      o = ownOf (isl q) (nearOf n xs) (tableOf gs) (run gs start) (mirrorsOf gs)
 
-          memory-on : out″ ≡ emit out at (on q)
-          unfolding withFlips
-          memory-on = c ∙ ap₂ (λ (o : List ℕ) (k : ℕ). emit o k (xsOn (getD all q 0) (t .meaning .wires .flip))) memory-is behind ∙ sym (emit-append out at (plain q) (xsOn (getD all q 0) (t .meaning .wires .flip))) ∙ ap (λ (L : List Gate). emit out at (plain q ++ L)) xs-are
+      own-is : h ≡ o
+      own-is = cc (k, set-is, p .near-are, sums-are, wires-are, m)
 
-          place-on : end ≡ emitAt out at (on q)
-          unfolding withFlips
-          place-on = f ∙ ap₂ (λ (o : List ℕ) (k : ℕ). emitAt o k (xsOn (getD all q 0) (t .meaning .wires .flip))) memory-is behind ∙ sym (emit-at-append out at (plain q) (xsOn (getD all q 0) (t .meaning .wires .flip))) ∙ ap (λ (L : List Gate). emitAt out at (plain q ++ L)) xs-are
+      fine : AllFine o
+      unfolding stepsOwn nearestOwn closedBy withClosing ownOf
+      fine =
+          rw (own-parities (nearOf n xs) gs q (job .fit), own-angles (nearOf n xs) gs q (job .fit)) (
+            way-fine n xs ys job q l bySteps steps-work,
+            way-fine n xs ys job q l byNearest nearest-work,
+            ended-fine n xs ys job q l bySteps steps-work,
+            ended-fine n xs ys job q l byNearest nearest-work,
+          )
 
-          pub walked-led : lowestOf (getD all q 0) ≡ q → Walked out₀ q out at → Walked out₀ (suc q) out″ end
-          walked-led y w =
-              let u : upTo (suc q) ≡ upTo q ++ on q = laid-led n isl (job .few) (parts n xs (job .few)) on q (leads-yes y) in
-              record {
-                within = l;
-                size = ap length memory-on ∙ emit-length out at (on q) ∙ w .size;
-                memory = memory-on ∙ ap₂ (λ (o : List ℕ) (k : ℕ). emit o k (on q)) (w .memory) (w .place) ∙ sym (emit-append out₀ 0 (upTo q) (on q)) ∙ ap (emit out₀ 0) (sym u);
-                place = place-on ∙ ap₂ (λ (o : List ℕ) (k : ℕ). emitAt o k (on q)) (w .memory) (w .place) ∙ sym (emit-at-append out₀ 0 (upTo q) (on q)) ∙ ap (emitAt out₀ 0) (sym u);
-              }
+      gates-are : heldOwn h ≡ plain q
+      gates-are = ap heldOwn own-is ∙ held-laid o fine ∙ laid-is (nearOf n xs) gs q (job .fit)
+
+      -- where it stands it gets nothing
+      pub idles : Idles h
+      unfolding ownOf
+      idles s =
+          let t : standsOf o ≡ true = ap standsOf (sym own-is) ∙ s in
+          gates-are ∙ island-none n xs ys job q l (sym (own-count (nearOf n xs) gs q (job .fit)) ∙ no-terms o t)
+          (λ i m. own-asked o t i (in-lt 20 (isl q) i (island-lt (nearOf n xs) q in-20) m) m)
+
+      -- the island's own gates, and the X gates behind them
+      module _ (out₀ out out′ out″ : List ℕ) (at next end : ℕ) (a : out′ ≡ emit out at (heldOwn h)) (b : next ≡ emitAt out at (heldOwn h))
+          (c : out″ ≡ emit out′ next (xsOn (getD all q 0) (t .meaning .wires .flip))) (f : end ≡ emitAt out′ next (xsOn (getD all q 0) (t .meaning .wires .flip))) where
+        memory-is : out′ ≡ emit out at (plain q)
+        memory-is = a ∙ ap (emit out at) gates-are
+
+        behind : next ≡ emitAt out at (plain q)
+        behind = b ∙ ap (emitAt out at) gates-are
+
+        xs-are : xsOn (getD all q 0) (t .meaning .wires .flip) ≡ xsOn (isl q) (flipRun gs noFlips)
+        xs-are = ap₂ xsOn set-is flips-are
+
+        memory-on : out″ ≡ emit out at (on q)
+        unfolding withFlips
+        memory-on = c ∙ ap₂ (λ (o : List ℕ) (k : ℕ). emit o k (xsOn (getD all q 0) (t .meaning .wires .flip))) memory-is behind ∙ sym (emit-append out at (plain q) (xsOn (getD all q 0) (t .meaning .wires .flip))) ∙ ap (λ (L : List Gate). emit out at (plain q ++ L)) xs-are
+
+        place-on : end ≡ emitAt out at (on q)
+        unfolding withFlips
+        place-on = f ∙ ap₂ (λ (o : List ℕ) (k : ℕ). emitAt o k (xsOn (getD all q 0) (t .meaning .wires .flip))) memory-is behind ∙ sym (emit-at-append out at (plain q) (xsOn (getD all q 0) (t .meaning .wires .flip))) ∙ ap (λ (L : List Gate). emitAt out at (plain q ++ L)) xs-are
+
+        pub walked-led : lowestOf (getD all q 0) ≡ q → Walked n near ys out₀ q out at → Walked n near ys out₀ (suc q) out″ end
+        walked-led y w =
+            let u : below (suc q) ≡ below q ++ on q = subst (λ (z : List ℕ). upTo n z ys (suc q) ≡ upTo n z ys q ++ on q) (sym (p .near-are)) (laid-led n isl (job .few) (parts n xs (job .few)) on q (leads-yes y)) in
+            record {
+              within = l;
+              size = ap length memory-on ∙ emit-length out at (on q) ∙ w .size;
+              memory = memory-on ∙ ap₂ (λ (o : List ℕ) (k : ℕ). emit o k (on q)) (w .memory) (w .place) ∙ sym (emit-append out₀ 0 (below q) (on q)) ∙ ap (emit out₀ 0) (sym u);
+              place = place-on ∙ ap₂ (λ (o : List ℕ) (k : ℕ). emitAt o k (on q)) (w .memory) (w .place) ∙ sym (emit-at-append out₀ 0 (below q) (on q)) ∙ ap (emitAt out₀ 0) (sym u);
+            }

@@ -7,7 +7,7 @@ use Rattle.gates.specs.Layout.{gatesOf, Good}
 use Rattle.meaning.specs.Borne.{borne, overAt}
 use Rattle.gates.specs.All.{All}
 use Rattle.chip.specs.Couplers.{nearOf}
-use Rattle.isles.specs.Islands.{islandOf}
+use Rattle.isles.specs.Islands.{islandOf, islandsOf}
 use Rattle.laying.specs.Reach.{Within}
 
 pub record Layable (n : ℕ) (couplers gates : List ℕ) : Type 0 where
@@ -16,3 +16,10 @@ pub record Layable (n : ℕ) (couplers gates : List ℕ) : Type 0 where
   pub whole : overAt (gatesOf n gates) ≡ length (gatesOf n gates)
   pub fit : length (borne (gatesOf n gates)) ≤ 256
   pub within : Within n (islandOf (nearOf n couplers)) (gatesOf n gates)
+
+-- the same of a chip that is handed on: its neighbours and islands are those of some couplers
+pub record LayableOn (n : ℕ) (near islands gates : List ℕ) : Type 0 where
+  pub couplers : List ℕ
+  pub near-are : near ≡ nearOf n couplers
+  pub islands-are : islands ≡ islandsOf near
+  pub layable : Layable n couplers gates

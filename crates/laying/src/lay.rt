@@ -2,6 +2,7 @@
 use crate::stands;
 use chip::couplers;
 use ending::mirror;
+use gates::job::Job;
 use isles::islands;
 use judging::judge;
 use meaning::told;
@@ -16,11 +17,12 @@ ghost use mathlib.Core.Path.{_≡_};
 ghost use lib.ListN.{length};
 ghost use Rattle.gates.specs.Layout.{gatesOf};
 ghost use Rattle.circuit.specs.Phase.{phaseOf};
-ghost use Rattle.laying.specs.Layable.{Layable};
+ghost use Rattle.laying.specs.Layable.{LayableOn};
 ghost use Rattle.emitting.specs.Emit.{emit, emitAt};
 ghost use Rattle.ways.specs.Memory.{heldOwn};
 ghost use Rattle.laying.specs.Stands.{Idles};
-ghost use Rattle.laying.specs.Verdict.{circuitOf, countsOf, answered, outputOf};
+ghost use Rattle.laying.specs.Laid.{laidOf};
+ghost use Rattle.laying.specs.Verdict.{countsOf, answered, outputOf};
 
 // What laying answers: the counts of the laid gates, or why there are none.
 pub enum Answer {
@@ -55,12 +57,16 @@ fn lay_own(own: Own, out: &mut [u32], at: usize) -> usize
 }
 
 // The islands one after another, by ascending lowest qubit, each with its X gates behind its ending.
-fn lay_islands(n: usize, couplers: &[u32], gates: &[u32], out: &mut [u32]) -> Outcome
-    requires { ⌜ Layable n (now couplers) (now gates) ⌝ }
-    ensures { λ r. ⌜ (now (out .exit) ≡ emit (now (out .entry)) 0 (circuitOf n (now (couplers .entry)) (now (gates .entry)))) × (r .records ≡ emitAt (now (out .entry)) 0 (circuitOf n (now (couplers .entry)) (now (gates .entry)))) × (r .phase ≡ phaseOf (gatesOf n (now (gates .entry)))) ⌝ }
+fn lay_on(
+    n: usize,
+    near: [u32; Job::QUBITS],
+    islands: [u32; Job::QUBITS],
+    gates: &[u32],
+    out: &mut [u32],
+) -> Outcome
+    requires { ⌜ LayableOn n near islands (now gates) ⌝ }
+    ensures { λ r. ⌜ (now (out .exit) ≡ emit (now (out .entry)) 0 (laidOf n near (gatesOf n (now (gates .entry))))) × (r .records ≡ emitAt (now (out .entry)) 0 (laidOf n near (gatesOf n (now (gates .entry))))) × (r .phase ≡ phaseOf (gatesOf n (now (gates .entry)))) ⌝ }
 {
-    let near = couplers::near(couplers, n);
-    let all = islands::islands(near);
     let told = told::tell(gates, n);
     let meaning = told.meaning;
     let sums = meaning.sums;
@@ -70,7 +76,7 @@ fn lay_islands(n: usize, couplers: &[u32], gates: &[u32], out: &mut [u32]) -> Ou
     let mirror = mirror::mirrored(gates, n);
     let mut at = 0;
     for q in 0..n {
-        let set = all[q];
+        let set = islands[q];
         if sets::lowest(set) == q {
             let next = lay_own(own::handed(set, near, sums, asked, mirror), out, at);
             at = flips::put_xs(set, flip, out, next);
@@ -95,16 +101,18 @@ pub fn counted(laid: &[u32], n: usize, phase: u32) -> Answer
     }
 }
 
-// Lays a job: tests 1 to 8 in order; the gates go to `out` only once all of them are passed.
+// Lays a job: tests 1 to 8 in order; the gates go to `out` only once all of them are passed. Neighbours and islands are found once, for the tests and for laying.
 pub fn lay(n: usize, couplers: &[u32], gates: &[u32], out: &mut [u32]) -> Answer
     ensures { λ r. ⌜ (r ≡ answered n (now (couplers .entry)) (now (gates .entry)) (length (now (out .entry)))) × (now (out .exit) ≡ outputOf n (now (couplers .entry)) (now (gates .entry)) (now (out .entry))) ⌝ }
 {
-    let verdict = judge::judge(n, couplers, gates, out.len());
+    let near = couplers::near(couplers, n);
+    let islands = islands::islands(near);
+    let verdict = judge::judge_on(n, couplers, islands, gates, out.len());
     if verdict::number(verdict) != 0 {
         return Answer::Refused { verdict };
     }
     let mut laid = [0u32; tally::LARGEST];
-    let outcome = lay_islands(n, couplers, gates, &mut laid);
+    let outcome = lay_on(n, near, islands, gates, &mut laid);
     let k = outcome.records;
     island::replay(&laid[..k], out, 0);
     counted(&laid[..k], n, outcome.phase)

@@ -1,6 +1,8 @@
 // Tests 1 to 7 of a job: 1 to 5 of all its gates, then 6 of every stretch, then 7 of every stretch.
 use crate::cut;
+use chip::couplers;
 use gates::job::Job;
+use isles::islands;
 use meaning::told;
 use tallies::tally;
 use verdicts::verdict;
@@ -55,18 +57,19 @@ fn judge_parities(n: usize, gates: &[u32]) -> Verdict
     Verdict::Accepted
 }
 
-// Test 7 of every stretch. Where nothing else can refuse a stretch, what refuses it is test 7.
+// Test 7 of every stretch, on islands that are found once for all. Where nothing else can refuse a stretch, what refuses it is test 7.
 fn judge_reaches(n: usize, couplers: &[u32], gates: &[u32]) -> Verdict
     requires { ⌜ Each (OnlyReach n (now couplers)) (stretchesOf n (now gates)) ⌝ }
     ensures { λ r. ⌜ r ≡ judgedReaches n (now (couplers .entry)) (now (gates .entry)) ⌝ }
 {
+    let islands = islands::islands(couplers::near(couplers, n));
     if cut::hadamard_at(n, gates, 0).len() == 0 {
-        return judging::judge::judge(n, couplers, gates, tally::LARGEST);
+        return judging::judge::judge_on(n, couplers, islands, gates, tally::LARGEST);
     }
     let mut from = 0;
     while from <= gates.len() {
         let stretch = cut::stretch_at(n, gates, from);
-        let reach = judging::judge::judge(n, couplers, stretch, tally::LARGEST);
+        let reach = judging::judge::judge_on(n, couplers, islands, stretch, tally::LARGEST);
         if verdict::number(reach) != 0 {
             return Verdict::Unreachable(from);
         }
