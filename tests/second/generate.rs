@@ -1686,6 +1686,70 @@ fn scarce_texts() -> Vec<Vec<u8>> {
     scarce().into_iter().map(text).collect()
 }
 
+/// Chips of 20 qubits on which a search for what is joined has to go up and down in number, and on which
+/// the numbers of one island lie among those of another.
+fn winding_chips() -> Vec<Vec<(usize, usize)>> {
+    let zigzag = |place: usize| if place % 2 == 0 { place / 2 } else { 19 - place / 2 };
+    let named = |name: fn(usize) -> usize, couplers: Vec<(usize, usize)>| -> Vec<(usize, usize)> {
+        couplers.into_iter().map(|(a, b)| (name(a), name(b))).collect()
+    };
+    let off = |missing: &[usize], mut couplers: Vec<(usize, usize)>| {
+        let mut place = 0..;
+        couplers.retain(|_| !missing.contains(&place.next().expect("places go on")));
+        couplers
+    };
+    vec![
+        // Lines: whole, and with couplers switched off in the middle, at an end, at both ends.
+        named(zigzag, line(20)),
+        named(zigzag, off(&[9], line(20))),
+        named(zigzag, off(&[0], line(20))),
+        named(zigzag, off(&[18], line(20))),
+        named(zigzag, off(&[0, 18], line(20))),
+        named(|place| 7 * place % 20, line(20)),
+        named(|place| 7 * place % 20, off(&[4, 9, 14], line(20))),
+        named(|place| 19 - place, off(&[6, 13], line(20))),
+        // The even qubits and the odd ones.
+        (2..20).map(|i| (i - 2, i)).collect(),
+        // Five lines of four.
+        (5..20).map(|i| (i - 5, i)).collect(),
+        // Rings, whole and cut twice; stars around the last qubit; trees from the last qubit down.
+        named(zigzag, ring(20)),
+        named(zigzag, off(&[3, 12], ring(20))),
+        named(|place| 19 - place, star(20)),
+        named(|place| 7 * place % 20, star(13)),
+        named(|place| 19 - place, binary_tree(20)),
+        named(|place| 19 - place, off(&[0, 1], binary_tree(20))),
+        named(zigzag, joined_rings(20)),
+        named(zigzag, off(&[20], joined_rings(20))),
+        // No coupler but one, at the ends of the numbers.
+        vec![(19, 0)],
+    ]
+}
+
+/// On each such chip a CNOT from the lowest qubit of every island to its highest, and an angle there;
+/// then, where there are two islands, a CNOT from one to the other; an angle across both; and both
+/// taken back.
+fn winding() -> Vec<Vec<u8>> {
+    let mut texts = vec![];
+    for couplers in winding_chips() {
+        let chip = Draft::new(20, &couplers, &[]);
+        let mut islands = chip.islands();
+        islands.sort();
+        islands.dedup();
+        let ends: Vec<_> = islands.iter().map(|island| (island[0], island[island.len() - 1])).collect();
+        let crossed = |&(low, high): &(usize, usize)| (low != high).then_some(Cnot(low, high));
+        let inside = ends.iter().filter_map(crossed).chain(ends.iter().map(|&(_, high)| Rot(high, 1 + high)));
+        texts.push(Draft::new(20, &couplers, &inside.collect::<Vec<_>>()).text());
+        if let [(low, _), .., (_, high)] = ends[..] {
+            let across = Cnot(low, high);
+            for gates in [vec![across], vec![across, Rot(high, 5), across], vec![across, Rot(low, 5), across]] {
+                texts.push(Draft::new(20, &couplers, &gates).text());
+            }
+        }
+    }
+    texts
+}
+
 /// The fixed list can only hold texts that are empty or end with LF.
 fn ends_with_lf(text: &[u8]) -> bool {
     text.is_empty() || text.ends_with(b"\n")
@@ -1709,6 +1773,7 @@ fn vectors() -> Vec<Vec<u8>> {
     texts.extend(LAYERED.iter().map(|text| spelled_out(text)));
     texts.extend(stretched_list());
     texts.extend(scarce_texts());
+    texts.extend(winding());
     texts.retain(|text| ends_with_lf(text));
     texts
 }

@@ -12,8 +12,8 @@ pub fn neighbours(near: [u32; Job::QUBITS], u: usize) -> u32
     if u < Job::QUBITS { near[u] } else { 0 }
 }
 
-// `from` and what chains inside `within` join to it. The lowest to look at is looked at: its
-// neighbours that are new are reached and to look at, it is so no more.
+// `from`, and all that chains inside `within` join to it. Each turn looks at the lowest that is left:
+// its neighbours not yet reached are reached now, and left to look at.
 pub fn reached(near: [u32; Job::QUBITS], within: u32, from: u32) -> u32
     ensures { λ r. ⌜ r ≡ closure near within mostQubits from ⌝ }
 {

@@ -101,7 +101,8 @@ pub fn counted(laid: &[u32], n: usize, phase: u32) -> Answer
     }
 }
 
-// Lays a job: tests 1 to 8 in order; the gates go to `out` only once all of them are passed. Neighbours and islands are found once, for the tests and for laying.
+// Lays a job: tests 1 to 8 in order; the gates go to `out` only once all of them are passed.
+// Neighbours and islands are found once, for the tests and for laying.
 pub fn lay(n: usize, couplers: &[u32], gates: &[u32], out: &mut [u32]) -> Answer
     ensures { λ r. ⌜ (r ≡ answered n (now (couplers .entry)) (now (gates .entry)) (length (now (out .entry)))) × (now (out .exit) ≡ outputOf n (now (couplers .entry)) (now (gates .entry)) (now (out .entry))) ⌝ }
 {

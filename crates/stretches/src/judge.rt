@@ -57,7 +57,8 @@ fn judge_parities(n: usize, gates: &[u32]) -> Verdict
     Verdict::Accepted
 }
 
-// Test 7 of every stretch, on islands that are found once for all. Where nothing else can refuse a stretch, what refuses it is test 7.
+// Test 7 of every stretch, on islands that are found once for all of them. Where nothing else can
+// refuse a stretch, what refuses it is test 7.
 fn judge_reaches(n: usize, couplers: &[u32], gates: &[u32]) -> Verdict
     requires { ⌜ Each (OnlyReach n (now couplers)) (stretchesOf n (now gates)) ⌝ }
     ensures { λ r. ⌜ r ≡ judgedReaches n (now (couplers .entry)) (now (gates .entry)) ⌝ }
