@@ -72,11 +72,13 @@ unfoldable pub verdictOf : ℕ → List ℕ → List ℕ → ℕ → Verdict
 verdictOf n couplers gates room =
     andThen (judgedQubits n) (andThen (judgedCouplers n couplers) (andThen (judgedCount gates) (andThen (judgedGates n gates) (judgedMeaning n couplers (gatesOf n gates) room))))
 
--- ---- with the islands handed in, wherever they were found; with those of the job's own couplers the two are `judgedMeaning` and `verdictOf`
+-- ---- in order, with the islands handed in, wherever they were found; on those of the job's own couplers this is `verdictOf`
 
+-- 6 to 8
 unfoldable pub judgedInside : ℕ → List ℕ → List Gate → ℕ → Verdict
 judgedInside n islands gs room = andThen (judgedParities gs) (andThen (judgedReach n islands gs) (judgedRoom n gs room))
 
+-- 1 to 8
 unfoldable pub verdictOn : ℕ → List ℕ → List ℕ → List ℕ → ℕ → Verdict
 verdictOn n couplers islands gates room =
     andThen (judgedQubits n) (andThen (judgedCouplers n couplers) (andThen (judgedCount gates) (andThen (judgedGates n gates) (judgedInside n islands (gatesOf n gates) room))))
