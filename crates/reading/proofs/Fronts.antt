@@ -14,7 +14,7 @@ use Rattle.gates.specs.Layout.{kindIn, aIn, bIn}
 use Rattle.lines.specs.Lines.{digits, fieldsText, lineText, letter, fieldsIn, recordText, recordsText, textOf}
 use Rattle.reading.specs.Misfit.{AllFit, JobText, front, NoLf}
 use Rattle.reading.specs.Parsing.{oneOf, headOf}
-use Rattle.reading.proofs.Numbers.{never}
+use Rattle.spots.proofs.Numbers.{never}
 use Rattle.lines.proofs.Digits.{digits-small, digits-big}
 use Rattle.reading.proofs.Lines.{one-back, one-forth, head-back}
 

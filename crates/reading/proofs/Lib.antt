@@ -1,5 +1,3 @@
-pub mod Steps
-pub mod Numbers
 pub mod Lines
 pub mod Runs
 pub mod Loops

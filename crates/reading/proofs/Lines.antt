@@ -13,8 +13,9 @@ use Rattle.gates.proofs.Records.{kind-packed, a-packed, b-packed, packed-back}
 use Rattle.reading.specs.Limits.{mostFirst, mostSecond}
 use Rattle.lines.specs.Lines.{digits, fieldsText, lineText, letter, recordText}
 use Rattle.reading.specs.Misfit.{Fit}
-use Rattle.reading.specs.Parsing.{Got, skipped, digitOf, readNumber, lineOf, shortOf, orElse, otherOf, oneOf, headOf}
-use Rattle.reading.proofs.Numbers.{number-le, skip-back, number-back, skip-forth, number-forth}
+use Rattle.spots.specs.Numbers.{Got, skipped, digitOf, readNumber}
+use Rattle.reading.specs.Parsing.{lineOf, shortOf, orElse, otherOf, oneOf, headOf}
+use Rattle.spots.proofs.Numbers.{number-le, skip-back, number-back, skip-forth, number-forth}
 use Rattle.lines.proofs.Layouts.{packed-is, a-lt, b-lt}
 use Rattle.lines.proofs.Writes.{record-two, record-one}
 

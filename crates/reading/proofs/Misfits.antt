@@ -12,7 +12,7 @@ use Rattle.reading.specs.Limits.{mostFirst}
 use Rattle.lines.specs.Lines.{lineText, recordsText, textOf}
 use Rattle.reading.specs.Misfit.{AllFit, JobText, front, Misfit}
 use Rattle.reading.specs.Parsing.{headOf, Parsed, misfit, job, endOf, bodyOf, parsed}
-use Rattle.reading.proofs.Numbers.{never}
+use Rattle.spots.proofs.Numbers.{never}
 use Rattle.reading.proofs.Fronts.{front-job, job-fronts, back, front-back, front-none, front-more}
 use Rattle.reading.proofs.Lines.{head-forth}
 use Rattle.reading.proofs.Runs.{Taken, taken, parsed-forth, text-parsed}

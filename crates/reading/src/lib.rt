@@ -2,4 +2,3 @@
 mod line;
 pub mod read;
 mod run;
-mod spot;

@@ -1,13 +1,13 @@
 // Lines as they are read: the first one, a coupler's, a gate's.
-use crate::spot;
-use crate::spot::Part;
-use crate::spot::Spot;
+use spots::spot;
+use spots::spot::Part;
+use spots::spot::Spot;
 use lines::letter;
 ghost use mathlib.Core.Path.{_≡_};
 ghost use Prim.Native.Nat.{_≤_};
 ghost use lib.ListN.{drop};
 ghost use Rattle.reading.specs.Parsing.{lineOf, shortOf, otherOf, oneOf, headOf};
-ghost use Rattle.reading.specs.Places.{gotOf};
+ghost use Rattle.spots.specs.Places.{gotOf};
 
 pub(crate) const MOST_FIRST: u32 = 255;
 

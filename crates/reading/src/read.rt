@@ -1,7 +1,7 @@
 // The reader of a job's text. It judges form only, and writes nothing before the whole text is judged.
 use crate::line;
 use crate::run;
-use crate::spot::Spot;
+use spots::spot::Spot;
 use gates::job::Job;
 use verdicts::verdict::Verdict;
 ghost use mathlib.Core.Path.{_≡_};

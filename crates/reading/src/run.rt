@@ -1,6 +1,6 @@
 // Runs of lines of one sort, couplers or gates: counted in a first pass, their records filled in in a second.
 use crate::line;
-use crate::spot::Spot;
+use spots::spot::Spot;
 ghost use mathlib.Core.Path.{_≡_};
 ghost use Prim.Native.Nat.{_≤_};
 ghost use lib.ListN.{length, drop};

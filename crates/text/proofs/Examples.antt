@@ -4,7 +4,8 @@ use mathlib.Core.List.{List, [], _∷_, _++_}
 use Prim.Native.Nat.{ℕ}
 use Rattle.gates.specs.Layout.{packed, kindIn, aIn, bIn}
 use Rattle.lines.specs.Lines.{digitsIn, digits, fieldsText, lineText, letter, fieldsIn, recordText, recordsText, textOf, refusalText, countsText}
-use Rattle.reading.specs.Parsing.{misfit, job, parsed, bodyOf, endOf, headOf, runOf, runIn, oneOf, otherOf, orElse, lineOf, shortOf, readNumber, numberIn, moreOf, digitOf, skipped}
+use Rattle.spots.specs.Numbers.{readNumber, numberIn, moreOf, digitOf, skipped}
+use Rattle.reading.specs.Parsing.{misfit, job, parsed, bodyOf, endOf, headOf, runOf, runIn, oneOf, otherOf, orElse, lineOf, shortOf}
 
 -- q 2, e 1 0, r 1 500, r 0 7, r 1 65036
 text : List ℕ

@@ -10,7 +10,7 @@ use Rattle.gates.specs.Limits.{mostQubits, mostCouplers}
 use Rattle.gates.specs.Layout.{gateOf, isBad, couplerOf, isWrong}
 use Rattle.gates.specs.Hadamards.{isHadamard}
 use Rattle.verdicts.specs.declared.verdict.Verdict.{Verdict}
-use Rattle.verdicts.specs.declared.verdict.Verdict.the-variants.{Accepted, Qubits, ManyCouplers, WrongCoupler, ManyGates, BadGate, ManyParities, Unreachable, Room, Line, LongText}
+use Rattle.verdicts.specs.declared.verdict.Verdict.the-variants.{Accepted, Qubits, ManyCouplers, WrongCoupler, ManyGates, BadGate, ManyParities, Unreachable, Room, Line, LongText, Angle, Statement}
 
 -- the column "No."
 abbrev pub numberOf : Verdict → ℕ
@@ -25,6 +25,8 @@ numberOf (Unreachable k) = 7
 numberOf Room = 8
 numberOf (Line k) = 10
 numberOf LongText = 11
+numberOf (Angle k) = 12
+numberOf (Statement k) = 13
 
 -- the column "Place returned"
 abbrev pub placeOf : Verdict → ℕ
@@ -39,6 +41,8 @@ placeOf (Unreachable k) = k
 placeOf Room = 0
 placeOf (Line k) = k
 placeOf LongText = 0
+placeOf (Angle k) = k
+placeOf (Statement k) = k
 
 -- the first place of a list whose record fails, "from 0"; the list's length where none does
 unfoldable pub firstFailing : (ℕ → Bool) → List ℕ → ℕ

@@ -18,6 +18,8 @@ pub enum Verdict {
     Room,
     Line(usize),
     LongText,
+    Angle(usize),
+    Statement(usize),
 }
 
 pub fn number(v: Verdict) -> u32
@@ -35,6 +37,8 @@ pub fn number(v: Verdict) -> u32
         Verdict::Room => 8,
         Verdict::Line(_) => 10,
         Verdict::LongText => 11,
+        Verdict::Angle(_) => 12,
+        Verdict::Statement(_) => 13,
     }
 }
 
@@ -53,6 +57,8 @@ pub fn place(v: Verdict) -> usize
         Verdict::Room => 0,
         Verdict::Line(k) => k,
         Verdict::LongText => 0,
+        Verdict::Angle(k) => k,
+        Verdict::Statement(k) => k,
     }
 }
 

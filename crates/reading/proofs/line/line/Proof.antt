@@ -5,7 +5,7 @@ use Prim.Native.Nat.{_≤_}
 use lib.ListN.{drop}
 use native.Mathlib.Omega.{arith}
 use denote.Ref.{now}
-use Rattle.reading.proofs.Numbers.{number-le}
+use Rattle.spots.proofs.Numbers.{number-le}
 use Rattle.reading.proofs.Lines.{line-chain}
 use Rattle.reading.proofs.line.line.Statement.{statement}
 use Rattle.reading.proofs.line.line.Tie as tie

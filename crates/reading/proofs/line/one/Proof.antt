@@ -3,7 +3,7 @@ use borrow.Author.Needs.{needs}
 use mathlib.Core.Path.{sym, ap, _∙_}
 use denote.Ref.{now}
 use lib.ListN.{drop}
-use Rattle.reading.specs.Places.{restAt}
+use Rattle.spots.specs.Places.{restAt}
 use Rattle.reading.proofs.Lines.{one-first, one-second, one-coupler}
 use Rattle.reading.proofs.line.one.Statement.{statement}
 use Rattle.reading.proofs.line.one.Tie as tie

@@ -2,7 +2,7 @@
 use mathlib.Core.Path.{sym, ap, _∙_}
 use denote.Ref.{now}
 use lib.ListN.{drop}
-use Rattle.reading.specs.Places.{restAt}
+use Rattle.spots.specs.Places.{restAt}
 use Rattle.reading.proofs.Lines.{other-first, other-second, other-third}
 use borrow.Author.Needs.{needs}
 use Rattle.reading.proofs.line.other.Statement.{statement}

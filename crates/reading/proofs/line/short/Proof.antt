@@ -4,7 +4,7 @@ use Prim.Native.Nat.{_≤_}
 use lib.ListN.{drop}
 use native.Mathlib.Omega.{arith}
 use denote.Ref.{now}
-use Rattle.reading.proofs.Numbers.{number-le}
+use Rattle.spots.proofs.Numbers.{number-le}
 use Rattle.reading.proofs.Lines.{short-chain}
 use borrow.Author.Needs.{needs}
 use Rattle.reading.proofs.line.short.Statement.{statement}

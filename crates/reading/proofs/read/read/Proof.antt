@@ -9,7 +9,7 @@ use denote.Ref.{now}
 use lib.ListN.{length, drop, length-drop, drop-of-length-le}
 use Rattle.reading.specs.Limits.{mostBytes}
 use Rattle.reading.specs.Parsing.{misfit, job, headOf, runOf, parsed}
-use Rattle.reading.specs.Places.{restAt}
+use Rattle.spots.specs.Places.{restAt}
 use Rattle.lines.specs.Lent.{onto}
 use Rattle.reading.specs.Readings.{couplersIn, gatesIn}
 use Rattle.reading.proofs.Answers.{run-length, answer-long, answer-line, parsed-first, parsed-misfit, parsed-job, answer-room, answer-room-too, answer-job}

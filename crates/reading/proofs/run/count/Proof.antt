@@ -6,7 +6,7 @@ use borrow.Author.Needs.{needs}
 use denote.Ref.{now}
 use lib.ListN.{length, drop, length-drop}
 use Rattle.reading.specs.Parsing.{oneOf}
-use Rattle.reading.specs.Places.{restAt}
+use Rattle.spots.specs.Places.{restAt}
 use Rattle.reading.proofs.Lines.{one-short}
 use Rattle.reading.proofs.Loops.{Counting, count-start, count-step, count-done}
 use Rattle.reading.proofs.run.count.Statement.{statement}

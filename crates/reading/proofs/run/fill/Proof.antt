@@ -7,7 +7,7 @@ use borrow.Author.Needs.{needs}
 use denote.Ref.{now}
 use lib.ListN.{length, drop, set}
 use Rattle.reading.specs.Parsing.{oneOf}
-use Rattle.reading.specs.Places.{restAt}
+use Rattle.spots.specs.Places.{restAt}
 use Rattle.reading.proofs.Lines.{one-short}
 use Rattle.reading.proofs.Loops.{Filling, fill-start, fill-step, fill-room, fill-done}
 use Rattle.reading.proofs.run.fill.Statement.{statement}

@@ -1,12 +1,12 @@
--- `reading::spot::digit` meets its contract, case by case. Assumes nothing.
+-- `spots::spot::digit` meets its contract, case by case. Assumes nothing.
 use borrow.Author.Needs.{needs}
 use borrow.Author.Tests.{le-leb, lt-leb}
 use native.Mathlib.Omega.{arith}
 use denote.Ref.{now}
-use Rattle.reading.specs.Parsing.{digitOf}
-use Rattle.reading.proofs.Steps.{digit-past}
-use Rattle.reading.proofs.spot.digit.Statement.{statement}
-use Rattle.reading.proofs.spot.digit.Tie as tie
+use Rattle.spots.specs.Numbers.{digitOf}
+use Rattle.spots.proofs.Steps.{digit-past}
+use Rattle.spots.proofs.spot.digit.Statement.{statement}
+use Rattle.spots.proofs.spot.digit.Tie as tie
 
 shared-slice-read-x : tie.Need-shared-slice-read-x
 shared-slice-read-x c = search needs

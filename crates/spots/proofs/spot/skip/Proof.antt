@@ -1,10 +1,10 @@
--- `reading::spot::skip` meets its contract, case by case. Assumes nothing.
+-- `spots::spot::skip` meets its contract, case by case. Assumes nothing.
 use borrow.Author.Needs.{needs}
 use denote.Ref.{now}
-use Rattle.reading.specs.Parsing.{skipped}
-use Rattle.reading.proofs.Steps.{skip-hit, skip-miss, skip-end}
-use Rattle.reading.proofs.spot.skip.Statement.{statement}
-use Rattle.reading.proofs.spot.skip.Tie as tie
+use Rattle.spots.specs.Numbers.{skipped}
+use Rattle.spots.proofs.Steps.{skip-hit, skip-miss, skip-end}
+use Rattle.spots.proofs.spot.skip.Statement.{statement}
+use Rattle.spots.proofs.spot.skip.Tie as tie
 
 enum-told : tie.Need-enum-told
 enum-told c = search needs

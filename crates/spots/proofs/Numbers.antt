@@ -11,7 +11,7 @@ use borrow.Author.Tests.{ltb-true, ltb-false, leb-true, eqb-true, lt-ltb, le-leb
 use Rattle.sets.specs.Pick.{pick}
 use Rattle.lines.specs.Lines.{digits}
 use Rattle.lines.proofs.Digits.{digits-small, digits-big, digits-step}
-use Rattle.reading.specs.Parsing.{Got, lost, skipped, digitOf, moreOf, numberIn, readNumber}
+use Rattle.spots.specs.Numbers.{Got, lost, skipped, digitOf, moreOf, numberIn, readNumber}
 
 pub never : {A : Type 0} {a : A} {B : Type 0} → none ≡ some a → B
 never e = let z : _≡_ {A = ℕ} 0 1 = cc e in absurd (omega arith)

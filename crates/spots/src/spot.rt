@@ -1,24 +1,23 @@
 // What is read from a place in the text: a byte, a number.
 ghost use mathlib.Core.Path.{_≡_};
 ghost use mathlib.Core.Option.{some};
-ghost use Prim.Native.Nat.{_≤_};
 ghost use lib.ListN.{getD, drop};
-ghost use Rattle.reading.specs.Parsing.{skipped, digitOf, readNumber};
-ghost use Rattle.reading.specs.Places.{restAt, gotOf};
+ghost use Rattle.spots.specs.Numbers.{skipped, digitOf, readNumber};
+ghost use Rattle.spots.specs.Places.{restAt, gotOf};
 
 // A place in the text, or none where what was looked for did not stand there.
-pub(crate) enum Spot {
+pub enum Spot {
     At(usize),
     Lost,
 }
 
 // A number that was read, and the place behind it.
-pub(crate) struct Part {
+pub struct Part {
     pub value: u32,
     pub next: Spot,
 }
 
-pub(crate) fn skip(text: &[u8], from: Spot, byte: u8) -> Spot
+pub fn skip(text: &[u8], from: Spot, byte: u8) -> Spot
     ensures { λ r. ⌜ restAt (now (text .entry)) r ≡ skipped byte (restAt (now (text .entry)) from) ⌝ }
 {
     match from {
@@ -50,9 +49,8 @@ fn digit(text: &[u8], at: usize) -> u32
     10
 }
 
-// A number of at most `most`, without a leading zero.
-fn number_at(text: &[u8], from: usize, most: u32) -> Part
-    requires { ⌜ most ≤ 65535 ⌝ }
+// A number of at most `most`, without a leading zero. It is kept wider than `most`, which one digit more may pass.
+pub fn number_at(text: &[u8], from: usize, most: u32) -> Part
     ensures { λ r. ⌜ gotOf (now (text .entry)) r ≡ readNumber most (some (drop from (now (text .entry)))) ⌝ }
 {
     let first = digit(text, from);
@@ -68,18 +66,18 @@ fn number_at(text: &[u8], from: usize, most: u32) -> Part
             next: Spot::Lost,
         };
     }
-    let mut v: u32 = 0;
+    let mut v: u64 = 0;
     let mut at = from;
     loop {
         let d = digit(text, at);
         if d == 10 {
             return Part {
-                value: v,
+                value: v as u32,
                 next: Spot::At(at),
             };
         }
-        v = v * 10 + d;
-        if most < v {
+        v = v * 10 + d as u64;
+        if (most as u64) < v {
             return Part {
                 value: 0,
                 next: Spot::Lost,
@@ -89,8 +87,7 @@ fn number_at(text: &[u8], from: usize, most: u32) -> Part
     }
 }
 
-pub(crate) fn number(text: &[u8], from: Spot, most: u32) -> Part
-    requires { ⌜ most ≤ 65535 ⌝ }
+pub fn number(text: &[u8], from: Spot, most: u32) -> Part
     ensures { λ r. ⌜ gotOf (now (text .entry)) r ≡ readNumber most (restAt (now (text .entry)) from) ⌝ }
 {
     match from {

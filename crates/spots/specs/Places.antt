@@ -3,10 +3,10 @@ use Prim.Native.Nat.{ℕ}
 use mathlib.Core.List.{List}
 use mathlib.Core.Option.{Option, none, some}
 use lib.ListN.{drop}
-use Rattle.reading.specs.Parsing.{Got}
-use Rattle.reading.specs.declared.spot.Part.{Part}
-use Rattle.reading.specs.declared.spot.Spot.{Spot}
-use Rattle.reading.specs.declared.spot.Spot.the-variants.{At, Lost}
+use Rattle.spots.specs.Numbers.{Got}
+use Rattle.spots.specs.declared.spot.Part.{Part}
+use Rattle.spots.specs.declared.spot.Spot.{Spot}
+use Rattle.spots.specs.declared.spot.Spot.the-variants.{At, Lost}
 
 -- what is left of s at a spot
 abbrev pub restAt : List ℕ → Spot → Option (List ℕ)

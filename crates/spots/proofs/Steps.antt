@@ -10,7 +10,7 @@ use lib.ListN.{length, getD, drop, List·getD-eq-default}
 use lib.Seq.{drop-cons, getD-drop, drop-drop}
 use lib.Dec.{leb, ltb}
 use borrow.Author.Tests.{ltb-true, ltb-false, leb-true, lt-ltb, le-leb, lt-leb, eq-eqb, ne-eqb}
-use Rattle.reading.specs.Parsing.{lost, skipped, digitOf, moreOf, numberIn, readNumber}
+use Rattle.spots.specs.Numbers.{lost, skipped, digitOf, moreOf, numberIn, readNumber}
 
 module _ (s : List ℕ) (p : ℕ) where
   at-cons : p < length s → drop p s ≡ getD s p 0 ∷ drop (p + 1) s

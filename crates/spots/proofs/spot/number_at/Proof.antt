@@ -1,4 +1,4 @@
--- `reading::spot::number_at` meets its contract: what is read so far and the digits left give the number. Assumes nothing.
+-- `spots::spot::number_at` meets its contract: what is read so far and the digits left give the number. Assumes nothing.
 use mathlib.Core.Path.{_≡_, sym, _∙_}
 use mathlib.Core.Option.{some}
 use Prim.Native.Nat.{ℕ, _≤_, _<_, _-_}
@@ -6,10 +6,10 @@ use native.Mathlib.Omega.{arith}
 use borrow.Author.Needs.{needs}
 use denote.Ref.{now}
 use lib.ListN.{length, getD, drop}
-use Rattle.reading.specs.Parsing.{readNumber, moreOf}
-use Rattle.reading.proofs.Steps.{digit-in, digit-le, digit-lt, number-zero, number-none, number-more, more-end, more-on, more-over}
-use Rattle.reading.proofs.spot.number_at.Statement.{statement}
-use Rattle.reading.proofs.spot.number_at.Tie as tie
+use Rattle.spots.specs.Numbers.{readNumber, moreOf}
+use Rattle.spots.proofs.Steps.{digit-in, digit-le, digit-lt, number-zero, number-none, number-more, more-end, more-on, more-over}
+use Rattle.spots.proofs.spot.number_at.Statement.{statement}
+use Rattle.spots.proofs.spot.number_at.Tie as tie
 
 abbrev Inv-loop : tie.InvT-loop
 Inv-loop s from most first v₀ at₀ v at = (v ≤ most) × (readNumber most (some (drop from s)) ≡ moreOf most v (drop at s))
@@ -49,6 +49,9 @@ loop-holds c =
 digit-requires-2 : tie.Need-digit-requires-2 Inv-loop μ-loop
 digit-requires-2 c κs = search needs
 
+cast-t13 : tie.Need-cast-t13 Inv-loop μ-loop
+cast-t13 c = omega arith
+
 returns-3 : tie.Need-returns-3 Inv-loop μ-loop
 returns-3 c =
     let l = c .before .before in
@@ -57,6 +60,9 @@ returns-3 c =
 
 mul-v : tie.Need-mul-v Inv-loop μ-loop
 mul-v c = omega arith
+
+cast-v : tie.Need-cast-v Inv-loop μ-loop
+cast-v c = search needs
 
 add-v : tie.Need-add-v Inv-loop μ-loop
 add-v c =
@@ -95,8 +101,10 @@ number-at-spec =
     returns-2
     loop-holds
     digit-requires-2
+    cast-t13
     returns-3
     mul-v
+    cast-v
     add-v
     returns-4
     add-at

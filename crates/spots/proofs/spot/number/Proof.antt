@@ -1,8 +1,8 @@
--- `reading::spot::number` meets its contract, case by case. Assumes nothing.
+-- `spots::spot::number` meets its contract, case by case. Assumes nothing.
 use borrow.Author.Needs.{needs}
-use Rattle.reading.specs.Parsing.{readNumber}
-use Rattle.reading.proofs.spot.number.Statement.{statement}
-use Rattle.reading.proofs.spot.number.Tie as tie
+use Rattle.spots.specs.Numbers.{readNumber}
+use Rattle.spots.proofs.spot.number.Statement.{statement}
+use Rattle.spots.proofs.spot.number.Tie as tie
 
 enum-told : tie.Need-enum-told
 enum-told c = search needs
