@@ -26,7 +26,8 @@ use Rattle.stretches.specs.Laid.{jobRecords}
 use Rattle.stretches.proofs.Passing.{job-passed, job-few}
 use Rattle.lines.specs.Lines.{textOf, refusalText, countsText}
 use Rattle.lines.specs.Lent.{onto, lineLength, lineAfter}
-use Rattle.reading.proofs.Sizes.{width-most, line-two, line-three, text-most}
+use Rattle.lines.proofs.Writes.{width-most}
+use Rattle.reading.proofs.Sizes.{line-two, line-three, text-most}
 use Rattle.text.specs.Writings.{judgedText}
 use Rattle.text.proofs.Judging.{judged-room}
 use Rattle.console.specs.Printed.{mostPrinted, Prints, refusalOf}

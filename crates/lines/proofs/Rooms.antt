@@ -1,9 +1,11 @@
 -- What a room has left behind one piece and another is what it has left behind both. Assumes nothing.
-use mathlib.Core.Path.{_≡_, refl, ap}
+use mathlib.Core.Path.{_≡_, refl, sym, ap, _∙_}
 use mathlib.Core.Bool.{Bool, true, false}
+use mathlib.Core.List.{List, [], _++_}
 use Prim.Native.Nat.{ℕ, _+_, _-_, _≤_, _<_}
 use native.Mathlib.Omega.{arith}
 use lib.Dec.{leb}
+use lib.ListN.{length, length-append}
 use borrow.Author.Tests.{leb-true, leb-false, le-leb, lt-leb}
 use Rattle.sets.specs.Pick.{pick}
 use Rattle.lines.specs.Room.{roomAfter, isLeft}
@@ -56,3 +58,23 @@ is-left left need {x} e = go (leb need left) refl e
     go : (t : Bool) → leb need left ≡ t → Left x ≡ pick t (Left (left - need)) Over → need ≤ left
     go true q e = leb-true need left q
     go false q e = let z : _≡_ {A = ℕ} 0 1 = cc e in absurd (omega arith)
+
+-- whether a piece fits behind `at`, as the code tests it
+module _ (room at need : ℕ) {r s : Room} (p : r ≡ roomAfter (Left room) at) (q : s ≡ roomAfter r need) where
+  behind : s ≡ roomAfter (Left room) (at + need)
+  behind = q ∙ ap (λ x. roomAfter x need) p ∙ room-then (Left room) at need
+
+  pub behind-over : s ≡ Over → room < at + need
+  behind-over e = is-over room (at + need) (sym e ∙ behind)
+
+  pub behind-left : {x : ℕ} → s ≡ Left x → at + need ≤ room
+  behind-left e = is-left room (at + need) (sym e ∙ behind)
+
+-- piece by piece: what the pieces still to come leave is what the whole leaves
+module _ (room : Room) (need : ℕ) (l : Room) {rest : List ℕ} (w : roomAfter l (length rest) ≡ roomAfter room need) where
+  pub room-turn : (xs ys : List ℕ) {m : Room} → rest ≡ xs ++ ys → m ≡ roomAfter l (length xs) → roomAfter m (length ys) ≡ roomAfter room need
+  room-turn xs ys e a =
+      ap (λ r. roomAfter r (length ys)) a ∙ room-then l (length xs) (length ys) ∙ ap (roomAfter l) (sym (length-append xs ys)) ∙ ap (λ r. roomAfter l (length r)) (sym e) ∙ w
+
+  pub room-past : rest ≡ [] → l ≡ roomAfter room need
+  room-past e = sym (room-none l) ∙ ap (λ r. roomAfter l (length r)) (sym e) ∙ w

@@ -1,12 +1,11 @@
 -- Stores one behind the other, and the lengths of what they write. Assumes nothing.
 use mathlib.Core.Path.{_≡_, refl, sym, ap, _∙_}
 use mathlib.Core.Bool.{Bool, true, false}
-use mathlib.Core.List.{List, [], _∷_, _++_, append-assoc, append-nil}
-use Prim.Native.Nat.{ℕ, zero, suc, _+_, _/_, _%_, _≤_, _<_}
-use native.Mathlib.Numerals.{add-one}
+use mathlib.Core.List.{List, [], _∷_, _++_}
+use Prim.Native.Nat.{ℕ, zero, suc, _+_, _^_, _/_, _%_, _≤_, _<_}
 use native.Mathlib.Omega.{arith}
 use lib.ListN.{length, getD, take, drop, length-append, take-append-drop}
-use lib.Seq.{sets, sets-eq, take-suc, take-all, length-take-le}
+use lib.Seq.{sets, sets-eq, take-all, length-take-le}
 use lib.Dec.{leb, ltb}
 use borrow.Author.Tests.{ltb-true, ltb-false, lt-ltb, le-ltb, leb-true, le-leb, lt-leb}
 use Rattle.sets.specs.Pick.{pick}
@@ -16,7 +15,8 @@ use Rattle.lines.specs.Lent.{onto, lineEnd, lineAt, lineLength, lineAfte
 use Rattle.lines.specs.Room.{roomAfter}
 use Rattle.lines.specs.declared.room.Room.{Room}
 use Rattle.lines.specs.declared.room.Room.the-variants.{Left, Over}
-use Rattle.lines.proofs.Rooms.{room-then, is-over, is-left}
+use Rattle.lines.proofs.Joined.{joined-append, joined-next}
+use Rattle.lines.proofs.Rooms.{behind-over, behind-left}
 use Rattle.lines.proofs.Layouts.{kind-is, a-is, b-is}
 use Rattle.lines.proofs.Digits.{digits-small, digits-big}
 use Rattle.sets.proofs.Storing.{sets-append}
@@ -96,23 +96,37 @@ width-in (suc f) v h = go (ltb v 10) refl (width-in f (v / 10))
 pub width-le : (v : ℕ) → length (digits v) ≤ v / 10 + 2
 width-le v = width-in (suc v) v (omega arith)
 
+-- a number has a digit
+pub width-least : (v : ℕ) → 1 ≤ length (digits v)
+width-least v = go (ltb v 10) refl
+  where
+    go : (t : Bool) → ltb v 10 ≡ t → 1 ≤ length (digits v)
+    go true e = omega (arith, width-small v (ltb-true v 10 e))
+    go false e = omega (arith, width-big v (ltb-false v 10 e))
+
+-- a number below 10, 100, 1,000 .. has at most 1, 2, 3 .. digits
+pub width-most : (k v : ℕ) → v < 10 ^ suc k → length (digits v) ≤ suc k
+width-most zero v h = omega (arith, width-small v h)
+width-most (suc k) v h = go (ltb v 10) refl (width-most k (v / 10))
+  where
+    go : (t : Bool) → ltb v 10 ≡ t → (v / 10 < 10 ^ suc k → length (digits (v / 10)) ≤ suc k) → length (digits v) ≤ suc (suc k)
+    go true e ih = omega (arith, width-small v (ltb-true v 10 e))
+    go false e ih = omega (arith, width-big v (ltb-false v 10 e), ih (omega arith))
+
 -- ---- the first i of a list, and the next one
 
 fields-append : (vs ws : List ℕ) → fieldsText (vs ++ ws) ≡ fieldsText vs ++ fieldsText ws
 unfolding fieldsText
-fields-append [] ws = refl
-fields-append (v ∷ vs) ws = ap (λ l. (9 ∷ digits v) ++ l) (fields-append vs ws) ∙ sym (append-assoc (9 ∷ digits v) (fieldsText vs) (fieldsText ws))
+fields-append = joined-append (λ v. 9 ∷ digits v) fieldsText refl (λ v vs. refl)
 
 pub records-append : (xs ys : List ℕ) → recordsText (xs ++ ys) ≡ recordsText xs ++ recordsText ys
 unfolding recordsText
-records-append [] ys = refl
-records-append (x ∷ xs) ys = ap (λ l. recordText x ++ l) (records-append xs ys) ∙ sym (append-assoc (recordText x) (recordsText xs) (recordsText ys))
+records-append = joined-append recordText recordsText refl (λ x xs. refl)
 
 module _ (xs : List ℕ) (i : ℕ) where
   pub fields-next : i < length xs → fieldsText (take (i + 1) xs) ≡ fieldsText (take i xs) ++ (9 ∷ digits (getD xs i 0))
   unfolding fieldsText
-  fields-next h =
-      rw (add-one, take-suc xs i 0 h) (fields-append (take i xs) (getD xs i 0 ∷ []) ∙ ap (λ l. fieldsText (take i xs) ++ (9 ∷ l)) (append-nil (digits (getD xs i 0))))
+  fields-next = joined-next (λ v. 9 ∷ digits v) fieldsText refl (λ v vs. refl) xs i
 
   pub fields-part : length (fieldsText (take i xs)) ≤ length (fieldsText xs)
   fields-part =
@@ -123,8 +137,7 @@ module _ (xs : List ℕ) (i : ℕ) where
 
   pub records-next : i < length xs → recordsText (take (i + 1) xs) ≡ recordsText (take i xs) ++ recordText (getD xs i 0)
   unfolding recordsText
-  records-next h =
-      rw (add-one, take-suc xs i 0 h) (records-append (take i xs) (getD xs i 0 ∷ []) ∙ ap (λ l. recordsText (take i xs) ++ l) (append-nil (recordText (getD xs i 0))))
+  records-next = joined-next recordText recordsText refl (λ x xs. refl) xs i
 
   pub records-all : length xs ≤ i → recordsText (take i xs) ≡ recordsText xs
   records-all h = ap recordsText (take-all i xs h)
@@ -135,14 +148,11 @@ line-length letter vs = simp length-append (omega arith)
 
 -- whether a line fits behind `at`, as the code tests it
 module _ (room at letter : ℕ) (vs : List ℕ) {r s : Room} (p : r ≡ roomAfter (Left room) at) (q : s ≡ roomAfter r (2 + length (fieldsText vs))) where
-  behind-line : s ≡ roomAfter (Left room) (at + length (lineText letter vs))
-  behind-line = q ∙ ap (λ x. roomAfter x (2 + length (fieldsText vs))) p ∙ room-then (Left room) at (2 + length (fieldsText vs)) ∙ ap (λ k. roomAfter (Left room) (at + k)) (sym (line-length letter vs))
-
   pub line-over : s ≡ Over → room < at + length (lineText letter vs)
-  line-over e = is-over room (at + length (lineText letter vs)) (sym e ∙ behind-line)
+  line-over e = omega (arith, behind-over room at (2 + length (fieldsText vs)) p q e, line-length letter vs)
 
   pub line-left : {x : ℕ} → s ≡ Left x → at + length (lineText letter vs) ≤ room
-  line-left e = is-left room (at + length (lineText letter vs)) (sym e ∙ behind-line)
+  line-left e = omega (arith, behind-left room at (2 + length (fieldsText vs)) p q e, line-length letter vs)
 
 -- ---- a record's line
 

@@ -19,15 +19,23 @@ lineEnd line at room = pick (leb (at + length line) room) (at + length line) at
 abbrev pub lineAt : List ℕ → ℕ → List ℕ → List ℕ
 lineAt line at old = pick (leb (at + length line) (length old)) (sets old at line) old
 
--- ---- records from `at` on, one line behind another, each where it fits: the place behind the last that does, and what they leave
+-- ---- lines from `at` on, one behind another, each where it fits: the place behind the last that does, and what they leave
 
+-- each number has its line
+abbrev pub linesEnd : (ℕ → List ℕ) → List ℕ → ℕ → ℕ → ℕ
+linesEnd line [] at room = at
+linesEnd line (x ∷ xs) at room = linesEnd line xs (lineEnd (line x) at room) room
+
+abbrev pub linesAt : (ℕ → List ℕ) → List ℕ → ℕ → List ℕ → List ℕ
+linesAt line [] at old = old
+linesAt line (x ∷ xs) at old = linesAt line xs (lineEnd (line x) at (length old)) (lineAt (line x) at old)
+
+-- those of records
 unfoldable pub recordsEnd : List ℕ → ℕ → ℕ → ℕ
-recordsEnd [] at room = at
-recordsEnd (x ∷ xs) at room = recordsEnd xs (lineEnd (recordText x) at room) room
+recordsEnd = linesEnd recordText
 
 unfoldable pub recordsAt : List ℕ → ℕ → List ℕ → List ℕ
-recordsAt [] at old = old
-recordsAt (x ∷ xs) at old = recordsAt xs (lineEnd (recordText x) at (length old)) (lineAt (recordText x) at old)
+recordsAt = linesAt recordText
 
 -- ---- a single line in a room of so many bytes: its length, or 0 and nothing written where it is too long
 

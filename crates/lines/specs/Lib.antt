@@ -1,3 +1,4 @@
 pub mod Lines
+pub mod Pattern
 pub mod Lent
 pub mod Room

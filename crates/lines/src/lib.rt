@@ -1,5 +1,6 @@
 // The lines of a text, written one by one where there is room.
 pub mod letter;
+pub mod pattern;
 pub mod print;
 pub mod put;
 pub mod records;

@@ -9,7 +9,7 @@ ghost use lib.Seq.{sets};
 ghost use Rattle.lines.specs.Lines.{digits, lineText};
 ghost use Rattle.lines.specs.Lent.{lineEnd, lineAt};
 
-fn put(text: &mut [u8], at: usize, byte: u8) -> usize
+pub(crate) fn put(text: &mut [u8], at: usize, byte: u8) -> usize
     requires { ⌜ at + 1 ≤ length (now text) ⌝ }
     ensures { λ r. ⌜ (r ≡ at + 1) × (now (text .exit) ≡ sets (now (text .entry)) at (byte ∷ [])) ⌝ }
 {
@@ -17,7 +17,7 @@ fn put(text: &mut [u8], at: usize, byte: u8) -> usize
     at + 1
 }
 
-fn put_number(text: &mut [u8], at: usize, v: usize) -> usize
+pub(crate) fn put_number(text: &mut [u8], at: usize, v: usize) -> usize
     requires { ⌜ at + length (digits v) ≤ length (now text) ⌝ }
     ensures { λ r. ⌜ (r ≡ at + length (digits v)) × (now (text .exit) ≡ sets (now (text .entry)) at (digits v)) ⌝ }
 {

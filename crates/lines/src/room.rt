@@ -26,7 +26,7 @@ pub(crate) fn after(room: Room, need: usize) -> Room
 }
 
 // How many digits a number has.
-fn width(v: usize) -> usize
+pub(crate) fn width(v: usize) -> usize
     ensures { λ r. ⌜ r ≡ length (digits v) ⌝ }
 {
     if v < 10 {

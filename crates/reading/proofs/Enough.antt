@@ -57,12 +57,12 @@ module _ (s : List ℕ) (a b : ℕ) (ha : mostBytes < 4 + 6 * (a + 1)) (hb : mos
 -- ---- with less it does
 
 -- k times the same line
-same-length : (m k x : ℕ) → length (recordText x) ≡ m → length (recordsText (replicate k x)) ≡ k * m
+pub same-length : (m k x : ℕ) → length (recordText x) ≡ m → length (recordsText (replicate k x)) ≡ k * m
 unfolding recordsText
 same-length m zero x e = omega arith
 same-length m (suc k) x e = rw (suc-mul k m) (omega (arith, length-append (recordText x) (recordsText (replicate k x)), same-length m k x e))
 
-same-fit : (g : Bool) (k x : ℕ) → Fit g x → AllFit g (replicate k x)
+pub same-fit : (g : Bool) (k x : ℕ) → Fit g x → AllFit g (replicate k x)
 unfolding AllFit
 same-fit g zero x h = tt
 same-fit g (suc k) x h = (h, same-fit g k x h)

@@ -72,11 +72,11 @@ record-front : (k x : ℕ) (t : List ℕ) → front (suc k) (recordText x ++ t) 
 unfolding recordText
 record-front k x t = line-front k (letter (kindIn x)) (take (fieldsIn (kindIn x)) (aIn x ∷ bIn x ∷ [])) t (letter-plain (kindIn x))
 
-front-zero : (t : List ℕ) → front 0 t ≡ []
+pub front-zero : (t : List ℕ) → front 0 t ≡ []
 unfolding front
 front-zero t = refl
 
-records-front : (j : ℕ) (xs t : List ℕ) → front j (recordsText xs ++ t) ≡ recordsText (take j xs) ++ front (j - length xs) t
+pub records-front : (j : ℕ) (xs t : List ℕ) → front j (recordsText xs ++ t) ≡ recordsText (take j xs) ++ front (j - length xs) t
 unfolding recordsText
 records-front zero xs t =
     let z : 0 - length xs ≡ 0 = omega arith in
@@ -98,7 +98,7 @@ text-front j n es gs t =
 
 -- ---- the first lines of a job's text
 
-fit-take : (g : Bool) (k : ℕ) (xs : List ℕ) → AllFit g xs → AllFit g (take k xs)
+pub fit-take : (g : Bool) (k : ℕ) (xs : List ℕ) → AllFit g xs → AllFit g (take k xs)
 unfolding AllFit
 fit-take g zero xs h = tt
 fit-take g (suc k) [] h = tt
@@ -118,7 +118,7 @@ front-job j n es gs t h a b l =
           ∙ ap (λ l. textOf n (take j es) (take (j - length es) gs) ++ l) (front-zero t) ∙ append-nil _;
     }
 
-front-nil : (k : ℕ) → front k [] ≡ []
+pub front-nil : (k : ℕ) → front k [] ≡ []
 unfolding front
 front-nil zero = refl
 front-nil (suc k) = refl

@@ -7,3 +7,6 @@ pub mod Fronts
 pub mod Misfits
 pub mod Sizes
 pub mod Enough
+pub mod Listings
+pub mod ListingAnswers
+pub mod ListingEnough

@@ -17,7 +17,7 @@ use Rattle.reading.proofs.Fronts.{front-job, job-fronts, back, front-ba
 use Rattle.reading.proofs.Lines.{head-forth}
 use Rattle.reading.proofs.Runs.{Taken, taken, parsed-forth, text-parsed}
 
-two : {B : Type 0} {n k : ℕ} {es gs : List ℕ} → misfit k ≡ job n es gs → B
+pub two : {B : Type 0} {n k : ℕ} {es gs : List ℕ} → misfit k ≡ job n es gs → B
 two e = let z : _≡_ {A = ℕ} 0 1 = cc e in absurd (omega arith)
 
 -- the records of a job that was found
@@ -90,13 +90,17 @@ misfit-first s k e = go (headOf s .rest) refl e
 
 -- ---- there is one such line at most, and none in a job's text
 
-misfit-once : (s : List ℕ) (j k : ℕ) → Misfit s j → Misfit s k → j ≡ k
-misfit-once s j k a b = go (ltb j k) (ltb k j) refl refl
+-- of what holds below each of two places and at neither
+pub first-once : (P : ℕ → Type 0) (j k : ℕ) → (P j → ⊥) → (P k → ⊥) → (j < k → P j) → (k < j → P k) → j ≡ k
+first-once P j k nj nk a b = go (ltb j k) (ltb k j) refl refl
   where
     go : (t u : Bool) → ltb j k ≡ t → ltb k j ≡ u → j ≡ k
-    go true u p q = absurd (a .here (b .before j (a .counted) (ltb-true j k p)))
-    go false true p q = absurd (b .here (a .before k (b .counted) (ltb-true k j q)))
+    go true u p q = absurd (nj (a (ltb-true j k p)))
+    go false true p q = absurd (nk (b (ltb-true k j q)))
     go false false p q = omega (arith, ltb-false j k p, ltb-false k j q)
+
+misfit-once : (s : List ℕ) (j k : ℕ) → Misfit s j → Misfit s k → j ≡ k
+misfit-once s j k a b = first-once (λ i. JobText (front i s)) j k (a .here) (b .here) (b .before j (a .counted)) (a .before k (b .counted))
 
 job-none : (s : List ℕ) (k : ℕ) → JobText s → Misfit s k → ⊥
 job-none s zero j m = omega (arith, m .counted)

@@ -1,8 +1,8 @@
--- How many bytes a number, a line and a text have, at least and at most. Assumes nothing.
+-- How many bytes a line and a text have, at least and at most. Assumes nothing.
 use mathlib.Core.Path.{_≡_, refl, ap, _∙_}
 use mathlib.Core.Bool.{Bool, true, false}
 use mathlib.Core.List.{List, [], _∷_}
-use Prim.Native.Nat.{ℕ, zero, suc, _+_, _*_, _^_, _/_, _≤_, _<_}
+use Prim.Native.Nat.{ℕ, _+_, _*_, _≤_, _<_}
 use native.Mathlib.Omega.{arith}
 use lib.Dec.{ltb}
 use lib.ListN.{length, length-append}
@@ -10,28 +10,9 @@ use borrow.Author.Tests.{ltb-true, ltb-false}
 use Rattle.gates.specs.Layout.{kindIn, aIn, bIn}
 use Rattle.lines.specs.Lines.{digits, fieldsText, lineText, letter, recordText, recordsText, textOf}
 use Rattle.lines.proofs.Layouts.{a-lt, b-lt}
-use Rattle.lines.proofs.Writes.{width-small, width-big, line-length, record-two, record-one, text-length}
+use Rattle.lines.proofs.Writes.{width-least, width-most, line-length, record-two, record-one, text-length}
 use Rattle.reading.specs.Limits.{mostFirst}
 use Rattle.reading.specs.Misfit.{Fit, AllFit}
-
--- ---- numbers
-
--- a number has a digit
-pub width-least : (v : ℕ) → 1 ≤ length (digits v)
-width-least v = go (ltb v 10) refl
-  where
-    go : (t : Bool) → ltb v 10 ≡ t → 1 ≤ length (digits v)
-    go true e = omega (arith, width-small v (ltb-true v 10 e))
-    go false e = omega (arith, width-big v (ltb-false v 10 e))
-
--- a number below 10, 100, 1,000 .. has at most 1, 2, 3 .. digits
-pub width-most : (k v : ℕ) → v < 10 ^ suc k → length (digits v) ≤ suc k
-width-most zero v h = omega (arith, width-small v h)
-width-most (suc k) v h = go (ltb v 10) refl (width-most k (v / 10))
-  where
-    go : (t : Bool) → ltb v 10 ≡ t → (v / 10 < 10 ^ suc k → length (digits (v / 10)) ≤ suc k) → length (digits v) ≤ suc (suc k)
-    go true e ih = omega (arith, width-small v (ltb-true v 10 e))
-    go false e ih = omega (arith, width-big v (ltb-false v 10 e), ih (omega arith))
 
 -- ---- lines of one, two and three numbers
 
@@ -81,7 +62,7 @@ module _ (x : ℕ) where
 
 -- ---- a text
 
-couplers-least : (xs : List ℕ) → AllFit false xs → 6 * length xs ≤ length (recordsText xs)
+pub couplers-least : (xs : List ℕ) → AllFit false xs → 6 * length xs ≤ length (recordsText xs)
 unfolding recordsText AllFit
 couplers-least [] h = omega arith
 couplers-least (x ∷ xs) h = omega (arith, length-append (recordText x) (recordsText xs), coupler-least x (h .0), couplers-least xs (h .1))

@@ -1,8 +1,8 @@
 // Lines as they are read: the first one, a coupler's, a gate's.
+use lines::letter;
 use spots::spot;
 use spots::spot::Part;
 use spots::spot::Spot;
-use lines::letter;
 ghost use mathlib.Core.Path.{_≡_};
 ghost use Prim.Native.Nat.{_≤_};
 ghost use lib.ListN.{drop};

@@ -1,8 +1,8 @@
 // The reader of a job's text. It judges form only, and writes nothing before the whole text is judged.
 use crate::line;
 use crate::run;
-use spots::spot::Spot;
 use gates::job::Job;
+use spots::spot::Spot;
 use verdicts::verdict::Verdict;
 ghost use mathlib.Core.Path.{_≡_};
 ghost use lib.ListN.{length};

@@ -16,7 +16,7 @@ use Rattle.lines.specs.Lines.{textOf}
 use Rattle.text.specs.Writings.{judgedRoom, judgedText, writingOf}
 use Rattle.text.specs.declared.write.Writing.the-variants.{Written, Refused}
 
-room-zero : (need room : ℕ) → numberOf (judgedRoom need room) ≡ 0 → need ≤ room
+pub room-zero : (need room : ℕ) → numberOf (judgedRoom need room) ≡ 0 → need ≤ room
 room-zero need room e = go (leb need room) refl e
   where
     go : (t : Bool) → leb need room ≡ t → numberOf (pick t Accepted Room) ≡ 0 → need ≤ room

@@ -4,3 +4,4 @@ pub mod RoundTrip
 pub mod Values
 pub mod Examples
 pub mod Rows
+pub mod ListingTrip

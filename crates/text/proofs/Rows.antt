@@ -1,4 +1,4 @@
--- The table of document 01 holds of what reading and writing answer, row by row. Assumes nothing.
+-- The table of document 01 holds of what reading, a couplers' text too, and writing answer, row by row. Assumes nothing.
 use mathlib.Core.Path.{_≡_, refl, sym, ap, _∙_, subst}
 use mathlib.Core.Logic.{_≢_, _⊎_, inl, inr}
 use mathlib.Core.Bool.{Bool, true, false}
@@ -21,18 +21,46 @@ use Rattle.reading.specs.Limits.{mostBytes}
 use Rattle.reading.specs.Misfit.{JobText, Misfit}
 use Rattle.reading.specs.Parsing.{Parsed, misfit, job, parsed}
 use Rattle.reading.specs.Readings.{couplersIn, gatesIn, judgedBytes, judgedLines, judgedLists, judgedReading}
-use Rattle.reading.proofs.Misfits.{job-found, job-parsed, misfit-first, misfit-parsed}
+use Rattle.reading.specs.Listing.{CouplersText, MisfitCoupler, parsedCouplers, judgedPlaces, judgedCouplersText}
+use Rattle.reading.proofs.Misfits.{two, job-found, job-parsed, misfit-first, misfit-parsed}
+use Rattle.reading.proofs.Listings.{couplers-found, couplers-parsed, coupler-misfit-first, coupler-misfit-parsed}
 use Rattle.text.specs.Writings.{judgedRoom, judgedText}
-use Rattle.text.specs.Rows.{Suffices, TooShort, ReadingRows, WritingRows}
+use Rattle.text.specs.Rows.{Suffices, TooShort, ReadingRows, CouplersRows, WritingRows}
 
 -- what is needed is at most what is there
-room-tests : (need room : ℕ) (v : Verdict) → 0 < numberOf v → placeOf v ≡ 0 → Tests (pick (leb need room) Accepted v) (numberOf v) (need ≤ room) (room < need) Nowhere
+pub room-tests : (need room : ℕ) (v : Verdict) → 0 < numberOf v → placeOf v ≡ 0 → Tests (pick (leb need room) Accepted v) (numberOf v) (need ≤ room) (room < need) Nowhere
 room-tests need room v h e = record { decided = go (leb need room) refl; apart = λ (l : need ≤ room) (g : room < need). omega arith; refuses = h }
   where
     go : (b : Bool) → leb need room ≡ b
         → ((numberOf (pick b Accepted v) ≡ 0) × (need ≤ room)) ⊎ ((numberOf (pick b Accepted v) ≡ numberOf v) × (room < need) × Nowhere (placeOf (pick b Accepted v)))
     go true q = inl (refl, leb-true need room q)
     go false q = inr (refl, leb-false need room q, e)
+
+-- "reading tests 11, 10, 8": u, v and w are what the three answer
+module _ {u v w : Verdict} {Short Long Good Bad Fits Over : Type 0} {At : ℕ → Type 0}
+    (t : Tests u 11 Short Long Nowhere) (l : Tests v 10 Good Bad At) (r : Good → Tests w 8 Fits Over Nowhere) where
+  -- a good text is answered by 8 alone, or accepted
+  last-not : (j : ℕ) → 8 < j → Good → numberOf w ≢ j
+  last-not j h g e = go (r g .decided)
+    where
+      go : ((numberOf w ≡ 0) × Fits) ⊎ ((numberOf w ≡ 8) × Over × Nowhere (placeOf w)) → ⊥
+      go (inl d) = omega (arith, h, e, d .0)
+      go (inr d) = omega (arith, h, e, d .0)
+
+  last-never : (j : ℕ) → 8 < j → Good → Row w j ⊥ Nowhere
+  last-never j h g = record { exactly = (last-not j h g, λ f. absurd f); place = λ e. absurd (last-not j h g e) }
+
+  three-0 : Row (andThen u (andThen v w)) 0 (Short × (Good × Fits)) Nowhere
+  three-0 = row-then t (andThen v w) 0 (λ e. omega (arith, e)) (λ p. row-then l w 0 (λ e. omega (arith, e)) (λ g. row-passes (r g)))
+
+  three-11 : Row (andThen u (andThen v w)) 11 Long Nowhere
+  three-11 = row-first t (andThen v w) (λ p e. row-then l w 11 (λ e. omega (arith, e)) (last-never 11 (omega arith)) .exactly .0 e .1)
+
+  three-10 : Row (andThen u (andThen v w)) 10 (Short × Bad) At
+  three-10 = row-then t (andThen v w) 10 (λ e. omega (arith, e)) (λ p. row-first l w (last-not 10 (omega arith)))
+
+  three-8 : Row (andThen u (andThen v w)) 8 (Short × (Good × Over)) Nowhere
+  three-8 = row-then t (andThen v w) 8 (λ e. omega (arith, e)) (λ p. row-then l w 8 (λ e. omega (arith, e)) (λ g. row-fails (r g)))
 
 -- ---- reading
 
@@ -41,11 +69,8 @@ module _ (s : List ℕ) (a b : ℕ) where
   tests-11 = room-tests (length s) mostBytes LongText (omega arith) refl
 
   tests-10 : Tests (judgedLines (parsed s)) 10 (JobText s) ((k : ℕ) × Misfit s k) (Misfit s)
-  tests-10 = record { decided = go (parsed s) refl; apart = λ j m. two (sym (job-parsed s j) ∙ misfit-parsed s (m .0) (m .1)); refuses = omega arith }
+  tests-10 = record { decided = go (parsed s) refl; apart = λ j m. two (sym (misfit-parsed s (m .0) (m .1)) ∙ job-parsed s j); refuses = omega arith }
     where
-      two : {n k : ℕ} {es gs : List ℕ} → job n es gs ≡ misfit k → ⊥
-      two e = let z : _≡_ {A = ℕ} 0 1 = cc e in omega arith
-
       go : (p : Parsed) → parsed s ≡ p
           → ((numberOf (judgedLines p) ≡ 0) × JobText s) ⊎ ((numberOf (judgedLines p) ≡ 10) × ((k : ℕ) × Misfit s k) × Misfit s (placeOf (judgedLines p)))
       go (misfit k) e = let m = misfit-first s k e in inr (refl, (k, m), m)
@@ -78,28 +103,54 @@ module _ (s : List ℕ) (a b : ℕ) where
       go true false p q = inr (refl, λ i. inr (omega (arith, gates-are i, leb-false (length gs) b q)), refl)
       go false u p q = inr (refl, λ i. inl (omega (arith, couplers-are i, leb-false (length es) a p)), refl)
 
-  -- a job's text is answered by 8 alone, or accepted
-  lists-never : (j : ℕ) → 0 < j → j ≢ 8 → JobText s → Row (judgedLists (parsed s) a b) j ⊥ Nowhere
-  lists-never j h ne t = record { exactly = (λ e. go e (tests-lists t .decided), λ f. absurd f); place = λ e. absurd (go e (tests-lists t .decided)) }
-    where
-      go : numberOf (judgedLists (parsed s) a b) ≡ j → ((numberOf (judgedLists (parsed s) a b) ≡ 0) × Suffices s a b) ⊎ ((numberOf (judgedLists (parsed s) a b) ≡ 8) × TooShort s a b × Nowhere (placeOf (judgedLists (parsed s) a b))) → ⊥
-      go e (inl d) = omega (arith, h, e, d .0)
-      go e (inr d) = ne (sym e ∙ d .0)
-
-  abbrev behind11 : Verdict
-  behind11 = andThen (judgedLines (parsed s)) (judgedLists (parsed s) a b)
-
   pub reading-rows : ReadingRows s a b (judgedReading s a b)
   unfolding judgedReading
   reading-rows = record {
-    row-0 = row-then tests-11 behind11 0 (λ e. omega (arith, e)) (λ p. row-then tests-10 (judgedLists (parsed s) a b) 0 (λ e. omega (arith, e)) (λ j. row-passes (tests-lists j)));
-    row-11 =
-        row-first tests-11 behind11
-        (λ p e. row-then tests-10 (judgedLists (parsed s) a b) 11 (λ e. omega (arith, e)) (lists-never 11 (omega arith) (λ e. omega (arith, e))) .exactly .0 e .1);
-    row-10 =
-        row-then tests-11 behind11 10 (λ e. omega (arith, e))
-        (λ p. row-first tests-10 (judgedLists (parsed s) a b) (λ j. lists-never 10 (omega arith) (λ e. omega (arith, e)) j .exactly .0));
-    row-8 = row-then tests-11 behind11 8 (λ e. omega (arith, e)) (λ p. row-then tests-10 (judgedLists (parsed s) a b) 8 (λ e. omega (arith, e)) (λ j. row-fails (tests-lists j)));
+    row-0 = three-0 tests-11 tests-10 tests-lists;
+    row-11 = three-11 tests-11 tests-10 tests-lists;
+    row-10 = three-10 tests-11 tests-10 tests-lists;
+    row-8 = three-8 tests-11 tests-10 tests-lists;
+  }
+
+-- ---- a couplers' text
+
+module _ (s : List ℕ) (room : ℕ) where
+  listing-11 : Tests (judgedBytes s) 11 (length s ≤ mostBytes) (mostBytes < length s) Nowhere
+  listing-11 = room-tests (length s) mostBytes LongText (omega arith) refl
+
+  listing-10 : Tests (judgedLines (parsedCouplers s)) 10 (CouplersText s) ((k : ℕ) × MisfitCoupler s k) (MisfitCoupler s)
+  listing-10 = record { decided = go (parsedCouplers s) refl; apart = λ c m. two (sym (coupler-misfit-parsed s (m .0) (m .1)) ∙ couplers-parsed s c); refuses = omega arith }
+    where
+      go : (p : Parsed) → parsedCouplers s ≡ p
+          → ((numberOf (judgedLines p) ≡ 0) × CouplersText s) ⊎ ((numberOf (judgedLines p) ≡ 10) × ((k : ℕ) × MisfitCoupler s k) × MisfitCoupler s (placeOf (judgedLines p)))
+      go (misfit k) e = let m = coupler-misfit-first s k e in inr (refl, (k, m), m)
+      go (job n es gs) e = let f = couplers-found s n es gs e in inl (refl, record { couplers = es; fit = f .fit; same = f .same })
+
+  listing-8 : CouplersText s → Tests (judgedPlaces (parsedCouplers s) room) 8 ((c : CouplersText s) → length (c .couplers) ≤ room) ((c : CouplersText s) → room < length (c .couplers)) Nowhere
+  listing-8 c =
+      record { decided = go (tests .decided); apart = λ p f. omega (arith, p c, f c); refuses = omega arith }
+    where
+      listed : ℕ
+      listed = length (couplersIn (parsedCouplers s))
+
+      tests : Tests (judgedPlaces (parsedCouplers s) room) 8 (listed ≤ room) (room < listed) Nowhere
+      tests = room-tests listed room Room (omega arith) refl
+
+      listed-are : (i : CouplersText s) → length (i .couplers) ≡ listed
+      listed-are i = sym (ap (λ (p : Parsed). length (couplersIn p)) (couplers-parsed s i))
+
+      go : let v = judgedPlaces (parsedCouplers s) room in ((numberOf v ≡ 0) × (listed ≤ room)) ⊎ ((numberOf v ≡ 8) × (room < listed) × Nowhere (placeOf v))
+          → ((numberOf v ≡ 0) × ((c : CouplersText s) → length (c .couplers) ≤ room)) ⊎ ((numberOf v ≡ 8) × ((c : CouplersText s) → room < length (c .couplers)) × Nowhere (placeOf v))
+      go (inl d) = inl (d .0, λ i. omega (arith, listed-are i, d .1))
+      go (inr d) = inr (d .0, (λ i. omega (arith, listed-are i, d .1)), d .2)
+
+  pub couplers-rows : CouplersRows s room (judgedCouplersText s room)
+  unfolding judgedCouplersText
+  couplers-rows = record {
+    row-0 = three-0 listing-11 listing-10 listing-8;
+    row-11 = three-11 listing-11 listing-10 listing-8;
+    row-10 = three-10 listing-11 listing-10 listing-8;
+    row-8 = three-8 listing-11 listing-10 listing-8;
   }
 
 -- ---- writing

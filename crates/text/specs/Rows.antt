@@ -1,4 +1,4 @@
--- Document 01's table, "Records and refusals", of reading and of writing: each row as one statement, "When, and exactly then", and the place.
+-- Document 01's table, "Records and refusals", of reading and of writing, and the same of reading a couplers' text (request E1): each row as one statement, "When, and exactly then", and the place.
 use mathlib.Core.Logic.{_⊎_}
 use mathlib.Core.List.{List}
 use Prim.Native.Nat.{ℕ, _≤_, _<_}
@@ -9,6 +9,7 @@ use Rattle.verdicts.specs.Rows.{Row, Nowhere, Some, First, Passes1, Passes2, Wr
 use Rattle.lines.specs.Lines.{textOf}
 use Rattle.reading.specs.Limits.{mostBytes}
 use Rattle.reading.specs.Misfit.{JobText, Misfit}
+use Rattle.reading.specs.Listing.{CouplersText, MisfitCoupler}
 
 -- 8 of reading: the lent lists, of a and b places, are as long as the lines of the text need
 abbrev pub Suffices : List ℕ → ℕ → ℕ → Type 0
@@ -24,6 +25,13 @@ pub record ReadingRows (s : List ℕ) (a b : ℕ) (v : Verdict) : Type 0 where
   pub row-11 : Row v 11 (mostBytes < length s) Nowhere
   pub row-10 : Row v 10 ((length s ≤ mostBytes) × ((k : ℕ) × Misfit s k)) (Misfit s)
   pub row-8 : Row v 8 ((length s ≤ mostBytes) × (JobText s × TooShort s a b)) Nowhere
+
+-- the same of a couplers' text, of which one list is lent, of `room` places; v is what `read_couplers` answers
+pub record CouplersRows (s : List ℕ) (room : ℕ) (v : Verdict) : Type 0 where
+  pub row-0 : Row v 0 ((length s ≤ mostBytes) × (CouplersText s × ((c : CouplersText s) → length (c .couplers) ≤ room))) Nowhere
+  pub row-11 : Row v 11 (mostBytes < length s) Nowhere
+  pub row-10 : Row v 10 ((length s ≤ mostBytes) × ((k : ℕ) × MisfitCoupler s k)) (MisfitCoupler s)
+  pub row-8 : Row v 8 ((length s ≤ mostBytes) × (CouplersText s × ((c : CouplersText s) → room < length (c .couplers)))) Nowhere
 
 -- "writing tests 1, 2, 3, 5 and then 8, given exactly when the text is longer than the room": v is what writing answers
 pub record WritingRows (n : ℕ) (couplers gates : List ℕ) (room : ℕ) (v : Verdict) : Type 0 where

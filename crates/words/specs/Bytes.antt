@@ -1,4 +1,5 @@
 -- Which bytes stand between words, and which go on a word (request E1: "with comments and blanks").
+use mathlib.Core.Path.{_≡_}
 use mathlib.Core.Bool.{Bool, true, false}
 use mathlib.Core.List.{List, [], _∷_}
 use Prim.Native.Nat.{ℕ, _+_}
@@ -28,6 +29,11 @@ inWord x = either (inName x) (eqb x 46)
 -- whether x goes on a word that begins with f: a name or a number goes on over bytes of its kind, what a quote opens over quotes besides
 unfoldable pub goesOn : ℕ → ℕ → Bool
 goesOn f x = either (both (either (inWord f) (eqb f 34)) (inWord x)) (both (eqb f 34) (eqb x 34))
+
+-- all bytes go on a word that begins with f
+abbrev pub AllOn : ℕ → List ℕ → Type 0
+AllOn f [] = Unit {0}
+AllOn f (x ∷ xs) = (goesOn f x ≡ true) × AllOn f xs
 
 -- two slashes open a comment
 unfoldable pub slashes : ℕ → ℕ → Bool

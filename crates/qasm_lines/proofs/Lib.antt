@@ -1,0 +1,3 @@
+pub mod Spelt
+pub mod Sizes
+pub mod Placed

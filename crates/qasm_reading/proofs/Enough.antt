@@ -1,0 +1,41 @@
+-- A text within its limit has few gates: each takes at least six words, and each word a byte. Assumes nothing.
+use mathlib.Core.Path.{_≡_, refl, ap, _∙_}
+use mathlib.Core.List.{List, [], _∷_, _++_}
+use Prim.Native.Nat.{ℕ, suc, _+_, _*_, _≤_}
+use native.Mathlib.Omega.{arith}
+use lib.ListN.{length, length-append}
+use Rattle.reading.specs.Limits.{mostBytes}
+use Rattle.words.specs.Words.{words, bodies}
+use Rattle.statements.specs.Forms.{Form, cnot, turn, xgate, hadamard, Times, nought, once, many, timesWords, formWords, formsWords, qubitWords, versionWords, includeWords, registerWords, headWords, recordsIn}
+use Rattle.statements.proofs.Words.{bodies-length}
+use Rattle.qasm_reading.specs.Parsing.{Parsed, circuit, angle, statement, early, parsed}
+use Rattle.qasm_reading.specs.Readings.{gatesIn}
+use Rattle.qasm_reading.proofs.Loops.{words-length}
+use Rattle.qasm_reading.proofs.Found.{Found, found}
+
+form-six : (name : List ℕ) (f : Form) → 6 ≤ length (formWords name f)
+unfolding formWords qubitWords
+form-six name (cnot a b) = omega arith
+form-six name (turn m t o a) = simp length-append (omega arith)
+form-six name (xgate a) = omega arith
+form-six name (hadamard a) = omega arith
+
+forms-six : (name : List ℕ) (fs : List Form) → 6 * length (recordsIn fs) ≤ length (formsWords name fs)
+unfolding recordsIn formsWords
+forms-six name [] = omega arith
+forms-six name (f ∷ fs) = omega (arith, form-six name f, forms-six name fs, length-append (formWords name f) (formsWords name fs))
+
+head-twelve : (name : List ℕ) (n : ℕ) → length (headWords name n) ≡ 12
+unfolding headWords versionWords includeWords registerWords
+head-twelve name n = refl
+
+-- no circuit's text of 65,536 bytes has more than 10,920 gates
+pub gates-few : (s : List ℕ) → length s ≤ mostBytes → length (gatesIn (parsed s)) ≤ 10920
+gates-few s h = go (parsed s) (found s)
+  where
+    go : (p : Parsed) → Found s p → length (gatesIn p) ≤ 10920
+    go (circuit n gates) c =
+        omega (arith, ap length (c .meant), forms-six (c .name) (c .forms), ap length (c .spelt), length-append (headWords (c .name) n) (formsWords (c .name) (c .forms)), head-twelve (c .name) n, bodies-length (words s), words-length s)
+    go (angle l) f = omega arith
+    go (statement l) f = omega arith
+    go early f = omega arith

@@ -1,0 +1,10 @@
+pub mod Runs
+pub mod Loops
+pub mod Answers
+pub mod Parsed
+pub mod Faults
+pub mod Found
+pub mod Rows
+pub mod Enough
+pub mod Standing
+pub mod Examples

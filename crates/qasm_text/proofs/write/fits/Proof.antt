@@ -1,0 +1,35 @@
+-- `qasm_text::write::fits` meets its contract: the room behind the head and the gates is the room behind the text. Assumes nothing.
+use mathlib.Core.Path.{sym, ap, _∙_}
+use denote.Ref.{now}
+use Rattle.lines.specs.Room.{isLeft}
+use Rattle.qasm_text.proofs.Fitting.{circuit-left}
+use borrow.Author.Needs.{needs}
+use Rattle.qasm_text.proofs.write.fits.Statement.{statement}
+use Rattle.qasm_text.proofs.write.fits.Tie as tie
+
+after-head-requires : tie.Need-after-head-requires
+after-head-requires c κs = search needs
+
+after-gates-requires : tie.Need-after-gates-requires
+after-gates-requires c κs = search needs
+
+enum-told : tie.Need-enum-told
+enum-told c = search needs
+
+enum-told-2 : tie.Need-enum-told-2
+enum-told-2 c = search needs
+
+returns : tie.Need-returns
+returns c =
+    let a = c .before .before .before .before .before .args in
+    sym (ap isLeft (c .enum-told .given .1)) ∙ circuit-left (a .n) (now (a .gates)) (a .room) (c .before .before .before .after-head .ensures) (c .before .before .after-gates .ensures)
+
+returns-2 : tie.Need-returns-2
+returns-2 c =
+    let a = c .before .before .before .before .before .args in
+    sym (ap isLeft (c .enum-told2 .given .1)) ∙ circuit-left (a .n) (now (a .gates)) (a .room) (c .before .before .before .after-head .ensures) (c .before .before .after-gates .ensures)
+
+pub fits-spec : {M : Type 1} → statement M
+fits-spec =
+    tie.close
+    (tie.spec after-head-requires after-gates-requires enum-told enum-told-2 returns returns-2)

@@ -1,0 +1,23 @@
+-- `qasm_text::write::put_circuit` meets its contract: the head, then the gates. Assumes nothing.
+use denote.Ref.{now}
+use Rattle.qasm_text.proofs.Fitting.{circuit-wrote}
+use borrow.Author.Needs.{needs}
+use Rattle.qasm_text.proofs.write.put_circuit.Statement.{statement}
+use Rattle.qasm_text.proofs.write.put_circuit.Tie as tie
+
+put-head-requires : tie.Need-put-head-requires
+put-head-requires c κs = search needs
+
+put-gates-requires : tie.Need-put-gates-requires
+put-gates-requires c κs = search needs
+
+same-length : tie.Need-same-length
+same-length c = search needs
+
+returns : tie.Need-returns
+returns c =
+    let a = c .before .before .before .before .before .before .before .before .before .before .args in
+    circuit-wrote (a .n) (now (a .gates)) (now (a .text)) (c .before .before .before .before .before .before .before .before .before .before .pre) (c .before .before .before .before .before .before .put-head .ensures) (c .before .before .put-gates .ensures)
+
+pub put-circuit-spec : {M : Type 1} → statement M
+put-circuit-spec = tie.close (tie.spec put-head-requires put-gates-requires same-length returns)

@@ -1,0 +1,2 @@
+// A circuit's text in OpenQASM 2.0, written.
+pub mod write;

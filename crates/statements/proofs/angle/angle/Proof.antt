@@ -1,0 +1,47 @@
+-- `statements::angle::angle` meets its contract. Assumes nothing.
+use mathlib.Core.Path.{_≡_, refl, sym, ap, _∙_, subst}
+use denote.Ref.{now}
+use lib.ListN.{length, getD, drop}
+use Prim.Native.Nat.{_+_, _-_, _≤_, _<_}
+use native.Mathlib.Omega.{arith}
+use Rattle.words.specs.Places.{leftAt, gotAt}
+use Rattle.words.specs.Taking.{Got}
+use Rattle.statements.proofs.Chains.{angle-minus, angle-plain}
+use borrow.Author.Needs.{needs}
+use Rattle.statements.proofs.angle.angle.Statement.{statement}
+use Rattle.statements.proofs.angle.angle.Tie as tie
+use Rattle.statements.proofs.angle.multiple.Reads as multiple-reads
+use Rattle.statements.proofs.mark.mark.Reads as mark-reads
+
+mark-requires : tie.Need-mark-requires
+mark-requires c κs = search needs
+
+enum-told : tie.Need-enum-told
+enum-told c = search needs
+
+multiple-requires : tie.Need-multiple-requires
+multiple-requires c κs = search needs
+
+enum-told-2 : tie.Need-enum-told-2
+enum-told-2 c = search needs
+
+multiple-requires-2 : tie.Need-multiple-requires-2
+multiple-requires-2 c κs = search needs
+
+returns : tie.Need-returns
+returns c = angle-minus (leftAt (now (c .before .before .before .before .before .args .text)) (c .before .before .before .before .before .args .from)) (c .before .before .before .mark .ensures) (ap (leftAt (now (c .before .before .before .before .before .args .text))) (c .before .enum-told .given .1)) (c .multiple .ensures)
+
+returns-2 : tie.Need-returns-2
+returns-2 c = angle-plain (leftAt (now (c .before .before .before .before .before .args .text)) (c .before .before .before .before .before .args .from)) (c .before .before .before .mark .ensures) (ap (leftAt (now (c .before .before .before .before .before .args .text))) (c .before .enum-told2 .given .1)) (c .multiple2 .ensures)
+
+pub angle-spec : {M : Type 1} → statement M
+angle-spec =
+    tie.close
+    (tie.spec
+    mark-requires
+    enum-told
+    multiple-requires
+    enum-told-2
+    multiple-requires-2
+    returns
+    returns-2)

@@ -1,0 +1,30 @@
+-- `statements::angle::many` meets its contract. Assumes nothing.
+use mathlib.Core.Path.{_≡_, refl, sym, ap, _∙_, subst}
+use denote.Ref.{now}
+use lib.ListN.{length, getD, drop}
+use Prim.Native.Nat.{_+_, _-_, _≤_, _<_}
+use native.Mathlib.Omega.{arith}
+use Rattle.words.specs.Places.{leftAt, gotAt}
+use Rattle.words.specs.Taking.{Got}
+use Rattle.statements.proofs.Chains.{many-chain}
+use borrow.Author.Needs.{needs}
+use Rattle.statements.proofs.angle.many.Statement.{statement}
+use Rattle.statements.proofs.angle.many.Tie as tie
+use Rattle.statements.proofs.mark.mark.Reads as mark-reads
+use Rattle.statements.proofs.mark.pi.Reads as pi-reads
+use Rattle.words.proofs.take.number.Reads as number-reads
+
+number-requires : tie.Need-number-requires
+number-requires c κs = search needs
+
+mark-requires : tie.Need-mark-requires
+mark-requires c κs = search needs
+
+pi-requires : tie.Need-pi-requires
+pi-requires c κs = search needs
+
+returns : tie.Need-returns
+returns c = many-chain (leftAt (now (c .before .before .before .before .args .text)) (c .before .before .before .before .args .from)) (c .before .before .number .ensures) (c .before .mark .ensures) (c .pi .ensures)
+
+pub many-spec : {M : Type 1} → statement M
+many-spec = tie.close (tie.spec number-requires mark-requires pi-requires returns)

@@ -1,0 +1,38 @@
+-- `statements::gate::gate` meets its contract. Assumes nothing.
+use mathlib.Core.Path.{_≡_, refl, sym, ap, _∙_, subst}
+use denote.Ref.{now}
+use lib.ListN.{length, getD, drop}
+use Prim.Native.Nat.{_+_, _-_, _≤_, _<_}
+use native.Mathlib.Omega.{arith}
+use mathlib.Core.Option.{some, none}
+use Rattle.words.specs.Words.{words}
+use Rattle.words.specs.Places.{leftAt, gotAt}
+use Rattle.words.specs.Taking.{Got}
+use Rattle.statements.proofs.Chains.{gate-cnot, gate-other}
+use borrow.Author.Needs.{needs}
+use Rattle.statements.proofs.gate.gate.Statement.{statement}
+use Rattle.statements.proofs.gate.gate.Tie as tie
+use Rattle.statements.proofs.gate.cnot.Reads as cnot-reads
+use Rattle.statements.proofs.gate.other.Reads as other-reads
+
+cnot-requires : tie.Need-cnot-requires
+cnot-requires c κs = search needs
+
+enum-told : tie.Need-enum-told
+enum-told c = search needs
+
+enum-told-2 : tie.Need-enum-told-2
+enum-told-2 c = search needs
+
+other-requires : tie.Need-other-requires
+other-requires c κs = search needs
+
+returns : tie.Need-returns
+returns c = gate-cnot (some (words (drop (c .before .before .before .before .before .args .at) (now (c .before .before .before .before .before .args .text))))) (now (c .before .before .before .before .before .args .name)) (c .before .before .cnot .ensures) (ap (leftAt (now (c .before .before .before .before .before .args .text))) (c .enum-told .given .1))
+
+returns-2 : tie.Need-returns-2
+returns-2 c = gate-other (some (words (drop (c .before .before .before .before .before .before .args .at) (now (c .before .before .before .before .before .before .args .text))))) (now (c .before .before .before .before .before .before .args .name)) (c .before .before .before .cnot .ensures) (ap (leftAt (now (c .before .before .before .before .before .before .args .text))) (c .before .enum-told2 .given .1)) (c .other .ensures)
+
+pub gate-spec : {M : Type 1} → statement M
+gate-spec =
+    tie.close (tie.spec cnot-requires enum-told enum-told-2 other-requires returns returns-2)

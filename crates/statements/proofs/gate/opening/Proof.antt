@@ -1,0 +1,29 @@
+-- `statements::gate::opening` meets its contract. Assumes nothing.
+use mathlib.Core.Path.{_≡_, refl, sym, ap, _∙_, subst}
+use denote.Ref.{now}
+use lib.ListN.{length, getD, drop}
+use Prim.Native.Nat.{_+_, _-_, _≤_, _<_}
+use native.Mathlib.Omega.{arith}
+use Rattle.words.specs.Places.{leftAt, gotAt}
+use Rattle.words.specs.Taking.{Got}
+use Rattle.statements.proofs.Chains.{opening-chain}
+use borrow.Author.Needs.{needs}
+use Rattle.statements.proofs.gate.opening.Statement.{statement}
+use Rattle.statements.proofs.gate.opening.Tie as tie
+use Rattle.statements.proofs.mark.mark.Reads as mark-reads
+use Rattle.words.proofs.take.take.Reads as take-reads
+
+slice-aggregate-take : tie.Need-slice-aggregate-take
+slice-aggregate-take c = search needs
+
+take-requires : tie.Need-take-requires
+take-requires c κs = search needs
+
+mark-requires : tie.Need-mark-requires
+mark-requires c κs = search needs
+
+returns : tie.Need-returns
+returns c = opening-chain (leftAt (now (c .before .before .before .before .args .text)) (c .before .before .before .before .args .from)) (c .before .take .ensures) (c .mark .ensures)
+
+pub opening-spec : {M : Type 1} → statement M
+opening-spec = tie.close (tie.spec slice-aggregate-take take-requires mark-requires returns)

@@ -1,0 +1,29 @@
+-- `statements::gate::tail` meets its contract. Assumes nothing.
+use mathlib.Core.Path.{_≡_, refl, sym, ap, _∙_, subst}
+use denote.Ref.{now}
+use lib.ListN.{length, getD, drop}
+use Prim.Native.Nat.{_+_, _-_, _≤_, _<_}
+use native.Mathlib.Omega.{arith}
+use Rattle.words.specs.Places.{leftAt, gotAt}
+use Rattle.words.specs.Taking.{Got}
+use Rattle.statements.proofs.Chains.{tail-chain}
+use borrow.Author.Needs.{needs}
+use Rattle.statements.proofs.gate.tail.Statement.{statement}
+use Rattle.statements.proofs.gate.tail.Tie as tie
+use Rattle.statements.proofs.gate.qubit.Reads as qubit-reads
+use Rattle.statements.proofs.mark.mark.Reads as mark-reads
+
+mark-requires : tie.Need-mark-requires
+mark-requires c κs = search needs
+
+qubit-requires : tie.Need-qubit-requires
+qubit-requires c κs = search needs
+
+mark-requires-2 : tie.Need-mark-requires-2
+mark-requires-2 c κs = search needs
+
+returns : tie.Need-returns
+returns c = tail-chain (leftAt (now (c .before .before .before .before .before .args .text)) (c .before .before .before .before .before .args .from)) (now (c .before .before .before .before .before .args .name)) (c .before .before .mark .ensures) (c .before .qubit .ensures) (c .mark2 .ensures)
+
+pub tail-spec : {M : Type 1} → statement M
+tail-spec = tie.close (tie.spec mark-requires qubit-requires mark-requires-2 returns)

@@ -1,0 +1,5 @@
+// A statement of a circuit's text in OpenQASM 2.0, read from its words.
+mod angle;
+pub mod gate;
+pub mod head;
+mod mark;
