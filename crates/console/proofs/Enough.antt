@@ -76,7 +76,7 @@ other-number v k place a b ne e = go (ltb (numberOf v) 10) refl
     go true q = ne (omega (arith, same, digit (numberOf v) (placeOf v) (ltb-true (numberOf v) 10 q)))
     go false q = omega (arith, same, digit-ten (numberOf v) (placeOf v) (ltb-false (numberOf v) 10 q) (omega (arith, number-few v)))
 
-refusal-printable : (v : Verdict) → numberOf v ≢ 8 → Printable (refusalOf v)
+pub refusal-printable : (v : Verdict) → numberOf v ≢ 8 → Printable (refusalOf v)
 unfolding refusalOf refusalText lineText
 refusal-printable v a = record {
   some = omega arith;
@@ -85,7 +85,7 @@ refusal-printable v a = record {
 }
 
 -- a text that begins with another letter
-letter-printable : (letter : ℕ) (text : List ℕ) → letter ≢ 120 → Printable (letter ∷ text)
+pub letter-printable : (letter : ℕ) (text : List ℕ) → letter ≢ 120 → Printable (letter ∷ text)
 unfolding refusalText lineText
 letter-printable letter text ne = record {
   some = omega arith;
@@ -93,7 +93,7 @@ letter-printable letter text ne = record {
   never-9 = λ place e. ne (ap (λ (l : List ℕ). getD l 0 0) e);
 }
 
-either-printable : (v : Verdict) (text : List ℕ) → (numberOf v ≡ 0 → Printable text) → Printable (refusalOf v) → Printable (unless v text)
+pub either-printable : (v : Verdict) (text : List ℕ) → (numberOf v ≡ 0 → Printable text) → Printable (refusalOf v) → Printable (unless v text)
 unfolding unless
 either-printable v text p q = go (eqb (numberOf v) 0) refl
   where
@@ -102,7 +102,7 @@ either-printable v text p q = go (eqb (numberOf v) 0) refl
     go false e = q
 
 module _ (n : ℕ) (couplers gates : List ℕ) where
-  refused-printable : Printable (refusalOf (judgedStretches n couplers gates))
+  pub refused-printable : Printable (refusalOf (judgedStretches n couplers gates))
   refused-printable = refusal-printable (judgedStretches n couplers gates) (judging-never-8 n couplers gates)
 
   job-printable : Printable (laidJob n couplers gates)
@@ -152,7 +152,7 @@ module _ (s : List ℕ) where
   abbrev seen : List ℕ
   seen = take (mostBytes + 1) s
 
-  either-length : (f : List ℕ → List ℕ) → ((t : List ℕ) → mostBytes < length t → f t ≡ refusalOf LongText) → f seen ≡ f s
+  pub either-length : (f : List ℕ → List ℕ) → ((t : List ℕ) → mostBytes < length t → f t ≡ refusalOf LongText) → f (take (mostBytes + 1) s) ≡ f s
   either-length f long = go (leb (length s) (mostBytes + 1)) refl
     where
       go : (b : Bool) → leb (length s) (mostBytes + 1) ≡ b → f seen ≡ f s

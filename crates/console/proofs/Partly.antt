@@ -64,14 +64,14 @@ module _ (n : ℕ) (xs s old : List ℕ) (long : length old ≡ largest) (a : An
   at-largest = sym (ap (answered n xs s) long) ∙ sym e
 
   module _ (laid : List ℕ) (m : laid ≡ outputOf n xs s old) (k c t d f : ℕ) (l : a ≡ Laid k c t d f) where
-    passed : numberOf (verdictOf n xs s largest) ≡ 0
-    passed = sym (ap (λ (room : ℕ). numberOf (verdictOf n xs s room)) long) ∙ alone-counts n xs s old laid long a e m k c t d f l .passed
+    pub laid-passed : numberOf (verdictOf n xs s largest) ≡ 0
+    laid-passed = sym (ap (λ (room : ℕ). numberOf (verdictOf n xs s room)) long) ∙ alone-counts n xs s old laid long a e m k c t d f l .passed
 
     pub records-few : length (stretchRecords n xs s) ≤ largest
-    records-few = omega (arith, length-map (circuitOf n xs s) recordOf, demand-2-fits n xs s largest passed)
+    records-few = omega (arith, length-map (circuitOf n xs s) recordOf, demand-2-fits n xs s largest laid-passed)
 
     pub laid-said : (h : List ℕ) → recordsText (stretchRecords n xs s ++ h) ≡ unless (verdictOf n xs s largest) (recordsText (stretchRecords n xs s ++ h))
-    laid-said h = unless-passed (verdictOf n xs s largest) (recordsText (stretchRecords n xs s ++ h)) passed
+    laid-said h = unless-passed (verdictOf n xs s largest) (recordsText (stretchRecords n xs s ++ h)) laid-passed
 
     pub laid-share : f ≡ phaseIn (answered n xs s largest)
     laid-share = sym (ap phaseIn (at-largest ∙ l))

@@ -5,7 +5,7 @@ use tallies::tally;
 
 pub mod counting;
 pub mod printing;
-mod refusing;
+pub mod refusing;
 
 // Lent for what is read: one byte more than a job's text may have, so that the reader sees a longer one.
 pub const INPUT: usize = read::MOST_BYTES + 1;

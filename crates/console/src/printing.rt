@@ -92,7 +92,7 @@ fn begin_job(n: usize, couplers: &[u32], gates: &[u32], out: &mut [u8; OUTPUT]) 
 }
 
 // The first k records, or all where there are fewer.
-fn first(records: &[u32], k: usize) -> &[u32]
+pub fn first(records: &[u32], k: usize) -> &[u32]
     ensures { λ r. ⌜ now r ≡ take k (now (records .entry)) ⌝ }
 {
     if records.len() <= k {

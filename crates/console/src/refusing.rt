@@ -15,7 +15,7 @@ pub(crate) fn print_refusal(v: Verdict, out: &mut [u8; OUTPUT]) -> usize
 }
 
 // The first n bytes, or all where there are fewer.
-pub(crate) fn front(bytes: &[u8], n: usize) -> &[u8]
+pub fn front(bytes: &[u8], n: usize) -> &[u8]
     ensures { λ r. ⌜ now r ≡ take n (now (bytes .entry)) ⌝ }
 {
     if bytes.len() <= n {

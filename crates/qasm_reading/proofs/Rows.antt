@@ -37,7 +37,7 @@ module _ (s : List ℕ) (room : ℕ) where
     pub judged-as : (p : Parsed) → parsed s ≡ p → judgedReading s room ≡ andThen (judgedStatements s p) (judgedList p room)
     judged-as p e = judged-short ∙ ap (λ p. andThen (judgedStatements s p) (judgedList p room)) e
 
-    judged-good : (n : ℕ) (gates : List ℕ) → CircuitText s n gates → length gates ≤ room → judgedReading s room ≡ Accepted
+    pub judged-good : (n : ℕ) (gates : List ℕ) → CircuitText s n gates → length gates ≤ room → judgedReading s room ≡ Accepted
     judged-good n gates c l = judged-as (circuit n gates) (circuit-parsed s n gates c) ∙ rw (le-leb (length gates) room l)
 
     judged-over : (n : ℕ) (gates : List ℕ) → CircuitText s n gates → room < length gates → judgedReading s room ≡ Room

@@ -39,7 +39,7 @@ module _ (n : ℕ) (couplers couplers′ gates gates′ : List ℕ) (p : Passed 
   SameLaid s t = laid s ≡ laid′ t
 
   -- jobs of equal meaning get the same records
-  same-records : AlikeJob n gates gates′ → jobRecords n couplers gates ≡ jobRecords n couplers′ gates′
+  pub same-records : AlikeJob n gates gates′ → jobRecords n couplers gates ≡ jobRecords n couplers′ gates′
   unfolding jobRecords
   same-records m =
       ap₂ weave

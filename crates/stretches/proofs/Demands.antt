@@ -180,7 +180,7 @@ module _ (n : ℕ) (couplers : List ℕ) where
     laid-phase = omega (arith, ap (phasesOf n) (laid-stretches n couplers gates p), silent drawn (p .accepts), phases-small n couplers gates drawn)
 
     -- all of demand 2
-    laid-faithful : FaithfulJob n couplers (jobPhase n gates) gates (jobRecords n couplers gates)
+    pub laid-faithful : FaithfulJob n couplers (jobPhase n gates) gates (jobRecords n couplers gates)
     laid-faithful = record {
       same = record { alike = laid-alike; phase = laid-phase };
       shares = sharesOf drawn;

@@ -1,0 +1,171 @@
+-- Demands 2 and 3 from OpenQASM to OpenQASM, as theorems about texts. Assumes nothing.
+use mathlib.Core.Path.{_≡_, refl, sym, ap, ap₂, _∙_, subst}
+use mathlib.Core.Bool.{Bool, true, false, not}
+use mathlib.Core.List.{List, [], _∷_, _++_, map}
+use Prim.Native.Nat.{ℕ, _≤_, _<_}
+use native.Mathlib.Omega.{arith}
+use lib.Dec.{eqb, ltb}
+use lib.ListN.{length, getD, take}
+use borrow.Author.Tests.{le-ltb}
+use Rattle.sets.specs.Pick.{pick, both}
+use Rattle.gates.specs.declared.gate.Gate.{Gate}
+use Rattle.gates.specs.declared.gate.Gate.the-variants.{Cnot, Rotation, X, Bad}
+use Rattle.gates.specs.Layout.{gatesOf, gateOf, isBad, recordOf, Good}
+use Rattle.gates.specs.Hadamards.{isHadamard}
+use Rattle.gates.specs.All.{All}
+use Rattle.gates.proofs.Records.{gate-record}
+use Rattle.verdicts.specs.Verdicts.{numberOf, judgedQubits, isNeither, judgedDrawn}
+use Rattle.verdicts.proofs.Judged.{then-on}
+use Rattle.verdicts.proofs.Passing.{drawn-accepted}
+use Rattle.tallies.specs.Tally.{largest}
+use Rattle.laying.specs.Demands.{Island, SameCouplers}
+use Rattle.stretches.specs.Cut.{weave, Each}
+use Rattle.stretches.specs.Stretches.{stretchesOf, hadamardsOf}
+use Rattle.stretches.specs.Tests.{judgedStretches, judgedBound, jobBound, jobVerdict}
+use Rattle.stretches.specs.Asked.{Accepts}
+use Rattle.stretches.specs.Laid.{stretchRecords, jobRecords, jobPhase}
+use Rattle.stretches.specs.Meaning.{AlikeJob}
+use Rattle.stretches.specs.Demands.{FaithfulJob, AgreeJob, recordsOn}
+use Rattle.stretches.proofs.Eachs.{each-mapped, each-map, at-each}
+use Rattle.stretches.proofs.Passing.{Passed, job-passed}
+use Rattle.stretches.proofs.Demands.{laid-faithful, demand-3, all-hadamards}
+use Rattle.stretches.proofs.Archive.{same-records}
+use Rattle.laying.specs.Verdict.{circuitOf}
+use Rattle.laying.proofs.Demands.{demand-2}
+use Rattle.reading.specs.Limits.{mostBytes}
+use Rattle.reading.specs.Readings.{couplersIn}
+use Rattle.reading.specs.Listing.{CouplersText, parsedCouplers, judgedCouplersText}
+use Rattle.reading.proofs.Sizes.{couplers-least}
+use Rattle.reading.proofs.Listings.{couplers-parsed}
+use Rattle.text.proofs.Rows.{couplers-rows}
+use Rattle.qasm_reading.specs.Parsing.{circuit, parsed}
+use Rattle.qasm_reading.specs.Readings.{jobIn, gatesIn, judgedReading, judgedStatements, judgedList}
+use Rattle.qasm_reading.specs.Texts.{CircuitText}
+use Rattle.qasm_reading.proofs.Parsed.{circuit-parsed, circuit-once}
+use Rattle.qasm_reading.proofs.Rows.{judged-good}
+use Rattle.qasm_reading.proofs.Enough.{gates-few}
+use Rattle.qasm_lines.specs.Spelling.{circuitText}
+use Rattle.qasm_text.proofs.RoundTrip.{good-circuit}
+use Rattle.console.specs.Printed.{mostCouplerLines, mostGateLines, unless}
+use Rattle.console.proofs.Choosing.{unless-passed}
+use Rattle.qasm_console.specs.Printed.{laidCircuit, laidDrawing, laidTexts}
+use Rattle.qasm_console.specs.Demands.{Drawn, Kept}
+
+-- ---- what is laid can be written
+
+abbrev Fine : ℕ → ℕ → Type 0
+Fine n x = isNeither n x ≡ false
+
+good-not-bad : (n : ℕ) (g : Gate) → Good n g → isBad g ≡ false
+unfolding Good
+good-not-bad n (Cnot c t) h = refl
+good-not-bad n (Rotation q a) h = refl
+good-not-bad n (X q) h = refl
+good-not-bad n Bad h = absurd h
+
+gate-fine : (n : ℕ) (g : Gate) → n ≤ 256 → Good n g → Fine n (recordOf g)
+unfolding isNeither
+gate-fine n g few good = rw (gate-record n g few good, good-not-bad n g good)
+
+hadamard-fine : (n x : ℕ) → isHadamard n x ≡ true → Fine n x
+unfolding isNeither
+hadamard-fine n x e = rw e (go (isBad (gateOf n x)))
+  where
+    go : (t : Bool) → both t false ≡ false
+    go true = refl
+    go false = refl
+
+each-append : (P : ℕ → Type 0) (xs ys : List ℕ) → Each P xs → Each P ys → Each P (xs ++ ys)
+unfolding Each
+each-append P [] ys a b = b
+each-append P (x ∷ xs) ys a b = (a .0, each-append P xs ys (a .1) b)
+
+each-woven : (P : ℕ → Type 0) (ss : List (List ℕ)) (hs : List ℕ) → Each (Each P) ss → Each P hs → Each P (weave ss hs)
+unfolding weave Each
+each-woven P [] hs a b = tt
+each-woven P (s ∷ ss) [] a b = a .0
+each-woven P (s ∷ ss) (h ∷ hs) a b = each-append P s (h ∷ weave ss hs) (a .0) (b .0, each-woven P ss hs (a .1) (b .1))
+
+gates-fine : (n : ℕ) (gs : List Gate) → n ≤ 256 → All (Good n) gs → Each (Fine n) (map recordOf gs)
+unfolding Each All
+gates-fine n [] few a = tt
+gates-fine n (g ∷ gs) few a = (gate-fine n g few (a .0), gates-fine n gs few (a .1))
+
+module _ (n : ℕ) (couplers gates : List ℕ) (p : Passed n couplers gates) where
+  laid-fine : Each (Fine n) (jobRecords n couplers gates)
+  unfolding jobRecords
+  laid-fine =
+      each-woven (Fine n) (map (stretchRecords n couplers) (stretchesOf n gates)) (hadamardsOf n gates)
+      (each-mapped (Accepts n couplers) (Each (Fine n)) (stretchRecords n couplers) (λ s a. gates-fine n (circuitOf n couplers s) (omega (arith, p .few)) (demand-2 n couplers s largest a .good)) (stretchesOf n gates) (p .accepts))
+      (each-map (λ x. isHadamard n x ≡ true) (Fine n) (hadamard-fine n) (hadamardsOf n gates) (all-hadamards n couplers gates p))
+
+  -- the text of what is laid is that of a circuit, however long
+  laid-text : CircuitText (circuitText n (jobRecords n couplers gates)) n (jobRecords n couplers gates)
+  laid-text =
+      good-circuit n (jobRecords n couplers gates) (p .qubits)
+      (ap numberOf (drawn-accepted n (jobRecords n couplers gates) (at-each (Fine n) (jobRecords n couplers gates) laid-fine)))
+
+-- ---- what is printed for a text
+
+-- a job accepted by tests 1 to 7 is accepted by all where B records are lent
+at-bound : (n : ℕ) (couplers gates : List ℕ) → numberOf (judgedStretches n couplers gates) ≡ 0 → numberOf (jobVerdict n couplers gates (jobBound n gates)) ≡ 0
+unfolding jobVerdict judgedBound
+at-bound n couplers gates z = sym (ap numberOf (then-on (judgedStretches n couplers gates) (judgedBound n gates (jobBound n gates)) z)) ∙ rw (le-ltb (jobBound n gates) (jobBound n gates) (omega arith))
+
+module _ (couplers t : List ℕ) (n : ℕ) (gates : List ℕ) (d : Drawn couplers t n gates) where
+  found : parsed t ≡ circuit n gates
+  found = circuit-parsed t n gates (d .text)
+
+  few : length gates ≤ mostGateLines
+  few = omega (arith, gates-few t (d .short), ap (λ r. length (gatesIn r)) found)
+
+  pub printed : laidDrawing couplers t ≡ circuitText n (jobRecords n couplers gates)
+  unfolding laidDrawing laidCircuit
+  printed =
+      sym (unless-passed (judgedReading t mostGateLines) (laidCircuit (jobIn (parsed t) .qubits) couplers (gatesIn (parsed t))) (ap numberOf (judged-good t mostGateLines (d .short) n gates (d .text) few)))
+      ∙ ap (λ r. laidCircuit (jobIn r .qubits) couplers (gatesIn r)) found ∙ sym (unless-passed (judgedStretches n couplers gates) (circuitText n (jobRecords n couplers gates)) (d .accepted))
+
+  passed : Passed n couplers gates
+  passed = job-passed n couplers gates (d .accepted)
+
+  -- what is printed reads as the records laid, and as nothing else
+  pub printed-text : CircuitText (laidDrawing couplers t) n (jobRecords n couplers gates)
+  printed-text = subst (λ u. CircuitText u n (jobRecords n couplers gates)) (sym printed) (laid-text n couplers gates passed)
+
+  pub printed-only : (m : ℕ) (laid : List ℕ) → CircuitText (laidDrawing couplers t) m laid → (m ≡ n) × (laid ≡ jobRecords n couplers gates)
+  printed-only m laid c = circuit-once (laidDrawing couplers t) m n laid (jobRecords n couplers gates) c printed-text
+
+  -- THEOREM, demand 2: what is printed is the text of a circuit with the meaning of the one that was read
+  pub demand-2-texts : Kept couplers t n gates (jobRecords n couplers gates)
+  demand-2-texts = record { text = printed-text; faithful = laid-faithful n couplers gates passed }
+
+-- ---- two texts
+
+module _ (couplers couplers′ t t′ : List ℕ) (n m : ℕ) (gates gates′ : List ℕ) (d : Drawn couplers t n gates) (e : Drawn couplers′ t′ m gates′) where
+  -- THEOREM, demand 3: two texts, in any layout, with any names, whose circuits agree on an island: the circuits that are printed for them have the same gates there, in order
+  pub demand-3-texts : (S q r : ℕ) → Island n couplers S q → Island m couplers′ S r → AgreeJob S n m couplers couplers′ gates gates′
+      → (laid laid′ : List ℕ) → CircuitText (laidDrawing couplers t) n laid → CircuitText (laidDrawing couplers′ t′) m laid′ → recordsOn n S laid ≡ recordsOn m S laid′
+  demand-3-texts S q r i j agree laid laid′ c c′ =
+      ap (recordsOn n S) (printed-only couplers t n gates d n laid c .1)
+      ∙ demand-3 n m couplers couplers′ gates gates′ (jobBound n gates) (jobBound m gates′) (at-bound n couplers gates (d .accepted)) (at-bound m couplers′ gates′ (e .accepted)) S q r i j agree .1
+      ∙ sym (ap (recordsOn m S) (printed-only couplers′ t′ m gates′ e m laid′ c′ .1))
+
+-- THEOREM: on the same chip with the same meaning, the common phase aside, the same bytes
+pub same-bytes : (couplers couplers′ t t′ : List ℕ) (n : ℕ) (gates gates′ : List ℕ) → Drawn couplers t n gates → Drawn couplers′ t′ n gates′ → SameCouplers couplers couplers′
+    → AlikeJob n gates gates′ → laidDrawing couplers t ≡ laidDrawing couplers′ t′
+same-bytes couplers couplers′ t t′ n gates gates′ d e chip alike =
+    printed couplers t n gates d
+    ∙ ap (circuitText n) (same-records n couplers couplers′ gates gates′ (job-passed n couplers gates (d .accepted)) (job-passed n couplers′ gates′ (e .accepted)) chip alike)
+    ∙ sym (printed couplers′ t′ n gates′ e)
+
+-- ---- the program, which reads the couplers from a text too
+
+-- a couplers' text is read as its couplers, so that all that is said above holds of what the program prints
+pub listed : (s t : List ℕ) (c : CouplersText s) → length s ≤ mostBytes → laidTexts s t ≡ laidDrawing (c .couplers) t
+unfolding laidTexts
+listed s t c short =
+    sym (unless-passed (judgedCouplersText s mostCouplerLines) (laidDrawing (couplersIn (parsedCouplers s)) t) (couplers-rows s mostCouplerLines .row-0 .exactly .1 (short, (c, held))))
+    ∙ ap (λ p. laidDrawing (couplersIn p) t) (couplers-parsed s c)
+  where
+    held : (i : CouplersText s) → length (i .couplers) ≤ mostCouplerLines
+    held i = omega (arith, couplers-least (i .couplers) (i .fit), ap length (i .same))

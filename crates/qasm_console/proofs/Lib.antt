@@ -1,0 +1,11 @@
+pub mod Fronts
+pub mod Sizes
+pub mod Whole
+pub mod Partly
+pub mod Reading
+pub mod Beginning
+pub mod Lending
+pub mod InParts
+pub mod Enough
+pub mod Demands
+pub mod Examples

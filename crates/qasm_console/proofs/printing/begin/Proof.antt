@@ -1,0 +1,51 @@
+-- `qasm_console::printing::begin` meets its contract. Assumes nothing.
+use mathlib.Core.Path.{refl}
+use Rattle.qasm_console.proofs.Beginning.{circuit-same, begun-read, begun-unread, begins-same}
+use borrow.Author.Needs.{needs}
+use Rattle.qasm_console.proofs.printing.begin.Statement.{statement}
+use Rattle.qasm_console.proofs.printing.begin.Tie as tie
+
+front-requires : tie.Need-front-requires
+front-requires c κs = search needs
+
+front-requires-2 : tie.Need-front-requires-2
+front-requires-2 c κs = search needs
+
+read-couplers-requires : tie.Need-read-couplers-requires
+read-couplers-requires c κs = search needs
+
+enum-known-job : tie.Need-enum-known-job
+enum-known-job c = search needs
+
+first-requires : tie.Need-first-requires
+first-requires c κs = search needs
+
+begin-drawing-requires : tie.Need-begin-drawing-requires
+begin-drawing-requires c κs = search needs
+
+enum-known-verdict : tie.Need-enum-known-verdict
+enum-known-verdict c = search needs
+
+print-refusal-requires : tie.Need-print-refusal-requires
+print-refusal-requires c κs = search needs
+
+returns : tie.Need-returns
+returns c = ((c .before .before .before .before .before .before .before .before .before .before .before .before .front-arg2 .given .0, c .before .before .before .before .before .before .before .before .before .before .before .before .before .before .front-arg .given .0), begins-same (c .before .before .before .before .before .before .before .before .before .before .before .front2 .ensures) (c .before .before .before .before .before .before .before .before .before .before .before .before .before .front .ensures) (begun-read _ _ _ _ _ _ _ _ (c .before .before .before .before .before .before .before .before .before .before .read-couplers-arg .given .0 .1) _ (c .before .before .before .before .before .before .before .before .before .read-couplers .ensures .0) (c .before .before .before .before .before .before .before .before .before .read-couplers .ensures .1) _ _ (c .before .before .before .before .before .before .before .job .given .1) (circuit-same (c .before .before .before .first .ensures) refl (c .begin-drawing .ensures))))
+
+returns-2 : tie.Need-returns-2
+returns-2 c = ((c .before .before .before .before .before .before .before .before .front-arg2 .given .0, c .before .before .before .before .before .before .before .before .before .before .front-arg .given .0), begins-same (c .before .before .before .before .before .before .before .front2 .ensures) (c .before .before .before .before .before .before .before .before .before .front .ensures) (begun-unread _ _ _ _ _ _ _ _ (c .before .before .before .before .before .before .read-couplers-arg .given .0 .1) _ (c .before .before .before .before .before .read-couplers .ensures .0) (c .before .before .before .before .before .read-couplers .ensures .1) _ _ (c .before .before .before .verdict .given .1) refl (c .print-refusal .ensures)))
+
+pub begin-spec : {M : Type 1} → statement M
+begin-spec =
+    tie.close
+    (tie.spec
+    front-requires
+    front-requires-2
+    read-couplers-requires
+    enum-known-job
+    first-requires
+    begin-drawing-requires
+    enum-known-verdict
+    print-refusal-requires
+    returns
+    returns-2)

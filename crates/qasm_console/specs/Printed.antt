@@ -1,0 +1,41 @@
+-- What the program `qasm` prints for a couplers' text and a circuit's, and the memory that it lends (request E1).
+use mathlib.Core.Path.{_≡_}
+use mathlib.Core.List.{List}
+use Prim.Native.Nat.{ℕ, _+_, _*_}
+use lib.ListN.{length}
+use Rattle.tallies.specs.Tally.{largest}
+use Rattle.stretches.specs.Tests.{judgedStretches}
+use Rattle.stretches.specs.Laid.{jobRecords}
+use Rattle.lines.specs.Lent.{onto}
+use Rattle.reading.specs.Readings.{couplersIn}
+use Rattle.reading.specs.Listing.{parsedCouplers, judgedCouplersText}
+use Rattle.qasm_lines.specs.Spelling.{circuitText}
+use Rattle.qasm_reading.specs.Parsing.{parsed}
+use Rattle.qasm_reading.specs.Readings.{gatesIn, jobIn, judgedReading}
+use Rattle.console.specs.Printed.{mostCouplerLines, mostGateLines, unless}
+
+-- ---- what is lent
+
+-- 26 bytes for each gate of the largest stretch and for the Hadamard behind it, as in `u1(65535*pi/32768) q[19];` and LF; the front has fewer than two of them
+abbrev pub mostShown : ℕ
+mostShown = 26 * (largest + 1)
+
+-- s is printed whole into the memory that is lent: r bytes at its front; what lies behind them stays
+pub record Prints (s out : List ℕ) (r : ℕ) (out′ : List ℕ) : Type 0 where
+  pub lent : length out ≡ mostShown
+  pub bytes : r ≡ length s
+  pub memory : out′ ≡ onto s out
+
+-- ---- what is printed
+
+-- a circuit of n qubits, laid on these couplers: the same tests 1 to 7 as a job's
+unfoldable pub laidCircuit : ℕ → List ℕ → List ℕ → List ℕ
+laidCircuit n couplers gates = unless (judgedStretches n couplers gates) (circuitText n (jobRecords n couplers gates))
+
+-- the text t of a circuit
+unfoldable pub laidDrawing : List ℕ → List ℕ → List ℕ
+laidDrawing couplers t = unless (judgedReading t mostGateLines) (laidCircuit (jobIn (parsed t) .qubits) couplers (gatesIn (parsed t)))
+
+-- the couplers' text s is read first: its 11 and 10 come before everything that is said of the circuit
+unfoldable pub laidTexts : List ℕ → List ℕ → List ℕ
+laidTexts s t = unless (judgedCouplersText s mostCouplerLines) (laidDrawing (couplersIn (parsedCouplers s)) t)
