@@ -8,3 +8,4 @@ pub mod Rows
 pub mod Enough
 pub mod Standing
 pub mod Examples
+pub mod Exactly

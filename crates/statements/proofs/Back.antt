@@ -10,7 +10,7 @@ use Rattle.gates.specs.Layout.{packed}
 use Rattle.angles.specs.Units.{isOver, unitsOf}
 use Rattle.lines.specs.Lines.{digits}
 use Rattle.words.specs.Words.{Word, bodies}
-use Rattle.words.specs.Taking.{Got, taken, numberOf, named, front, orElse}
+use Rattle.words.specs.Taking.{Got, taken, numbered, named, front, orElse}
 use Rattle.statements.specs.Spelling.{mark, pi, cx, u1}
 use Rattle.statements.specs.Statements.{manyOf, timesOf, dividedOf, overOf, multipleOf, angleOf, qubitOf, cnotOf, tailOf, openingOf, turnOf, singleOf, otherOf, gateOf}
 use Rattle.statements.specs.Forms.{Times, nought, once, many, Over, plain, over, Form, cnot, turn, xgate, hadamard, GoodTimes, GoodOver, GoodForm, timesWords, overWords, minusWords, qubitWords, formWords, timesIn, overIn, recordIn}
@@ -29,7 +29,7 @@ times-back o {bs} {t} h = go (taken pi o) h
     second : (p : Option (List Word)) → Leads (orElse p (manyOf o) (record { value = 0; rest = taken (mark 48) o }) .rest) bs t → TimesBack o (orElse p (manyOf o) (record { value = 0; rest = taken (mark 48) o }) .value) bs t
     second none h = record { times = nought; good = tt; value = refl; leads = taken-back (mark 48) o h }
     second (some u) h = record {
-      times = many (numberOf 65535 o .value);
+      times = many (numbered 65535 o .value);
       good = number-most 65535 o;
       value = refl;
       leads = number-back-word 65535 o (taken-back (mark 42) _ (taken-back pi _ h));
@@ -50,13 +50,13 @@ over-back : (o : Option (List Word)) {bs : List (List ℕ)} {t : List Word} → 
 unfolding overOf orElse overWords overIn GoodOver dividedOf
 over-back o {bs} {t} h = go (dividedOf o .rest) h
   where
-    part : (u : Bool) → isOver (numberOf 65535 (taken (mark 47) o) .value) ≡ u → Leads (pick u (numberOf 65535 (taken (mark 47) o) .rest) none) bs t → OverBack o (dividedOf o .value) bs t
+    part : (u : Bool) → isOver (numbered 65535 (taken (mark 47) o) .value) ≡ u → Leads (pick u (numbered 65535 (taken (mark 47) o) .rest) none) bs t → OverBack o (dividedOf o .value) bs t
     part true e h = record { by = over (dividedOf o .value); good = e; value = refl; leads = taken-back (mark 47) o (number-back-word 65535 (taken (mark 47) o) h) }
     part false e h = leads-none h
 
     go : (p : Option (List Word)) → Leads (orElse p (dividedOf o) (record { value = 1; rest = o }) .rest) bs t → OverBack o (orElse p (dividedOf o) (record { value = 1; rest = o }) .value) bs t
     go none h = record { by = plain; good = tt; value = refl; leads = h }
-    go (some u) h = part (isOver (numberOf 65535 (taken (mark 47) o) .value)) refl h
+    go (some u) h = part (isOver (numbered 65535 (taken (mark 47) o) .value)) refl h
 
 record AngleBack (o : Option (List Word)) (v : ℕ) (bs : List (List ℕ)) (t : List Word) : Type 0 where
   minus : Bool

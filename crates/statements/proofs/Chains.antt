@@ -14,7 +14,7 @@ use Rattle.angles.proofs.Laws.{units-lt}
 use Rattle.lines.specs.Lines.{digits}
 use Rattle.lines.proofs.Layouts.{packed-is}
 use Rattle.words.specs.Words.{Word, bodies}
-use Rattle.words.specs.Taking.{Got, taken, numberOf, named, front, orElse}
+use Rattle.words.specs.Taking.{Got, taken, numbered, named, front, orElse}
 use Rattle.words.proofs.Steps.{both-true}
 use Rattle.statements.specs.Spelling.{openqasm, two, include, qelib, qreg, cx, u1, pi, mark}
 use Rattle.statements.specs.Statements.{versionOf, includeOf, nameOf, registerOf, manyOf, timesOf, dividedOf, overOf, multipleOf, angleOf, qubitOf, cnotOf, tailOf, openingOf, turnOf, singleOf, otherOf, gateOf}
@@ -32,7 +32,7 @@ unfolding orElse
 or-second g h e = rw e
 
 module _ (o : O) where
-  pub many-chain : {K : Got} {P Q : O} → K ≡ numberOf 65535 o → P ≡ taken (mark 42) (K .rest) → Q ≡ taken pi P → record { value = K .value; rest = Q } ≡ manyOf o
+  pub many-chain : {K : Got} {P Q : O} → K ≡ numbered 65535 o → P ≡ taken (mark 42) (K .rest) → Q ≡ taken pi P → record { value = K .value; rest = Q } ≡ manyOf o
   unfolding manyOf
   many-chain k p q = rw (q, p, k)
 
@@ -48,13 +48,13 @@ module _ (o : O) where
   unfolding timesOf
   times-zero p e m f z = ap (λ x. record { value = 0; rest = x }) z ∙ or-second _ _ (sym (ap (λ g. g .rest) m) ∙ f) ∙ or-second _ _ (sym p ∙ e)
 
-  pub divided-good : {P : O} {D : Got} → P ≡ taken (mark 47) o → D ≡ numberOf 65535 P → isOver (D .value) ≡ true → D ≡ dividedOf o
+  pub divided-good : {P : O} {D : Got} → P ≡ taken (mark 47) o → D ≡ numbered 65535 P → isOver (D .value) ≡ true → D ≡ dividedOf o
   unfolding dividedOf
-  divided-good p d h = let w : isOver (numberOf 65535 (taken (mark 47) o) .value) ≡ true = rw (← p, ← d) h in d ∙ rw (p, w)
+  divided-good p d h = let w : isOver (numbered 65535 (taken (mark 47) o) .value) ≡ true = rw (← p, ← d) h in d ∙ rw (p, w)
 
-  pub divided-bad : {P : O} {D : Got} → P ≡ taken (mark 47) o → D ≡ numberOf 65535 P → isOver (D .value) ≡ false → record { value = D .value; rest = none } ≡ dividedOf o
+  pub divided-bad : {P : O} {D : Got} → P ≡ taken (mark 47) o → D ≡ numbered 65535 P → isOver (D .value) ≡ false → record { value = D .value; rest = none } ≡ dividedOf o
   unfolding dividedOf
-  divided-bad p d h = let w : isOver (numberOf 65535 (taken (mark 47) o) .value) ≡ false = rw (← p, ← d) h in rw (d, p, w)
+  divided-bad p d h = let w : isOver (numbered 65535 (taken (mark 47) o) .value) ≡ false = rw (← p, ← d) h in rw (d, p, w)
 
   pub over-there : {D : Got} {t : List Word} → D ≡ dividedOf o → D .rest ≡ some t → D ≡ overOf o
   unfolding overOf
@@ -96,7 +96,7 @@ module _ (o : O) where
   unfolding openingOf
   opening-chain p q = rw (q, p)
 
-  pub register-chain : {P Q R S T : O} {N : Got} → P ≡ taken qreg o → Q ≡ named P → R ≡ taken (mark 91) Q → N ≡ numberOf 255 R → S ≡ taken (mark 93) (N .rest) → T ≡ taken (mark 59) S
+  pub register-chain : {P Q R S T : O} {N : Got} → P ≡ taken qreg o → Q ≡ named P → R ≡ taken (mark 91) Q → N ≡ numbered 255 R → S ≡ taken (mark 93) (N .rest) → T ≡ taken (mark 59) S
       → record { value = N .value; rest = T } ≡ registerOf o
   unfolding registerOf
   register-chain p q r n s t = rw (t, s, n, r, q, p)
@@ -106,7 +106,7 @@ module _ (o : O) where
   name-chain p = rw p
 
   module _ (name : List ℕ) where
-    pub qubit-chain : {P Q E : O} {A : Got} → P ≡ taken name o → Q ≡ taken (mark 91) P → A ≡ numberOf 255 Q → E ≡ taken (mark 93) (A .rest) → record { value = A .value; rest = E } ≡ qubitOf name o
+    pub qubit-chain : {P Q E : O} {A : Got} → P ≡ taken name o → Q ≡ taken (mark 91) P → A ≡ numbered 255 Q → E ≡ taken (mark 93) (A .rest) → record { value = A .value; rest = E } ≡ qubitOf name o
     unfolding qubitOf
     qubit-chain p q a e = rw (e, a, q, p)
 
@@ -160,10 +160,10 @@ module _ (o : O) where
       other-hadamard f h = h ∙ or-second _ _ (sym (ap (λ g. g .rest) x) ∙ f) ∙ or-second _ _ (sym (ap (λ g. g .rest) r) ∙ e)
 
 -- where the register's statement was read, its name was
-pub register-there : {Q R S T : O} {N : Got} {t : List Word} → R ≡ taken (mark 91) Q → N ≡ numberOf 255 R → S ≡ taken (mark 93) (N .rest) → T ≡ taken (mark 59) S → T ≡ some t
-    → Leads Q (mark 91 ∷ digits (numberOf 255 R .value) ∷ mark 93 ∷ mark 59 ∷ []) t
+pub register-there : {Q R S T : O} {N : Got} {t : List Word} → R ≡ taken (mark 91) Q → N ≡ numbered 255 R → S ≡ taken (mark 93) (N .rest) → T ≡ taken (mark 59) S → T ≡ some t
+    → Leads Q (mark 91 ∷ digits (numbered 255 R .value) ∷ mark 93 ∷ mark 59 ∷ []) t
 register-there {Q} {R} {S} {T} {N} {t} r n s e h =
     let a : Leads (taken (mark 59) S) [] t = record { words = []; same = sym e ∙ h; spelt = refl } in
     let b : Leads (taken (mark 93) (N .rest)) (mark 59 ∷ []) t = subst (λ o. Leads o (mark 59 ∷ []) t) s (taken-back (mark 59) S a) in
-    let d : Leads (numberOf 255 R .rest) (mark 93 ∷ mark 59 ∷ []) t = subst (λ (g : Got). Leads (g .rest) (mark 93 ∷ mark 59 ∷ []) t) n (taken-back (mark 93) (N .rest) b) in
-    taken-back (mark 91) Q (subst (λ o. Leads o (digits (numberOf 255 R .value) ∷ mark 93 ∷ mark 59 ∷ []) t) r (number-back-word 255 R d))
+    let d : Leads (numbered 255 R .rest) (mark 93 ∷ mark 59 ∷ []) t = subst (λ (g : Got). Leads (g .rest) (mark 93 ∷ mark 59 ∷ []) t) n (taken-back (mark 93) (N .rest) b) in
+    taken-back (mark 91) Q (subst (λ o. Leads o (digits (numbered 255 R .value) ∷ mark 93 ∷ mark 59 ∷ []) t) r (number-back-word 255 R d))

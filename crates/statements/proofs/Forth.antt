@@ -12,7 +12,7 @@ use Rattle.lines.specs.Lines.{digits}
 use Rattle.spots.specs.Numbers.{digitOf}
 use Rattle.words.specs.Bytes.{same}
 use Rattle.words.specs.Words.{Word, bodies}
-use Rattle.words.specs.Taking.{Got, taken, numberOf, named, front, orElse}
+use Rattle.words.specs.Taking.{Got, taken, numbered, named, front, orElse}
 use Rattle.statements.specs.Spelling.{mark, pi, cx, u1}
 use Rattle.statements.specs.Statements.{manyOf, timesOf, dividedOf, overOf, multipleOf, angleOf, qubitOf, cnotOf, tailOf, openingOf, turnOf, singleOf, otherOf, gateOf}
 use Rattle.statements.specs.Forms.{Times, nought, once, many, Over, plain, over, Form, cnot, turn, xgate, hadamard, GoodTimes, GoodOver, GoodForm, timesWords, overWords, minusWords, qubitWords, formWords, timesIn, overIn, recordIn}
@@ -55,8 +55,8 @@ pub tail-forth : (name : List ℕ) (a : ℕ) (f : ℕ → ℕ) (bs : List (List 
 unfolding tailOf qubitOf qubitWords
 tail-forth name a f bs h = rw (taken-forth, taken-forth, taken-forth, number-word _ _ 255 a h, taken-forth, taken-forth)
 
-zero-word : (most l : ℕ) (ws : List Word) → numberOf most (some (record { bytes = mark 48; left = l } ∷ ws)) ≡ record { value = 0; rest = some ws }
-zero-word most l ws = ap (λ b. numberOf most (some (record { bytes = b; left = l } ∷ ws))) (sym (digits-small 0 (omega arith))) ∙ number-word l ws most 0 (omega arith)
+zero-word : (most l : ℕ) (ws : List Word) → numbered most (some (record { bytes = mark 48; left = l } ∷ ws)) ≡ record { value = 0; rest = some ws }
+zero-word most l ws = ap (λ b. numbered most (some (record { bytes = b; left = l } ∷ ws))) (sym (digits-small 0 (omega arith))) ∙ number-word l ws most 0 (omega arith)
 
 -- k, where no `*` follows a `0`
 times-forth : (t : Times) (f : ℕ → ℕ) (b : List ℕ) (bs : List (List ℕ)) → GoodTimes t → same b (mark 42) ≡ false
@@ -73,7 +73,7 @@ over-most d h =
     omega (arith, p .same, pow-le-pow-right two (p .most))
 
 over-none : (f : ℕ → ℕ) (bs : List (List ℕ)) → overOf (some (tag f (mark 41 ∷ bs))) ≡ record { value = 1; rest = some (tag f (mark 41 ∷ bs)) }
-unfolding overOf dividedOf taken same orElse isOver numberOf
+unfolding overOf dividedOf taken same orElse isOver numbered
 over-none f bs = refl
 
 over-some : (d : ℕ) (f : ℕ → ℕ) (bs : List (List ℕ)) → isOver d ≡ true → overOf (some (tag f (mark 47 ∷ digits d ∷ bs))) ≡ record { value = d; rest = some (tag (later 2 f) bs) }
@@ -134,15 +134,15 @@ single-forth name byte kind a f bs h = rw (taken-forth, taken-forth, taken-forth
 -- where another word stands in front, neither a CNOT, nor a rotation, nor a gate of that byte is read
 module _ (name : List ℕ) (b : List ℕ) (ws : List Word) (l : ℕ) where
   no-cnot : same b cx ≡ false → cnotOf name (some (record { bytes = b; left = l } ∷ ws)) .rest ≡ none
-  unfolding cnotOf taken qubitOf numberOf
+  unfolding cnotOf taken qubitOf numbered
   no-cnot e = rw e
 
   no-turn : same b u1 ≡ false → turnOf name (some (record { bytes = b; left = l } ∷ ws)) .rest ≡ none
-  unfolding turnOf openingOf taken tailOf qubitOf numberOf angleOf multipleOf overOf timesOf manyOf dividedOf orElse isOver
+  unfolding turnOf openingOf taken tailOf qubitOf numbered angleOf multipleOf overOf timesOf manyOf dividedOf orElse isOver
   no-turn e = rw e
 
   no-single : (byte kind : ℕ) → same b (mark byte) ≡ false → singleOf byte kind name (some (record { bytes = b; left = l } ∷ ws)) .rest ≡ none
-  unfolding singleOf taken qubitOf numberOf
+  unfolding singleOf taken qubitOf numbered
   no-single byte kind e = rw e
 
 turn-first : (name : List ℕ) (m : Bool) (t : Times) (o : Over) (a : ℕ) (f : ℕ → ℕ) (bs : List (List ℕ)) → cnotOf name (some (tag f (formWords name (turn m t o a) ++ bs))) .rest ≡ none

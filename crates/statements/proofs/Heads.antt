@@ -8,7 +8,7 @@ use native.Mathlib.Omega.{arith}
 use lib.ListN.{length}
 use Rattle.words.specs.Bytes.{same}
 use Rattle.words.specs.Words.{Word, bodies}
-use Rattle.words.specs.Taking.{Got, taken, numberOf, named, front, isName}
+use Rattle.words.specs.Taking.{Got, taken, numbered, named, front, isName}
 use Rattle.statements.specs.Spelling.{openqasm, two, include, qelib, qreg, mark}
 use Rattle.statements.specs.Statements.{versionOf, includeOf, nameOf, registerOf}
 use Rattle.statements.specs.Forms.{versionWords, includeWords, registerWords}
@@ -46,7 +46,7 @@ pub record Declares (ws t : List Word) : Type 0 where
 pub register-read : (ws t : List Word) → registerOf (some ws) .rest ≡ some t → Declares ws t
 unfolding registerOf nameOf registerWords
 register-read ws t e =
-    let r = numberOf 255 (taken (mark 91) (named (taken qreg (some ws)))) in
+    let r = numbered 255 (taken (mark 91) (named (taken qreg (some ws)))) in
     let a = named-back (taken qreg (some ws)) (taken-back (mark 91) _ (number-back-word 255 _ (taken-back (mark 93) (r .rest) (taken-back (mark 59) _ (done e))))) in
     record { stood = stood (taken-back qreg (some ws) (a .0)); named = a .1; few = number-most 255 _ }
 

@@ -15,7 +15,7 @@ use Rattle.spots.specs.Numbers.{readNumber, digitOf}
 use Rattle.spots.proofs.Numbers.{never, number-back, number-forth, number-le}
 use Rattle.words.specs.Bytes.{same}
 use Rattle.words.specs.Words.{Word, bodies}
-use Rattle.words.specs.Taking.{Got, taken, behind, numberOf, isName, named, front}
+use Rattle.words.specs.Taking.{Got, taken, behind, numbered, isName, named, front}
 
 -- ---- the same words
 
@@ -80,8 +80,8 @@ module _ (l : ℕ) (ws : List Word) where
   unfolding taken
   taken-digits v x b h = rw (digits-other v x b h)
 
-  pub number-word : (most v : ℕ) → v ≤ most → numberOf most (some (record { bytes = digits v; left = l } ∷ ws)) ≡ record { value = v; rest = some ws }
-  unfolding numberOf digitOf
+  pub number-word : (most v : ℕ) → v ≤ most → numbered most (some (record { bytes = digits v; left = l } ∷ ws)) ≡ record { value = v; rest = some ws }
+  unfolding numbered digitOf
   number-word most v h =
       let e : readNumber most (some (digits v)) ≡ record { value = v; rest = some [] } = ap (λ b. readNumber most (some b)) (sym (append-nil (digits v))) ∙ number-forth most v [] h refl in
       rw e
@@ -117,8 +117,8 @@ taken-back b (some (w ∷ ws)) {bs} {t} h = go (same (w .bytes) b) refl h
     go true e h = leads-more w ws b (same-is (w .bytes) b e) h
     go false e h = leads-none h
 
-pub number-back-word : (most : ℕ) (o : Option (List Word)) {bs : List (List ℕ)} {t : List Word} → Leads (numberOf most o .rest) bs t → Leads o (digits (numberOf most o .value) ∷ bs) t
-unfolding numberOf
+pub number-back-word : (most : ℕ) (o : Option (List Word)) {bs : List (List ℕ)} {t : List Word} → Leads (numbered most o .rest) bs t → Leads o (digits (numbered most o .value) ∷ bs) t
+unfolding numbered
 number-back-word most none h = leads-none h
 number-back-word most (some []) h = leads-none h
 number-back-word most (some (w ∷ ws)) {bs} {t} h = go (readNumber most (some (w .bytes)) .rest) refl h
@@ -131,8 +131,8 @@ number-back-word most (some (w ∷ ws)) {bs} {t} h = go (readNumber most (some (
         leads-more w ws (digits (readNumber most (some (w .bytes)) .value)) (q ∙ append-nil _) h
     go (some (x ∷ r)) e h = leads-none h
 
-pub number-most : (most : ℕ) (o : Option (List Word)) → numberOf most o .value ≤ most
-unfolding numberOf
+pub number-most : (most : ℕ) (o : Option (List Word)) → numbered most o .value ≤ most
+unfolding numbered
 number-most most none = omega arith
 number-most most (some []) = omega arith
 number-most most (some (w ∷ ws)) = number-le most (some (w .bytes))

@@ -8,7 +8,7 @@ use Rattle.gates.specs.Layout.{packed}
 use Rattle.angles.specs.Units.{isOver, unitsOf}
 use Rattle.words.specs.Bytes.{same}
 use Rattle.words.specs.Words.{Word}
-use Rattle.words.specs.Taking.{Got, lost, taken, numberOf, front, named, orElse}
+use Rattle.words.specs.Taking.{Got, lost, taken, numbered, front, named, orElse}
 use Rattle.statements.specs.Limits.{mostQubit, mostTimes}
 use Rattle.statements.specs.Spelling.{openqasm, two, include, qelib, qreg, cx, u1, pi, mark}
 
@@ -28,7 +28,7 @@ nameOf o = front (taken qreg o)
 
 unfoldable pub registerOf : Option (List Word) → Got
 registerOf o =
-    let n = numberOf mostQubit (taken (mark 91) (named (taken qreg o))) in
+    let n = numbered mostQubit (taken (mark 91) (named (taken qreg o))) in
     record { value = n .value; rest = taken (mark 59) (taken (mark 93) (n .rest)) }
 
 -- ---- angles
@@ -36,7 +36,7 @@ registerOf o =
 -- "`k*pi`": k
 unfoldable pub manyOf : Option (List Word) → Got
 manyOf o =
-    let k = numberOf mostTimes o in
+    let k = numbered mostTimes o in
     record { value = k .value; rest = taken pi (taken (mark 42) (k .rest)) }
 
 -- "0, `pi` or `k*pi`": k
@@ -48,7 +48,7 @@ timesOf o =
 -- "over a power of two from 1 to 32768"
 unfoldable pub dividedOf : Option (List Word) → Got
 dividedOf o =
-    let d = numberOf mostTimes (taken (mark 47) o) in
+    let d = numbered mostTimes (taken (mark 47) o) in
     record { value = d .value; rest = pick (isOver (d .value)) (d .rest) none }
 
 -- "or these over": over 1 where nothing of that stands there
@@ -70,7 +70,7 @@ angleOf o = orElse (taken (mark 45) o) (multipleOf true (taken (mark 45) o)) (mu
 -- "NAME[a]"
 unfoldable pub qubitOf : List ℕ → Option (List Word) → Got
 qubitOf name o =
-    let a = numberOf mostQubit (taken (mark 91) (taken name o)) in
+    let a = numbered mostQubit (taken (mark 91) (taken name o)) in
     record { value = a .value; rest = taken (mark 93) (a .rest) }
 
 -- "cx NAME[a],NAME[b];"

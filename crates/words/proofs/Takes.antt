@@ -9,7 +9,7 @@ use lib.ListN.{length, getD, drop}
 use Rattle.spots.specs.Numbers.{readNumber}
 use Rattle.words.specs.Bytes.{same}
 use Rattle.words.specs.Words.{Word}
-use Rattle.words.specs.Taking.{Got, lost, taken, behind, numberOf, isName, named, front}
+use Rattle.words.specs.Taking.{Got, lost, taken, behind, numbered, isName, named, front}
 use Rattle.words.proofs.Steps.{at-cons, at-end}
 
 module _ (ws : List Word) (e : ws ≡ []) where
@@ -17,8 +17,8 @@ module _ (ws : List Word) (e : ws ≡ []) where
   unfolding taken
   taken-none b = rw e
 
-  pub number-none : (most : ℕ) → lost ≡ numberOf most (some ws)
-  unfolding numberOf
+  pub number-none : (most : ℕ) → lost ≡ numbered most (some ws)
+  unfolding numbered
   number-none most = rw e
 
   pub named-none : none ≡ named (some ws)
@@ -47,14 +47,14 @@ module _ (ws ts : List Word) (w : Word) (e : ws ≡ w ∷ ts) where
   front-is = rw e
 
   module _ (most v : ℕ) where
-    pub number-lost : Rattle.spots.specs.Numbers.readNumber most (some (w .bytes)) ≡ record { value = v; rest = none } → record { value = v; rest = none } ≡ numberOf most (some ws)
-    unfolding numberOf
+    pub number-lost : Rattle.spots.specs.Numbers.readNumber most (some (w .bytes)) ≡ record { value = v; rest = none } → record { value = v; rest = none } ≡ numbered most (some ws)
+    unfolding numbered
     number-lost t = rw (e, t)
 
-    pub number-more : (i : ℕ) → readNumber most (some (w .bytes)) ≡ record { value = v; rest = some (drop i (w .bytes)) } → i < length (w .bytes) → record { value = v; rest = none } ≡ numberOf most (some ws)
-    unfolding numberOf
+    pub number-more : (i : ℕ) → readNumber most (some (w .bytes)) ≡ record { value = v; rest = some (drop i (w .bytes)) } → i < length (w .bytes) → record { value = v; rest = none } ≡ numbered most (some ws)
+    unfolding numbered
     number-more i t h = rw (e, t, at-cons (w .bytes) i h)
 
-    pub number-all : (i : ℕ) → readNumber most (some (w .bytes)) ≡ record { value = v; rest = some (drop i (w .bytes)) } → length (w .bytes) ≤ i → record { value = v; rest = some ts } ≡ numberOf most (some ws)
-    unfolding numberOf
+    pub number-all : (i : ℕ) → readNumber most (some (w .bytes)) ≡ record { value = v; rest = some (drop i (w .bytes)) } → length (w .bytes) ≤ i → record { value = v; rest = some ts } ≡ numbered most (some ws)
+    unfolding numbered
     number-all i t h = rw (e, t, at-end (w .bytes) i h)

@@ -1,6 +1,6 @@
 -- What the code's places in a text stand for.
 use mathlib.Core.Bool.{Bool, true, false}
-use mathlib.Core.List.{List, [], _∷_}
+use mathlib.Core.List.{List, [], _∷_, _++_}
 use mathlib.Core.Option.{Option, none, some}
 use mathlib.Core.Path.{_≡_}
 use Prim.Native.Nat.{ℕ, _+_, _-_, _≤_, _<_}
@@ -52,3 +52,10 @@ pub record NameAt (s : List ℕ) (at : Spot) (from to : ℕ) (next : Spot) : Typ
   pub inside : to ≤ length s
   pub rest : leftAt s next ≡ named (leftAt s at)
   pub bytes : (t : List Word) → leftAt s next ≡ some t → part from to s ≡ front (leftAt s at)
+
+-- a word stands in the text s behind `front`, and as many bytes are left where it begins as it says
+pub record Stood (s : List ℕ) (w : Word) : Type 0 where
+  pub front : List ℕ
+  pub rest : List ℕ
+  pub same : s ≡ front ++ (w .bytes ++ rest)
+  pub left : w .left ≡ length (w .bytes ++ rest)

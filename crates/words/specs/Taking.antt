@@ -29,10 +29,10 @@ behind (some []) ws = some ws
 behind (some (x ∷ s)) ws = none
 
 -- a number of at most `most`, without a leading zero
-unfoldable pub numberOf : ℕ → Option (List Word) → Got
-numberOf most none = lost
-numberOf most (some []) = lost
-numberOf most (some (w ∷ ws)) = record { value = readNumber most (some (w .bytes)) .value; rest = behind (readNumber most (some (w .bytes)) .rest) ws }
+unfoldable pub numbered : ℕ → Option (List Word) → Got
+numbered most none = lost
+numbered most (some []) = lost
+numbered most (some (w ∷ ws)) = record { value = readNumber most (some (w .bytes)) .value; rest = behind (readNumber most (some (w .bytes)) .rest) ws }
 
 -- the bytes of the word in front
 unfoldable pub front : Option (List Word) → List ℕ

@@ -5,8 +5,7 @@ use spots::spot;
 use spots::spot::Part;
 use spots::spot::Spot;
 ghost use mathlib.Core.Path.{_≡_};
-ghost use Prim.Native.Nat.{_≤_};
-ghost use Rattle.words.specs.Taking.{taken, numberOf};
+ghost use Rattle.words.specs.Taking.{taken, numbered};
 ghost use Rattle.words.specs.Places.{leftAt, gotAt, NameAt};
 
 pub fn take(text: &[u8], from: Spot, word: &[u8]) -> Spot
@@ -31,8 +30,7 @@ pub fn take(text: &[u8], from: Spot, word: &[u8]) -> Spot
 
 // A number of at most `most`.
 pub fn number(text: &[u8], from: Spot, most: u32) -> Part
-    requires { ⌜ most ≤ 65535 ⌝ }
-    ensures { λ r. ⌜ gotAt (now (text .entry)) r ≡ numberOf most (leftAt (now (text .entry)) from) ⌝ }
+    ensures { λ r. ⌜ gotAt (now (text .entry)) r ≡ numbered most (leftAt (now (text .entry)) from) ⌝ }
 {
     match from {
         Spot::Lost => Part {

@@ -5,7 +5,7 @@ use lib.ListN.{length, getD, drop}
 use Prim.Native.Nat.{_+_, _-_, _≤_, _<_}
 use native.Mathlib.Omega.{arith}
 use Rattle.spots.specs.Places.{restAt}
-use Rattle.words.specs.Taking.{numberOf}
+use Rattle.words.specs.Taking.{numbered}
 use Rattle.words.specs.Places.{part}
 use Rattle.words.proofs.Takes.{number-none, number-lost, number-more, number-all}
 use borrow.Author.Needs.{needs}
@@ -48,7 +48,7 @@ returns-2 : tie.Need-returns-2
 returns-2 c = rw (c .before .before .before .before .before .before .before .before .before .from .given .1) (number-more _ _ _ (c .before .before .before .before .before .before .before .next .ensures .found (c .before .before .before .before .before .before .if1 .left)) (c .before .before .before .before .before .before .before .before .before .before .before .before .args .most) (c .before .before .before .before .number-at .result .value) (c .before .before .stop .given .0 .0) (sym (c .before .before .before .before .number-at .ensures) ∙ ap (λ p. record { value = c .before .before .before .before .number-at .result .value; rest = restAt (part (c .before .before .before .before .before .before .before .next .result .from) (c .before .before .before .before .before .before .before .next .result .to) (now (c .before .before .before .before .before .before .before .before .before .before .before .before .args .text))) p }) (c .before .before .stop .given .1)) (c .if2 .taken))
 
 returns-3 : tie.Need-returns-3
-unfolding numberOf
+unfolding numbered
 returns-3 c = rw (c .enum-told .given .1)
 
 returns-4 : tie.Need-returns-4
