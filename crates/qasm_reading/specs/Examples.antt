@@ -25,12 +25,12 @@ Units angle k = parsed (turned angle) ≡ circuit 2 (packed 2 1 k ∷ [])
 
 -- "`-pi/4` is -8,192 units, so 57,344"
 abbrev pub negative : Example
-negative = record { number = 12; says = Units (45 ∷ 112 ∷ 105 ∷ 47 ∷ 52 ∷ []) 57344 }
+negative = record { number = 15; says = Units (45 ∷ 112 ∷ 105 ∷ 47 ∷ 52 ∷ []) 57344 }
 
 -- 0, -0, pi, 65535*pi, -65535*pi, pi/32768, 3*pi/2
 abbrev pub ends : Example
 ends = record {
-  number = 13;
+  number = 16;
   says = Units (48 ∷ []) 0
       × Units (45 ∷ 48 ∷ []) 0
       × Units (112 ∷ 105 ∷ []) 32768
@@ -42,12 +42,12 @@ ends = record {
 
 -- a text that ends before the register: 13, place 0
 abbrev pub endsEarly : Example
-endsEarly = record { number = 14; says = (room : ℕ) → judgedReading (79 ∷ 80 ∷ 69 ∷ 78 ∷ 81 ∷ 65 ∷ 83 ∷ 77 ∷ 32 ∷ 50 ∷ 46 ∷ 48 ∷ 59 ∷ 10 ∷ 105 ∷ 110 ∷ 99 ∷ 108 ∷ 117 ∷ 100 ∷ 101 ∷ []) room ≡ Statement 0 }
+endsEarly = record { number = 17; says = (room : ℕ) → judgedReading (79 ∷ 80 ∷ 69 ∷ 78 ∷ 81 ∷ 65 ∷ 83 ∷ 77 ∷ 32 ∷ 50 ∷ 46 ∷ 48 ∷ 59 ∷ 10 ∷ 105 ∷ 110 ∷ 99 ∷ 108 ∷ 117 ∷ 100 ∷ 101 ∷ []) room ≡ Statement 0 }
 
 -- both faults in one statement, `u1(pi/3) q[256];`: 13 on its line; the angle alone, `u1(pi/3) q[255];`: 12
 abbrev pub bothFaults : Example
 bothFaults = record {
-  number = 15;
+  number = 18;
   says = (room : ℕ) → (judgedReading (threeLines ++ (117 ∷ 49 ∷ 40 ∷ 112 ∷ 105 ∷ 47 ∷ 51 ∷ 41 ∷ 32 ∷ 113 ∷ 91 ∷ 50 ∷ 53 ∷ 54 ∷ 93 ∷ 59 ∷ [])) room ≡ Statement 4)
       × (judgedReading (threeLines ++ (117 ∷ 49 ∷ 40 ∷ 112 ∷ 105 ∷ 47 ∷ 51 ∷ 41 ∷ 32 ∷ 113 ∷ 91 ∷ 50 ∷ 53 ∷ 53 ∷ 93 ∷ 59 ∷ [])) room ≡ Angle 4);
 }
@@ -55,13 +55,13 @@ bothFaults = record {
 -- a semicolon in a comment ends nothing: `cx q[0], // to;` and `q[1];` on the next line
 abbrev pub inComment : Example
 inComment = record {
-  number = 16;
+  number = 19;
   says = parsed (threeLines ++ (99 ∷ 120 ∷ 32 ∷ 113 ∷ 91 ∷ 48 ∷ 93 ∷ 44 ∷ 32 ∷ 47 ∷ 47 ∷ 32 ∷ 116 ∷ 111 ∷ 59 ∷ 10 ∷ 113 ∷ 91 ∷ 49 ∷ 93 ∷ 59 ∷ 10 ∷ [])) ≡ circuit 2 (packed 1 0 1 ∷ []);
 }
 
 -- a statement over three lines has the line on which it starts: `u1(`, `pi/3`, `) q[1];`
 abbrev pub overLines : Example
-overLines = record { number = 17; says = (room : ℕ) → judgedReading (threeLines ++ (117 ∷ 49 ∷ 40 ∷ 10 ∷ 112 ∷ 105 ∷ 47 ∷ 51 ∷ 10 ∷ 41 ∷ 32 ∷ 113 ∷ 91 ∷ 49 ∷ 93 ∷ 59 ∷ 10 ∷ [])) room ≡ Angle 4 }
+overLines = record { number = 20; says = (room : ℕ) → judgedReading (threeLines ++ (117 ∷ 49 ∷ 40 ∷ 10 ∷ 112 ∷ 105 ∷ 47 ∷ 51 ∷ 10 ∷ 41 ∷ 32 ∷ 113 ∷ 91 ∷ 49 ∷ 93 ∷ 59 ∷ 10 ∷ [])) room ≡ Angle 4 }
 
 abbrev pub qasmExamples : List Example
 qasmExamples = negative ∷ ends ∷ endsEarly ∷ bothFaults ∷ inComment ∷ overLines ∷ []
