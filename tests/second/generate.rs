@@ -1,5 +1,5 @@
-//! Makes jobs, good and bad ones, always the same from the same seed. Prints a bundle: texts,
-//! each closed by a line `--`, or by a line `-.` where the last LF is not the text's own.
+//! Makes jobs and circuits, good and bad ones, always the same from the same seed. Prints a bundle:
+//! texts, each closed by a line `--`, or by a line `-.` where the last LF is not the text's own.
 //!
 //!     generate jobs COUNT SEED                  random, damaged and boundary jobs
 //!     generate parts COUNT SEED BUNDLE TEXT FOLDER
@@ -12,13 +12,26 @@
 //!     generate terms COUPLING T COUNT SEED      COUNT jobs of T random terms, identity asked;
 //!                                               COUPLING: singapore, aspen, line:N, grid:N, all:N
 //!
+//! A circuit in OpenQASM is a pair of texts in the bundle: its couplers', then its own.
+//!
+//!     generate circuits COUNT SEED              random, damaged and boundary pairs
+//!     generate circuit-parts COUNT SEED BUNDLE TEXT FOLDER
+//!                                               the same pairs, in bundles for the program
+//!                                               `qasm_vectors`
+//!     generate qasm-vectors BUNDLE TEXT         the fixed list of pairs
+//!     generate plain-circuits COUNT SEED        good ones of few qubits, one statement a line
+//!
 //! BUNDLE and TEXT are the room that the stored list's program has, in bytes, for the bundle and
-//! for one text with the line that closes it; a list that needs more is not printed. Three texts are
+//! for one text with the lines that close it; a list that needs more is not printed. Five texts are
 //! printed as they are:
 //!
 //!     generate stretches COUPLING COUNT SEED    a job of 4,096 gates in COUNT stretches, 1 to 4,097
 //!     generate longest                          a long job that is accepted
 //!     generate overlong                         a text that is one byte too long
+//!     generate qasm-couplers                    the couplers of a chip, and a circuit for it whose
+//!     generate qasm-circuit                     laid gates are a longer text than may be read
+
+mod circuits;
 
 use std::collections::BTreeSet;
 use std::io::Write;
@@ -867,9 +880,9 @@ fn lines_of(text: &[u8]) -> Vec<Vec<u8>> {
     text.split_inclusive(|&byte| byte == b'\n').map(<[u8]>::to_vec).collect()
 }
 
-fn damage_bytes(dice: &mut Dice, text: &mut Vec<u8>) {
+fn damage_bytes(dice: &mut Dice, text: &mut Vec<u8>, odd_bytes: &[u8]) {
     let place = dice.below(text.len() + 1);
-    let odd = if dice.percent(70) { dice.pick(ODD_BYTES) } else { dice.below(256) as u8 };
+    let odd = if dice.percent(70) { dice.pick(odd_bytes) } else { dice.below(256) as u8 };
     match dice.below(4) {
         0 => text.insert(place, odd),
         1 => text.truncate(place),
@@ -964,7 +977,7 @@ fn damaged(dice: &mut Dice) -> Vec<u8> {
 fn damage(dice: &mut Dice, mut text: Vec<u8>) -> Vec<u8> {
     for _ in 0..dice.pick(&[1, 1, 1, 2, 3]) {
         match dice.below(8) {
-            0 | 1 => damage_bytes(dice, &mut text),
+            0 | 1 => damage_bytes(dice, &mut text, ODD_BYTES),
             2 | 3 => damage_lines(dice, &mut text),
             4 | 5 => damage_field(dice, &mut text),
             6 => drop(text.pop()),
@@ -1125,10 +1138,10 @@ fn jobs(count: usize, seed: u64) -> Vec<Vec<u8>> {
 
 // ------------------------------------------------------------ the fixed list
 
-/// Document 01's examples and the job it prints whole.
-fn examples() -> Vec<Vec<u8>> {
+/// The job that document 01 prints whole, and its examples.
+fn example_drafts() -> Vec<Draft> {
     let joined = &[(0, 1)][..];
-    let drafts = [
+    vec![
         Draft::new(2, &[(1, 0)], &[Rot(1, 500), Rot(0, 7), Rot(1, 65_036)]),
         Draft::new(2, joined, &[Cnot(0, 1), Cnot(1, 0), Cnot(0, 1)]),
         Draft::new(2, joined, &[Rot(1, 5), Cnot(0, 1), Rot(1, 5)]),
@@ -1144,10 +1157,14 @@ fn examples() -> Vec<Vec<u8>> {
         Draft::new(2, &[(0, 0)], &[]),
         Draft::new(2, joined, &[Cnot(0, 1), Rot(1, 9), Cnot(0, 1)]),
         Draft::new(2, joined, &[Cnot(0, 1), Rot(1, 9)]),
-    ];
+    ]
+}
+
+/// These and the worked example of the page on laying.
+fn examples() -> Vec<Vec<u8>> {
     let worked = "q\t4\ne\t0\t1\ne\t1\t2\ne\t2\t3\n\
         c\t1\t3\nc\t1\t0\nr\t0\t200\nr\t1\t300\nr\t3\t100\nc\t1\t3\n";
-    drafts.iter().map(Draft::text).chain([worked.into()]).collect()
+    example_drafts().iter().map(Draft::text).chain([worked.into()]).collect()
 }
 
 fn refusals_at_their_boundaries() -> Vec<Vec<u8>> {
@@ -2015,12 +2032,14 @@ fn bundle(texts: Vec<Vec<u8>>) -> Vec<u8> {
     all
 }
 
-/// As many bundles as are needed to go into the room, with the texts that can be in one.
-fn parts(texts: Vec<Vec<u8>>, room: u64, text_room: u64) -> Vec<Vec<u8>> {
+/// As many bundles as are needed to go into the room. Texts that stand together stay together, and are
+/// left out where one of them is longer than the room for one.
+fn parts(together: Vec<Vec<Vec<u8>>>, room: u64, text_room: u64) -> Vec<Vec<u8>> {
     let mut parts = vec![vec![]];
-    for text in texts.into_iter().filter(|text| ends_with_lf(text)) {
-        let closed = bundle(vec![text]);
-        if closed.len() as u64 > text_room.min(room) {
+    for texts in together {
+        let longest = longest_closed(&texts);
+        let closed = bundle(texts);
+        if longest as u64 > text_room || closed.len() as u64 > room {
             continue;
         }
         if (parts.last().map_or(0, Vec::len) + closed.len()) as u64 > room {
@@ -2029,6 +2048,11 @@ fn parts(texts: Vec<Vec<u8>>, room: u64, text_room: u64) -> Vec<Vec<u8>> {
         parts.last_mut().expect("there is a first part").extend(closed);
     }
     parts
+}
+
+/// The program `vectors` knows only one of the closing lines.
+fn jobs_alone(texts: Vec<Vec<u8>>) -> Vec<Vec<Vec<u8>>> {
+    texts.into_iter().filter(|text| ends_with_lf(text)).map(|text| vec![text]).collect()
 }
 
 fn write_parts(parts: &[Vec<u8>], folder: &str) {
@@ -2040,9 +2064,14 @@ fn write_parts(parts: &[Vec<u8>], folder: &str) {
     }
 }
 
+/// The longest of the texts, with what closes it.
+fn longest_closed(texts: &[Vec<u8>]) -> usize {
+    texts.iter().map(|text| bundle(vec![text.clone()]).len()).max().unwrap_or(0)
+}
+
 /// The bundle, if it and each of its texts go into the room that the program has for them.
 fn stored(texts: Vec<Vec<u8>>, room: u64, text_room: u64) -> Vec<u8> {
-    let longest = texts.iter().map(|text| text.len() + b"--\n".len()).max().unwrap_or(0);
+    let longest = longest_closed(&texts);
     let bundle = bundle(texts);
     let bytes = bundle.len();
     if bytes as u64 > room || longest as u64 > text_room {
@@ -2064,7 +2093,7 @@ fn printed(words: &[&str]) -> Option<Vec<u8>> {
         ["jobs", count, seed] => Some(bundle(jobs(number(count)? as usize, number(seed)?))),
         ["parts", count, seed, room, text_room, folder] => {
             let texts = jobs(number(count)? as usize, number(seed)?);
-            write_parts(&parts(texts, number(room)?, number(text_room)?), folder);
+            write_parts(&parts(jobs_alone(texts), number(room)?, number(text_room)?), folder);
             Some(vec![])
         }
         ["vectors", room, text_room] => Some(stored(vectors(), number(room)?, number(text_room)?)),
@@ -2076,6 +2105,20 @@ fn printed(words: &[&str]) -> Option<Vec<u8>> {
         ["stretches", coupling, count, seed] => stretches(coupling, number(count)? as usize, number(seed)?),
         ["longest"] => Some(longest()),
         ["overlong"] => Some(overlong()),
+        ["circuits", count, seed] => Some(bundle(circuits::circuits(number(count)? as usize, number(seed)?).concat())),
+        ["circuit-parts", count, seed, room, text_room, folder] => {
+            let pairs = circuits::circuits(number(count)? as usize, number(seed)?).into_iter().map(Vec::from);
+            write_parts(&parts(pairs.collect(), number(room)?, number(text_room)?), folder);
+            Some(vec![])
+        }
+        ["qasm-vectors", room, text_room] => {
+            Some(stored(circuits::qasm_vectors().concat(), number(room)?, number(text_room)?))
+        }
+        ["plain-circuits", count, seed] => {
+            Some(bundle(circuits::plain_circuits(number(count)? as usize, number(seed)?).concat()))
+        }
+        ["qasm-couplers"] => Some(circuits::qasm_couplers()),
+        ["qasm-circuit"] => Some(circuits::qasm_circuit()),
         _ => None,
     }
 }
@@ -2086,7 +2129,9 @@ fn main() {
     let Some(text) = printed(&words) else {
         eprintln!(
             "generate jobs COUNT SEED | parts COUNT SEED BUNDLE TEXT FOLDER | vectors BUNDLE TEXT | scant BUNDLE | \
-             terms COUPLING T COUNT SEED | stretches COUPLING COUNT SEED | longest | overlong"
+             terms COUPLING T COUNT SEED | stretches COUPLING COUNT SEED | longest | overlong | circuits COUNT SEED | \
+             circuit-parts COUNT SEED BUNDLE TEXT FOLDER | qasm-vectors BUNDLE TEXT | plain-circuits COUNT SEED | \
+             qasm-couplers | qasm-circuit"
         );
         std::process::exit(2)
     };

@@ -1,6 +1,6 @@
-//! The judge: knows what document 01, with document 02's E2, E3, E7 and E12, means and nothing of how
-//! gates are laid. It says whether the texts that the laying and the counting program printed are
-//! right for a job.
+//! The judge: knows what document 01, with document 02's E1, E2, E3, E7 and E12, means and nothing of
+//! how gates are laid. It says whether the texts that the laying and the counting program printed are
+//! right for a job, or those of the programs `qasm` and `qasm_vectors` for a circuit.
 //!
 //!     judge one JOB LAID [COUNTED]   three files
 //!     judge many JOBS PRINTED        a bundle of jobs and what the program `vectors` printed for it:
@@ -8,15 +8,27 @@
 //!                                    and the line `p` of a common phase, nothing between them
 //!     judge bundle JOBS PRINTED      two bundles; for each job two texts in PRINTED, what the
 //!                                    laying and what the counting program printed
+//!     judge circuit COUPLERS CIRCUIT PRINTED
+//!                                    three files
+//!     judge circuits PAIRS PRINTED   a bundle of pairs, the couplers' text and then the circuit's, and
+//!                                    what the program `qasm_vectors` printed for it: for each pair
+//!                                    what `qasm` prints, what reading and writing answer where too
+//!                                    little is lent and the line `p`, nothing between them
+//!     judge circuit-bundle PAIRS PRINTED
+//!                                    two bundles; for each pair one text in PRINTED, what `qasm`
+//!                                    printed
 //!
-//! The two programs do not print the common phase that an acceptance returns. So `many` judges the
-//! phase that was returned, and the others take the one that has to be returned in its place.
-//! In `many` and `bundle`, stretches with the same qubits, couplers, final parities, flips and sums,
-//! of one job or of two, must get the same gates too; it says how many of them there were ("drawn
+//! The laying and the counting program and `qasm` do not print the common phase that an acceptance
+//! returns. So `many` and `circuits` judge the phase that was returned, and the others take the one
+//! that has to be returned in its place.
+//! Where there are many, stretches with the same qubits, couplers, final parities, flips and sums, of
+//! one job or of two, must get the same gates too; it says how many of them there were ("drawn
 //! before").
 //! Prints `ok` or what is wrong; the exit status is 1 on a fault and 2 on wrong use.
 //! A bundle is a row of texts, each closed by a line `--`, or by a line `-.` where the last LF
 //! is not the text's own.
+
+mod statements;
 
 use std::collections::hash_map::{Entry, HashMap};
 use std::collections::{BTreeMap, BTreeSet, VecDeque};
@@ -48,27 +60,35 @@ struct Wanted {
     labels: Vec<u32>,
 }
 
-/// What was printed for one job.
+/// What is to be laid.
+enum Task<'a> {
+    Job(&'a [u8]),
+    Circuit { couplers: &'a [u8], circuit: &'a [u8] },
+}
+
+/// What was printed for one job or circuit; `None` for what is not printed at all.
 struct Printed<'a> {
     laid: &'a [u8],
     counted: Option<&'a [u8]>,
-    /// The line of the common phase, empty where there is none; `None` where it is not printed.
+    /// The lines of reading and writing where too little is lent.
+    scant: Option<&'a [u8]>,
+    /// The line of the common phase, empty where there is none.
     phase: Option<&'a [u8]>,
 }
 
 // ------------------------------------------------------------ lines, character by character
 
+/// Written back it must be the same, so there is no sign and there are no needless zeros.
+fn numeral(digits: &str, most: u32) -> Option<u32> {
+    digits.parse().ok().filter(|value: &u32| *value <= most && value.to_string() == digits)
+}
+
 /// Takes a tab and a number from the front of the line.
 fn take_number(line: &mut &str, most: u32) -> Option<u32> {
     let rest = line.strip_prefix('\t')?;
     let length = rest.find(|c: char| !c.is_ascii_digit()).unwrap_or(rest.len());
-    let value: u32 = rest[..length].parse().ok().filter(|&value| value <= most)?;
-    // Written back it must be the same, so there are no needless zeros.
-    if value.to_string() != rest[..length] {
-        return None;
-    }
     *line = &rest[length..];
-    Some(value)
+    numeral(&rest[..length], most)
 }
 
 fn parse_line(line: &[u8]) -> Option<Line> {
@@ -116,6 +136,13 @@ fn parse_job(text: &[u8]) -> Result<Vec<Line>, u32> {
         rest = &rest[end + 1..];
     }
     Ok(lines)
+}
+
+/// The couplers of a text of `e` lines alone, or the number of the first line that is none.
+fn parse_couplers(text: &[u8]) -> Result<Vec<Line>, u32> {
+    let coupler = |line: &[u8]| line.strip_suffix(b"\n").and_then(parse_line).filter(|&line| part(line) == 1);
+    let numbered = (1..).zip(text.split_inclusive(|&byte| byte == b'\n'));
+    numbered.map(|(here, line)| coupler(line).ok_or(here)).collect()
 }
 
 // ------------------------------------------------------------ meaning
@@ -333,18 +360,48 @@ fn one_parity_too_many(stretch: &Stretch) -> Option<usize> {
     stretch.rotations.iter().find(brings_it).map(|rotation| rotation.place)
 }
 
-fn right_answer(text: &[u8]) -> Verdict {
-    use Verdict::Refused;
-    if text.len() > 65_536 {
-        return Refused(11, 0);
-    }
-    let lines = match parse_job(text) {
-        Err(line) => return Refused(10, line),
-        Ok(lines) => lines,
-    };
+/// A refusal's number and its place.
+type Refusal = (u32, u32);
+
+fn test_length(text: &[u8]) -> Result<(), Refusal> {
+    if text.len() > 65_536 { Err((11, 0)) } else { Ok(()) }
+}
+
+/// What is asked for: n, the couplers as listed, the gates.
+type Lists = (u32, Vec<Line>, Vec<Line>);
+
+fn lists_of_job(text: &[u8]) -> Result<Lists, Refusal> {
+    test_length(text)?;
+    let lines = parse_job(text).map_err(|line| (10, line))?;
     let Line::Qubits(n) = lines[0] else { unreachable!("a job starts with its qubits") };
-    let (listed, gates): (Vec<Line>, Vec<Line>) =
-        lines[1..].iter().partition(|&&line| part(line) == 1);
+    let (listed, gates) = lines[1..].iter().partition(|&&line| part(line) == 1);
+    Ok((n, listed, gates))
+}
+
+fn right_reading(circuit: &[u8]) -> Result<statements::Circuit, Refusal> {
+    test_length(circuit)?;
+    statements::read(circuit)
+}
+
+/// All that is said of the couplers' text comes before all that is said of the circuit's.
+fn lists_of_circuit(couplers: &[u8], circuit: &[u8]) -> Result<Lists, Refusal> {
+    test_length(couplers)?;
+    let listed = parse_couplers(couplers).map_err(|line| (10, line))?;
+    let circuit = right_reading(circuit)?;
+    Ok((circuit.n, listed, circuit.gates))
+}
+
+fn right_answer(task: &Task) -> Verdict {
+    let lists = match task {
+        Task::Job(text) => lists_of_job(text),
+        Task::Circuit { couplers, circuit } => lists_of_circuit(couplers, circuit),
+    };
+    lists.map_or_else(|(number, place)| Verdict::Refused(number, place), right_laying)
+}
+
+/// Tests 1 to 7.
+fn right_laying((n, listed, gates): Lists) -> Verdict {
+    use Verdict::Refused;
     if n == 0 || n > 20 {
         return Refused(1, 0);
     }
@@ -394,8 +451,20 @@ fn head(wanted: &Wanted) -> String {
     head
 }
 
-/// The laid gates, if the text is the right `q` and `e` lines and then gates only.
-fn laid_gates(wanted: &Wanted, laid: &[u8]) -> Result<Vec<Line>, String> {
+/// The laid gates of a circuit, if the text reads and is what is to be printed for them.
+fn laid_statements(wanted: &Wanted, laid: &[u8]) -> Result<Vec<Line>, String> {
+    let read = statements::read(laid)
+        .map_err(|(number, line)| format!("line {line} of the laid circuit is refused with {number}: {}", show(laid)))?;
+    ensure(read.n == wanted.n, || format!("{} qubits instead of {}", read.n, wanted.n))?;
+    let right = statements::written(read.n, &read.gates);
+    let same = right.bytes().zip(laid).take_while(|(a, b)| a == *b).count();
+    ensure(right.as_bytes() == laid, || format!("reads, but is not what is printed for it, from byte {same} on"))?;
+    let bad = read.gates.iter().position(|gate| bad_gate(gate, wanted.n));
+    bad.map_or(Ok(read.gates), |place| Err(format!("laid gate {place} is no gate of this circuit")))
+}
+
+/// The laid gates of a job, if the text is the right `q` and `e` lines and then gates only.
+fn laid_lines(wanted: &Wanted, laid: &[u8]) -> Result<Vec<Line>, String> {
     let head = head(wanted);
     let mut rest = laid
         .strip_prefix(head.as_bytes())
@@ -577,9 +646,38 @@ fn check_refused(number: u32, place: u32, printed: &Printed) -> Result<(), Strin
     ensure(printed.phase.is_none_or(<[u8]>::is_empty), || format!("a common phase behind {right}"))
 }
 
+/// What reading answers with room for 4 gates and, where it accepts, writing with 100 bytes.
+fn right_scant(circuit: &[u8]) -> String {
+    let line = |(number, place): Refusal| format!("x\t{number}\t{place}\n");
+    let circuit = match right_reading(circuit) {
+        Err(refusal) => return line(refusal),
+        Ok(circuit) if circuit.gates.len() > 4 => return line((8, 0)),
+        Ok(circuit) => circuit,
+    };
+    let bad = circuit.gates.iter().position(|gate| bad_gate(gate, circuit.n));
+    let writing = match bad {
+        _ if circuit.n == 0 || circuit.n > 20 => (1, 0),
+        Some(place) => (5, place as u32),
+        None if statements::written(circuit.n, &circuit.gates).len() > 100 => (8, 0),
+        None => (0, 0),
+    };
+    line((0, 0)) + &line(writing)
+}
+
+fn check_scant(task: &Task, printed: &Printed) -> Result<(), String> {
+    let (Task::Circuit { circuit, .. }, Some(scant)) = (task, printed.scant) else { return Ok(()) };
+    let right = right_scant(circuit);
+    ensure(scant == right.as_bytes(), || {
+        format!("reading and writing answer {} instead of {}", show(scant), show(right.as_bytes()))
+    })
+}
+
 /// Gives the laid stretches back.
-fn check_laid(wanted: &Wanted, printed: &Printed) -> Result<Vec<Stretch>, String> {
-    let gates = laid_gates(wanted, printed.laid)?;
+fn check_laid(task: &Task, wanted: &Wanted, printed: &Printed) -> Result<Vec<Stretch>, String> {
+    let gates = match task {
+        Task::Job(_) => laid_lines(wanted, printed.laid)?,
+        Task::Circuit { .. } => laid_statements(wanted, printed.laid)?,
+    };
     check_couplers(wanted, &gates)?;
     check_hadamards(wanted, &gates)?;
     let laid = stretches(wanted.n, &gates);
@@ -604,11 +702,12 @@ struct Drawings {
 /// gates.
 type Asked = (Vec<u32>, BTreeMap<u32, u32>);
 
-fn judge(job: &[u8], printed: &Printed) -> Result<Option<Drawings>, String> {
-    match right_answer(job) {
+fn judge(task: &Task, printed: &Printed) -> Result<Option<Drawings>, String> {
+    check_scant(task, printed)?;
+    match right_answer(task) {
         Verdict::Refused(number, place) => check_refused(number, place, printed).map(|()| None),
         Verdict::Accepted(wanted) => {
-            let laid = check_laid(&wanted, printed)?;
+            let laid = check_laid(task, &wanted, printed)?;
             let asked = wanted.stretches.iter().map(|asked| (asked.wires.clone(), asked.terms()));
             let got = laid.into_iter().map(|laid| laid.gates);
             Ok(Some(Drawings { head: head(&wanted), stretches: asked.zip(got).collect() }))
@@ -637,7 +736,7 @@ fn compare_drawings(seen: &mut Seen, job: usize, drawings: Drawings) -> Result<u
     Ok(drawn_before)
 }
 
-// ------------------------------------------------------------ parting what `vectors` printed
+// ------------------------------------------------------------ parting what was printed for a bundle
 
 fn take_line<'a>(rest: &mut &'a [u8]) -> &'a [u8] {
     let end = rest.iter().position(|&byte| byte == b'\n').map_or(rest.len(), |end| end + 1);
@@ -657,14 +756,50 @@ fn take_laid<'a>(rest: &mut &'a [u8]) -> &'a [u8] {
     &all[..all.len() - rest.len()]
 }
 
-/// The answers, by the letters of their lines alone; the jobs are not looked at.
+fn take_phase<'a>(rest: &mut &'a [u8]) -> &'a [u8] {
+    if rest.starts_with(b"p") { take_line(rest) } else { b"" }
+}
+
+/// The answers of `vectors`, by the letters of their lines alone; the jobs are not looked at.
 fn parted(mut rest: &[u8]) -> Vec<Printed<'_>> {
     let mut answers = vec![];
     while !rest.is_empty() {
         let laid = take_laid(&mut rest);
         let counted = Some(take_line(&mut rest));
-        let phase = Some(if rest.starts_with(b"p") { take_line(&mut rest) } else { b"" });
-        answers.push(Printed { laid, counted, phase });
+        let phase = Some(take_phase(&mut rest));
+        answers.push(Printed { laid, counted, scant: None, phase });
+    }
+    answers
+}
+
+/// Either one answer, or all lines before the next answer: `x` with a tab is one, with a blank a gate.
+fn take_circuit<'a>(rest: &mut &'a [u8]) -> &'a [u8] {
+    let all = *rest;
+    if !take_line(rest).starts_with(b"x\t") {
+        while !rest.is_empty() && !rest.starts_with(b"x\t") {
+            take_line(rest);
+        }
+    }
+    &all[..all.len() - rest.len()]
+}
+
+/// The answer of reading and, where that is an acceptance, the answer of writing.
+fn take_scant<'a>(rest: &mut &'a [u8]) -> &'a [u8] {
+    let all = *rest;
+    if take_line(rest) == b"x\t0\t0\n" {
+        take_line(rest);
+    }
+    &all[..all.len() - rest.len()]
+}
+
+/// The answers of `qasm_vectors`, in the same way.
+fn parted_circuits(mut rest: &[u8]) -> Vec<Printed<'_>> {
+    let mut answers = vec![];
+    while !rest.is_empty() {
+        let laid = take_circuit(&mut rest);
+        let scant = Some(take_scant(&mut rest));
+        let phase = Some(take_phase(&mut rest));
+        answers.push(Printed { laid, counted: None, scant, phase });
     }
     answers
 }
@@ -691,27 +826,56 @@ fn read(path: &str) -> Vec<u8> {
     })
 }
 
-fn judge_one(job: &str, laid: &str, counted: Option<&String>) -> bool {
-    let counted = counted.map(|path| read(path));
-    let verdict = judge(&read(job), &Printed { laid: &read(laid), counted: counted.as_deref(), phase: None });
+fn say(verdict: Result<Option<Drawings>, String>) -> bool {
     println!("{}", verdict.as_ref().err().map_or("ok", |fault| fault));
     verdict.is_ok()
 }
 
-fn judge_many(jobs: &str, printed: &str) -> bool {
-    judge_all(&unbundle(&read(jobs)), &parted(&read(printed)))
+fn judge_one(job: &str, laid: &str, counted: Option<&str>) -> bool {
+    let (job, laid, counted) = (read(job), read(laid), counted.map(read));
+    let printed = Printed { laid: &laid, counted: counted.as_deref(), scant: None, phase: None };
+    say(judge(&Task::Job(&job), &printed))
 }
 
-fn judge_bundle(jobs: &str, printed: &str) -> bool {
+fn judge_circuit(couplers: &str, circuit: &str, laid: &str) -> bool {
+    let (couplers, circuit, laid) = (read(couplers), read(circuit), read(laid));
+    let printed = Printed { laid: &laid, counted: None, scant: None, phase: None };
+    say(judge(&Task::Circuit { couplers: &couplers, circuit: &circuit }, &printed))
+}
+
+fn jobs(bundle: &[u8]) -> Vec<Task<'_>> {
+    unbundle(bundle).into_iter().map(Task::Job).collect()
+}
+
+fn circuits(bundle: &[u8]) -> Vec<Task<'_>> {
+    let pairs = unbundle(bundle);
+    pairs.chunks_exact(2).map(|pair| Task::Circuit { couplers: pair[0], circuit: pair[1] }).collect()
+}
+
+fn judge_many(jobs_file: &str, printed: &str) -> bool {
+    judge_all(&jobs(&read(jobs_file)), &parted(&read(printed)))
+}
+
+fn judge_bundle(jobs_file: &str, printed: &str) -> bool {
     let printed = read(printed);
     let texts = unbundle(&printed);
     // A last text that is missing is judged as an empty one.
     let both = texts.chunks(2).map(|two| (two[0], *two.get(1).unwrap_or(&&b""[..])));
-    let answers = both.map(|(laid, counted)| Printed { laid, counted: Some(counted), phase: None });
-    judge_all(&unbundle(&read(jobs)), &answers.collect::<Vec<_>>())
+    let answers = both.map(|(laid, counted)| Printed { laid, counted: Some(counted), scant: None, phase: None });
+    judge_all(&jobs(&read(jobs_file)), &answers.collect::<Vec<_>>())
 }
 
-fn judge_all(jobs: &[&[u8]], answers: &[Printed]) -> bool {
+fn judge_circuits(pairs: &str, printed: &str) -> bool {
+    judge_all(&circuits(&read(pairs)), &parted_circuits(&read(printed)))
+}
+
+fn judge_circuit_bundle(pairs: &str, printed: &str) -> bool {
+    let printed = read(printed);
+    let answers = unbundle(&printed).into_iter().map(|laid| Printed { laid, counted: None, scant: None, phase: None });
+    judge_all(&circuits(&read(pairs)), &answers.collect::<Vec<_>>())
+}
+
+fn judge_all(jobs: &[Task], answers: &[Printed]) -> bool {
     if answers.len() != jobs.len() {
         println!("{} jobs, but {} answers", jobs.len(), answers.len());
         return false;
@@ -755,11 +919,17 @@ fn main() {
     let words: Vec<&str> = words.iter().map(String::as_str).collect();
     let good = match words[..] {
         ["one", job, laid] => judge_one(job, laid, None),
-        ["one", job, laid, counted] => judge_one(job, laid, Some(&counted.to_string())),
+        ["one", job, laid, counted] => judge_one(job, laid, Some(counted)),
         ["many", jobs, printed] => judge_many(jobs, printed),
         ["bundle", jobs, printed] => judge_bundle(jobs, printed),
+        ["circuit", couplers, circuit, printed] => judge_circuit(couplers, circuit, printed),
+        ["circuits", pairs, printed] => judge_circuits(pairs, printed),
+        ["circuit-bundle", pairs, printed] => judge_circuit_bundle(pairs, printed),
         _ => {
-            eprintln!("judge one JOB LAID [COUNTED] | judge many JOBS PRINTED | judge bundle JOBS PRINTED");
+            eprintln!(
+                "judge one JOB LAID [COUNTED] | many JOBS PRINTED | bundle JOBS PRINTED | \
+                 circuit COUPLERS CIRCUIT PRINTED | circuits PAIRS PRINTED | circuit-bundle PAIRS PRINTED"
+            );
             std::process::exit(2)
         }
     };

@@ -1,5 +1,5 @@
 //! The independent second program of Pikselvuo: it lays the same gates as the first one, from
-//! document 01, document 02's E2, E3, E7 and E12 and the page on laying alone. Text in, text out.
+//! document 01, document 02's E1, E2, E3, E7 and E12 and the page on laying alone. Text in, text out.
 //!
 //!     second lay     one job in, what the laying program prints out
 //!     second count   one job in, what the counting program prints out
@@ -8,14 +8,25 @@
 //!     second bundle  the first two of these texts, each closed by a line `--`
 //!     second scant   a bundle of jobs in; for each job what reading, laying and writing answer
 //!                    where too little is lent, as the program `scant` prints it
+//!     second qasm COUPLERS
+//!                    one circuit in, its couplers in a file; what the program `qasm` prints out
+//!     second circuits
+//!                    a bundle of pairs in, the couplers' text and then the circuit's; for each pair
+//!                    what `qasm` prints, what reading and writing answer where too little is lent,
+//!                    and the common phase where it is not 0, as the program `qasm_vectors` does
+//!     second circuit-bundle
+//!                    the first of these texts, closed by a line `--`
 //!
-//! Without an argument its own name decides, so links called `lay`, `count` and `vectors` stand in
-//! for these programs.
+//! Under the name of one of the programs `lay`, `count`, `vectors`, `qasm` and `qasm_vectors` it is
+//! that one, so links with these names stand in for them.
 //!
 //! A bundle is a row of texts, each closed by a line `--`. A line `-.` closes a text too, whose
 //! last LF is then not its own; so texts without a last LF can be bundled as well.
 
+mod openqasm;
+
 use std::collections::BTreeMap;
+use std::fs::File;
 use std::io::{self, BufWriter, Read, Write};
 
 const LONGEST_TEXT: usize = 65_536;
@@ -39,6 +50,9 @@ const ENOUGH: Lent = Lent { couplers: 10_922, gates: 16_383, laid: usize::MAX, t
 
 /// By the program `scant`.
 const SCANT: Lent = Lent { couplers: 3, gates: 4, laid: 49, text: 29 };
+
+/// By the program `qasm_vectors`, to reading and writing alone.
+const SCANT_CIRCUIT: Lent = Lent { gates: 4, text: 100, ..ENOUGH };
 
 // ---------------------------------------------------------------- gates and refusals
 
@@ -142,6 +156,23 @@ fn read_job(text: &[u8], lent: &Lent) -> Result<Job, Refusal> {
         return refuse(8, 0);
     }
     Ok(job)
+}
+
+/// The text that lies beside a circuit: `e` lines and nothing else, perhaps none.
+fn read_couplers(text: &[u8]) -> Result<Vec<(usize, usize)>, Refusal> {
+    if text.len() > LONGEST_TEXT {
+        return refuse(11, 0);
+    }
+    let mut couplers = vec![];
+    for (i, line) in text.split_inclusive(|&byte| byte == b'\n').enumerate() {
+        let fields = line.strip_suffix(b"\n").and_then(|line| line.strip_prefix(b"e\t"));
+        let ends = fields.and_then(|fields| pair(&fields.split(|&byte| byte == b'\t').collect::<Vec<_>>()));
+        match ends {
+            Some(ends) => couplers.push(ends),
+            None => return refuse(10, i + 1),
+        }
+    }
+    Ok(couplers)
 }
 
 // ---------------------------------------------------------------- sets of qubits
@@ -905,6 +936,37 @@ fn scant_text(text: &[u8]) -> String {
     lines
 }
 
+/// Reads the couplers, then the circuit, and lays it. The job comes back with what is laid for it.
+fn lay_circuit(couplers: &[u8], circuit: &[u8]) -> Result<(Job, Laid), Refusal> {
+    let couplers = read_couplers(couplers)?;
+    let job = Job { couplers, ..openqasm::read(circuit, &ENOUGH)? };
+    let laid = lay(&job, &ENOUGH)?;
+    Ok((job, laid))
+}
+
+/// What `qasm` prints, and the line of the common phase.
+fn circuit_and_phase(couplers: &[u8], circuit: &[u8]) -> [String; 2] {
+    match lay_circuit(couplers, circuit) {
+        Err(refusal) => [refusal_line(refusal), String::new()],
+        Ok((job, laid)) => [openqasm::text_of(job.n, &laid.gates), phase_text(laid.phase)],
+    }
+}
+
+/// What `qasm` prints.
+fn circuit_text(couplers: &[u8], circuit: &[u8]) -> String {
+    let [laid, _] = circuit_and_phase(couplers, circuit);
+    laid
+}
+
+/// What `qasm_vectors` prints of a pair. Reading and writing look at the circuit alone.
+fn circuit_texts(couplers: &[u8], circuit: &[u8]) -> String {
+    let [laid, phase] = circuit_and_phase(couplers, circuit);
+    let read = openqasm::read(circuit, &SCANT_CIRCUIT);
+    let written = read.as_ref().map(|circuit| answer_line(openqasm::write(circuit, &SCANT_CIRCUIT)));
+    let written = written.unwrap_or_default();
+    [laid, answer_line(read), written, phase].concat()
+}
+
 // ---------------------------------------------------------------- programs
 
 /// The texts of a bundle; what follows the last closing line is no text.
@@ -926,42 +988,77 @@ fn unbundle(bundle: &[u8]) -> Vec<&[u8]> {
 }
 
 /// Reads no more than is needed to know that a text is too long.
-fn read_one() -> Vec<u8> {
+fn read_from(source: impl Read) -> Vec<u8> {
     let mut text = vec![];
-    let _ = io::stdin().take(LONGEST_TEXT as u64 + 1).read_to_end(&mut text);
+    let _ = source.take(LONGEST_TEXT as u64 + 1).read_to_end(&mut text);
     text
 }
 
-/// For each text of the bundle what `texts` makes of it, every text followed by `close`.
-fn print_many<const N: usize>(texts: impl Fn(&[u8]) -> [String; N], close: &str) -> io::Result<()> {
+fn read_one() -> Vec<u8> {
+    read_from(io::stdin())
+}
+
+/// A folder can be opened, but not read.
+fn read_file(path: &str) -> Vec<u8> {
+    let opened = File::open(path).and_then(|mut file| file.read(&mut []).map(|_| file));
+    match opened {
+        Ok(file) => read_from(file),
+        Err(fault) => {
+            eprintln!("{path}: {fault}");
+            std::process::exit(1)
+        }
+    }
+}
+
+fn print_one(text: &str) -> io::Result<()> {
+    io::stdout().write_all(text.as_bytes())
+}
+
+/// What `answer` makes of the bundle's texts, so many at a time.
+fn print_many(size: usize, answer: impl Fn(&[&[u8]]) -> String) -> io::Result<()> {
     let mut bundle = vec![];
     io::stdin().read_to_end(&mut bundle)?;
     let mut out = BufWriter::new(io::stdout().lock());
-    for text in unbundle(&bundle) {
-        for printed in texts(text) {
-            out.write_all(printed.as_bytes())?;
-            out.write_all(close.as_bytes())?;
-        }
+    for texts in unbundle(&bundle).chunks_exact(size) {
+        out.write_all(answer(texts).as_bytes())?;
     }
     out.flush()
 }
 
-fn mode() -> String {
-    let mut words = std::env::args();
-    let own_name = words.next().unwrap_or_default();
-    words.next().unwrap_or_else(|| own_name.rsplit('/').next().unwrap_or_default().to_string())
+fn closed_text(text: String) -> String {
+    text + "--\n"
+}
+
+/// The programs it can stand in for.
+const STAND_INS: [&str; 5] = ["lay", "count", "vectors", "qasm", "qasm_vectors"];
+
+/// What is asked for: the mode and the words behind it.
+fn words() -> Vec<String> {
+    let mut words: Vec<String> = std::env::args().collect();
+    let own_name = words[0].rsplit('/').next().unwrap_or_default().to_string();
+    if STAND_INS.contains(&own_name.as_str()) {
+        words[0] = own_name;
+    } else {
+        words.remove(0);
+    }
+    words
 }
 
 fn main() {
+    let words = words();
+    let words: Vec<&str> = words.iter().map(String::as_str).collect();
     // Nobody is left to be told when the output is closed, so its errors are passed over.
-    let _ = match mode().as_str() {
-        "lay" => io::stdout().write_all(both_texts(&read_one())[0].as_bytes()),
-        "count" => io::stdout().write_all(both_texts(&read_one())[1].as_bytes()),
-        "many" | "vectors" => print_many(all_texts, ""),
-        "bundle" => print_many(both_texts, "--\n"),
-        "scant" => print_many(|text| [scant_text(text)], ""),
+    let _ = match words[..] {
+        ["lay"] => print_one(&both_texts(&read_one())[0]),
+        ["count"] => print_one(&both_texts(&read_one())[1]),
+        ["many" | "vectors"] => print_many(1, |job| all_texts(job[0]).concat()),
+        ["bundle"] => print_many(1, |job| both_texts(job[0]).map(closed_text).concat()),
+        ["scant"] => print_many(1, |job| scant_text(job[0])),
+        ["qasm", couplers] => print_one(&circuit_text(&read_file(couplers), &read_one())),
+        ["circuits" | "qasm_vectors"] => print_many(2, |pair| circuit_texts(pair[0], pair[1])),
+        ["circuit-bundle"] => print_many(2, |pair| closed_text(circuit_text(pair[0], pair[1]))),
         _ => {
-            eprintln!("second lay | count | many | bundle | scant");
+            eprintln!("second lay | count | many | bundle | scant | qasm COUPLERS | circuits | circuit-bundle");
             std::process::exit(2)
         }
     };

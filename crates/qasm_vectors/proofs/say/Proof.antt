@@ -1,0 +1,49 @@
+-- An answer is printed: safe, and it ends. Assumes nothing.
+use Prim.Native.Nat.{ℕ}
+use lib.ListN.{replicate}
+use Rattle.lines.specs.Lines.{refusalText}
+use Rattle.lines.proofs.Writes.{line-within, line-whole}
+use borrow.Author.Needs.{needs}
+use Rattle.qasm_vectors.proofs.say.Statement.{statement}
+use Rattle.qasm_vectors.proofs.say.Tie as tie
+use Rattle.io.proofs.write_all.Reads as write-all-reads
+use Rattle.lines.proofs.print.refusal.Reads as refusal-reads
+use Rattle.verdicts.proofs.verdict.number.Reads as number-reads
+use Rattle.verdicts.proofs.verdict.place.Reads as place-reads
+
+number-requires : tie.Need-number-requires
+number-requires c κs = search needs
+
+place-requires : tie.Need-place-requires
+place-requires c κs = search needs
+
+slice-aggregate-refusal : tie.Need-slice-aggregate-refusal
+slice-aggregate-refusal c = search needs
+
+refusal-requires : tie.Need-refusal-requires
+refusal-requires c κs = search needs
+
+array-share-prefix-out : tie.Need-array-share-prefix-out
+array-share-prefix-out c = line-within (refusalText _ _) (replicate {A = ℕ} 32 0) _ _ (c .before .refusal .ensures)
+
+slice-aggregate-write-all : tie.Need-slice-aggregate-write-all
+slice-aggregate-write-all c = line-whole (refusalText _ _) (replicate {A = ℕ} 32 0) _ _ (c .before .before .refusal .ensures)
+
+write-all-requires : tie.Need-write-all-requires
+write-all-requires c κs = search needs
+
+returns : tie.Need-returns
+returns c = search needs
+
+pub say-spec : {M : Type 1} → statement M
+say-spec =
+    tie.close
+    (tie.spec
+    number-requires
+    place-requires
+    slice-aggregate-refusal
+    refusal-requires
+    array-share-prefix-out
+    slice-aggregate-write-all
+    write-all-requires
+    returns)
