@@ -1,20 +1,19 @@
 -- Demands 2 and 3 from OpenQASM to OpenQASM, as theorems about texts. Assumes nothing.
-use mathlib.Core.Path.{_≡_, refl, sym, ap, ap₂, _∙_, subst}
-use mathlib.Core.Bool.{Bool, true, false, not}
+use mathlib.Core.Path.{_≡_, refl, sym, ap, _∙_, subst}
+use mathlib.Core.Bool.{Bool, true, false}
 use mathlib.Core.List.{List, [], _∷_, _++_, map}
-use Prim.Native.Nat.{ℕ, _≤_, _<_}
+use Prim.Native.Nat.{ℕ, _≤_}
 use native.Mathlib.Omega.{arith}
-use lib.Dec.{eqb, ltb}
-use lib.ListN.{length, getD, take}
+use lib.ListN.{length}
 use borrow.Author.Tests.{le-ltb}
-use Rattle.sets.specs.Pick.{pick, both}
+use Rattle.sets.specs.Pick.{both}
 use Rattle.gates.specs.declared.gate.Gate.{Gate}
 use Rattle.gates.specs.declared.gate.Gate.the-variants.{Cnot, Rotation, X, Bad}
-use Rattle.gates.specs.Layout.{gatesOf, gateOf, isBad, recordOf, Good}
+use Rattle.gates.specs.Layout.{gateOf, isBad, recordOf, Good}
 use Rattle.gates.specs.Hadamards.{isHadamard}
 use Rattle.gates.specs.All.{All}
 use Rattle.gates.proofs.Records.{gate-record}
-use Rattle.verdicts.specs.Verdicts.{numberOf, judgedQubits, isNeither, judgedDrawn}
+use Rattle.verdicts.specs.Verdicts.{numberOf, isNeither}
 use Rattle.verdicts.proofs.Judged.{then-on}
 use Rattle.verdicts.proofs.Passing.{drawn-accepted}
 use Rattle.tallies.specs.Tally.{largest}
@@ -23,9 +22,9 @@ use Rattle.stretches.specs.Cut.{weave, Each}
 use Rattle.stretches.specs.Stretches.{stretchesOf, hadamardsOf}
 use Rattle.stretches.specs.Tests.{judgedStretches, judgedBound, jobBound, jobVerdict}
 use Rattle.stretches.specs.Asked.{Accepts}
-use Rattle.stretches.specs.Laid.{stretchRecords, jobRecords, jobPhase}
+use Rattle.stretches.specs.Laid.{stretchRecords, jobRecords}
 use Rattle.stretches.specs.Meaning.{AlikeJob}
-use Rattle.stretches.specs.Demands.{FaithfulJob, AgreeJob, recordsOn}
+use Rattle.stretches.specs.Demands.{AgreeJob, recordsOn}
 use Rattle.stretches.proofs.Eachs.{each-mapped, each-map, at-each}
 use Rattle.stretches.proofs.Passing.{Passed, job-passed}
 use Rattle.stretches.proofs.Demands.{laid-faithful, demand-3, all-hadamards}
@@ -39,14 +38,14 @@ use Rattle.reading.proofs.Sizes.{couplers-least}
 use Rattle.reading.proofs.Listings.{couplers-parsed}
 use Rattle.text.proofs.Rows.{couplers-rows}
 use Rattle.qasm_reading.specs.Parsing.{circuit, parsed}
-use Rattle.qasm_reading.specs.Readings.{jobIn, gatesIn, judgedReading, judgedStatements, judgedList}
+use Rattle.qasm_reading.specs.Readings.{jobIn, gatesIn, judgedReading}
 use Rattle.qasm_reading.specs.Texts.{CircuitText}
 use Rattle.qasm_reading.proofs.Parsed.{circuit-parsed, circuit-once}
 use Rattle.qasm_reading.proofs.Rows.{judged-good}
 use Rattle.qasm_reading.proofs.Enough.{gates-few}
 use Rattle.qasm_lines.specs.Spelling.{circuitText}
 use Rattle.qasm_text.proofs.RoundTrip.{good-circuit}
-use Rattle.console.specs.Printed.{mostCouplerLines, mostGateLines, unless}
+use Rattle.console.specs.Printed.{mostCouplerLines, mostGateLines}
 use Rattle.console.proofs.Choosing.{unless-passed}
 use Rattle.qasm_console.specs.Printed.{laidCircuit, laidDrawing, laidTexts}
 use Rattle.qasm_console.specs.Demands.{Drawn, Kept}

@@ -3,7 +3,7 @@ use mathlib.Core.Path.{_≡_, refl, sym, ap, _∙_}
 use mathlib.Core.Bool.{Bool, true, false}
 use mathlib.Core.List.{List, [], _∷_}
 use mathlib.Core.Option.{Option, none, some}
-use Prim.Native.Nat.{ℕ, suc, _+_, _-_, _≤_, _<_}
+use Prim.Native.Nat.{ℕ, _-_, _≤_, _<_}
 use native.Mathlib.Omega.{arith}
 use lib.Dec.{leb, eqb}
 use lib.ListN.{length, take}
@@ -16,12 +16,12 @@ use Rattle.reading.specs.Limits.{mostBytes}
 use Rattle.reading.specs.Readings.{listAfter}
 use Rattle.reading.specs.declared.read.Reading.{Reading}
 use Rattle.reading.specs.declared.read.Reading.the-variants.{Read, Refused}
-use Rattle.words.specs.Bytes.{lineBehind, ends}
-use Rattle.words.specs.Words.{Word, words}
+use Rattle.words.specs.Bytes.{lineBehind}
+use Rattle.words.specs.Words.{Word}
 use Rattle.words.specs.Taking.{Got}
 use Rattle.statements.specs.Statements.{versionOf, includeOf, nameOf, registerOf, hasEnd, badAngle}
 use Rattle.qasm_reading.specs.Parsing.{Parsed, circuit, angle, statement, early, leftOf, headFault, endOf, registered, included, versioned, parsedWords, parsed}
-use Rattle.qasm_reading.specs.Readings.{gatesIn, jobIn, lineAt, judgedStatements, judgedList, judgedReading, readingOf, answerOf, lineOf}
+use Rattle.qasm_reading.specs.Readings.{jobIn, lineAt, judgedStatements, judgedList, judgedReading, readingOf, answerOf, lineOf}
 
 -- ---- the line of a word
 

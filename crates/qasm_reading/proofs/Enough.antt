@@ -1,12 +1,12 @@
 -- A text within its limit has few gates: each takes at least six words, and each word a byte. Assumes nothing.
-use mathlib.Core.Path.{_≡_, refl, ap, _∙_}
-use mathlib.Core.List.{List, [], _∷_, _++_}
-use Prim.Native.Nat.{ℕ, suc, _+_, _*_, _≤_}
+use mathlib.Core.Path.{_≡_, refl, ap}
+use mathlib.Core.List.{List, [], _∷_}
+use Prim.Native.Nat.{ℕ, _*_, _≤_}
 use native.Mathlib.Omega.{arith}
 use lib.ListN.{length, length-append}
 use Rattle.reading.specs.Limits.{mostBytes}
-use Rattle.words.specs.Words.{words, bodies}
-use Rattle.statements.specs.Forms.{Form, cnot, turn, xgate, hadamard, Times, nought, once, many, timesWords, formWords, formsWords, qubitWords, versionWords, includeWords, registerWords, headWords, recordsIn}
+use Rattle.words.specs.Words.{words}
+use Rattle.statements.specs.Forms.{Form, cnot, turn, xgate, hadamard, formWords, formsWords, qubitWords, versionWords, includeWords, registerWords, headWords, recordsIn}
 use Rattle.statements.proofs.Words.{bodies-length}
 use Rattle.qasm_reading.specs.Parsing.{Parsed, circuit, angle, statement, early, parsed}
 use Rattle.qasm_reading.specs.Readings.{gatesIn}

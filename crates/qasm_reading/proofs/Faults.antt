@@ -4,18 +4,17 @@ use mathlib.Core.Logic.{_⊎_, inl, inr}
 use mathlib.Core.Bool.{Bool, true, false}
 use mathlib.Core.List.{List, [], _∷_, _++_, append-nil}
 use mathlib.Core.Option.{Option, none, some}
-use Prim.Native.Nat.{ℕ, zero, suc, _+_, _≤_}
+use Prim.Native.Nat.{ℕ, suc, _≤_}
 use native.Mathlib.Omega.{arith}
 use lib.ListN.{length, length-append}
 use Rattle.sets.specs.Pick.{pick}
 use Rattle.words.specs.Words.{Word, words, bodies}
-use Rattle.words.specs.Taking.{Got}
 use Rattle.statements.specs.Statements.{versionOf, includeOf, nameOf, registerOf, gateOf, hasEnd, badAngle}
-use Rattle.statements.specs.Forms.{formWords, versionWords, includeWords, registerWords, headWords, Unended, OnlyAngle, recordsIn}
+use Rattle.statements.specs.Forms.{formWords, versionWords, includeWords, registerWords, Unended, recordsIn}
 use Rattle.statements.proofs.Words.{bodies-append}
-use Rattle.statements.proofs.Heads.{Stood, version-read, include-read, Declares, register-read}
+use Rattle.statements.proofs.Heads.{version-read, include-read, register-read}
 use Rattle.statements.proofs.OtherAngles.{ended-not, unended-no, bad-back, bad-forth}
-use Rattle.qasm_reading.specs.Parsing.{Parsed, angle, statement, early, leftOf, headFault, endOf, registered, included, versioned, parsedWords, parsed}
+use Rattle.qasm_reading.specs.Parsing.{angle, statement, early, headFault, endOf, registered, included, versioned, parsedWords, parsed}
 use Rattle.qasm_reading.specs.Readings.{lineAt}
 use Rattle.qasm_reading.specs.Texts.{Seen, Early, nothing, versionLine, bothLines, Next, first, second, third, gate, Fault, faultLine, WrongAngle, WrongStatement, here, cut, short}
 use Rattle.qasm_reading.proofs.Runs.{form-long, gate-read}

@@ -1,10 +1,10 @@
 -- What the reader finds is so: a circuit's text, or the first statement that cannot continue one. Assumes nothing.
 use mathlib.Core.Path.{_≡_, refl, sym, ap, _∙_, subst}
-use mathlib.Core.Logic.{_⊎_, inl, inr}
+use mathlib.Core.Logic.{inl, inr}
 use mathlib.Core.Bool.{Bool, true, false}
 use mathlib.Core.List.{List, [], _∷_, _++_, append-assoc, append-nil}
 use mathlib.Core.Option.{Option, none, some}
-use Prim.Native.Nat.{ℕ, zero, suc, _+_, _≤_}
+use Prim.Native.Nat.{ℕ, zero, suc, _≤_}
 use native.Mathlib.Omega.{arith}
 use lib.ListN.{length, length-append}
 use Rattle.sets.specs.Pick.{pick}
@@ -12,15 +12,14 @@ use Rattle.spots.proofs.Numbers.{never}
 use Rattle.words.specs.Words.{Word, words, bodies}
 use Rattle.words.specs.Taking.{Got}
 use Rattle.statements.specs.Statements.{versionOf, includeOf, nameOf, registerOf, gateOf, hasEnd, badAngle}
-use Rattle.statements.specs.Forms.{Form, GoodForm, formWords, formsWords, versionWords, includeWords, registerWords, headWords, recordsIn}
-use Rattle.statements.proofs.Words.{bodies-length, bodies-append, Before, before, gate-on}
-use Rattle.statements.proofs.Heads.{Stood, version-read, include-read, Declares, register-read, version-on, include-on, register-on}
+use Rattle.statements.specs.Forms.{Form, formWords, formsWords, versionWords, includeWords, registerWords, headWords, recordsIn}
+use Rattle.statements.proofs.Words.{bodies-append, before, gate-on}
+use Rattle.statements.proofs.Heads.{version-read, include-read, register-read, version-on, include-on, register-on}
 use Rattle.statements.proofs.OtherAngles.{ended-not, unended-no, bad-back}
-use Rattle.qasm_reading.specs.Parsing.{Parsed, circuit, angle, statement, early, leftOf, headFault, endOf, runOf, registered, included, versioned, parsedWords, parsed}
+use Rattle.qasm_reading.specs.Parsing.{Parsed, circuit, angle, statement, early, headFault, endOf, runOf, registered, included, versioned, parsedWords, parsed}
 use Rattle.qasm_reading.specs.Readings.{lineAt}
-use Rattle.qasm_reading.specs.Texts.{CircuitText, Seen, Early, nothing, versionLine, bothLines, Next, first, second, third, gate, Fault, WrongAngle, WrongStatement, here, cut, short}
-use Rattle.qasm_reading.proofs.Runs.{Whole, run-whole}
-use Rattle.qasm_reading.proofs.Parsed.{circuit-parsed}
+use Rattle.qasm_reading.specs.Texts.{CircuitText, Seen, Early, nothing, versionLine, bothLines, first, second, third, gate, Fault, WrongAngle, WrongStatement, here, cut, short}
+use Rattle.qasm_reading.proofs.Runs.{run-whole}
 use Rattle.qasm_reading.proofs.Faults.{Stuck, angle-parsed}
 
 -- ---- how long a beginning is tells how far it goes

@@ -1,16 +1,16 @@
 -- What the reader finds where it is known what stands before. Assumes nothing.
-use mathlib.Core.Path.{_≡_, refl, sym, ap, _∙_}
+use mathlib.Core.Path.{_≡_, sym, ap, _∙_}
 use mathlib.Core.Bool.{true}
-use mathlib.Core.List.{List, [], _∷_, _++_, append-assoc, append-nil}
-use mathlib.Core.Option.{Option, none, some}
+use mathlib.Core.List.{List, [], _++_, append-assoc, append-nil}
+use mathlib.Core.Option.{none, some}
 use Prim.Native.Nat.{ℕ, _≤_}
 use Rattle.words.specs.Words.{Word, words, bodies}
 use Rattle.words.specs.Taking.{Got, isName}
-use Rattle.statements.specs.Statements.{versionOf, includeOf, nameOf, registerOf, gateOf}
+use Rattle.statements.specs.Statements.{includeOf, nameOf, registerOf, gateOf}
 use Rattle.statements.specs.Forms.{Form, AllGood, formsWords, versionWords, includeWords, registerWords, headWords, recordsIn}
 use Rattle.statements.proofs.Words.{before}
 use Rattle.statements.proofs.Heads.{version-on, include-on, name-on, register-on}
-use Rattle.qasm_reading.specs.Parsing.{Parsed, circuit, headFault, endOf, runOf, registered, included, versioned, parsedWords, parsed}
+use Rattle.qasm_reading.specs.Parsing.{circuit, endOf, runOf, registered, included, versioned, parsedWords, parsed}
 use Rattle.qasm_reading.specs.Texts.{CircuitText, Seen}
 use Rattle.qasm_reading.proofs.Runs.{gate-nil, run-none, run-on}
 

@@ -1,6 +1,6 @@
 -- What reading a circuit's text answers, row by row. Assumes nothing.
 use mathlib.Core.Path.{_≡_, refl, sym, ap, _∙_, subst}
-use mathlib.Core.Logic.{_⊎_, inl, inr}
+use mathlib.Core.Logic.{inl, inr}
 use mathlib.Core.Bool.{Bool, true, false}
 use mathlib.Core.List.{List}
 use Prim.Native.Nat.{ℕ, _≤_, _<_}
@@ -12,7 +12,7 @@ use Rattle.verdicts.specs.declared.verdict.Verdict.{Verdict}
 use Rattle.verdicts.specs.declared.verdict.Verdict.the-variants.{Accepted, Room, LongText, Angle, Statement}
 use Rattle.verdicts.specs.Verdicts.{numberOf, placeOf}
 use Rattle.verdicts.specs.InOrder.{andThen}
-use Rattle.verdicts.specs.Rows.{Row, Nowhere}
+use Rattle.verdicts.specs.Rows.{Nowhere}
 use Rattle.reading.specs.Limits.{mostBytes}
 use Rattle.qasm_reading.specs.Parsing.{Parsed, circuit, angle, statement, early, parsed}
 use Rattle.qasm_reading.specs.Readings.{lineAt, judgedStatements, judgedList, judgedReading}

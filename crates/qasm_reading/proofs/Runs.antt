@@ -1,16 +1,15 @@
 -- Runs of gates: the longest run is spelt by forms of its records, and behind it no gate stands. Assumes nothing.
-use mathlib.Core.Path.{_≡_, refl, sym, ap, _∙_, subst}
+use mathlib.Core.Path.{_≡_, refl, sym, ap, _∙_}
 use mathlib.Core.List.{List, [], _∷_, _++_, append-assoc, append-nil}
 use mathlib.Core.Option.{Option, none, some}
-use Prim.Native.Nat.{ℕ, zero, suc, _+_, _≤_, _<_}
+use Prim.Native.Nat.{ℕ, zero, suc, _≤_, _<_}
 use native.Mathlib.Omega.{arith}
 use lib.ListN.{length, length-append}
 use Rattle.words.specs.Words.{Word, bodies}
 use Rattle.statements.specs.Statements.{gateOf}
 use Rattle.statements.specs.Forms.{Form, cnot, turn, xgate, hadamard, GoodForm, AllGood, formWords, formsWords, recordIn, recordsIn}
-use Rattle.statements.proofs.Taken.{Leads}
-use Rattle.statements.proofs.Back.{GateBack, gate-back}
-use Rattle.statements.proofs.Words.{bodies-length, bodies-append, Before, before, gate-on}
+use Rattle.statements.proofs.Back.{gate-back}
+use Rattle.statements.proofs.Words.{bodies-length, bodies-append, before, gate-on}
 use Rattle.qasm_reading.specs.Parsing.{Run, runIn, runOf}
 
 -- ---- a gate has words

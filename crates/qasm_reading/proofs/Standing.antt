@@ -2,16 +2,14 @@
 use mathlib.Core.Path.{_≡_, refl, sym, ap, _∙_, subst}
 use mathlib.Core.Bool.{Bool, true, false}
 use mathlib.Core.List.{List, [], _∷_, _++_, append-assoc, append-nil}
-use Prim.Native.Nat.{ℕ, zero, suc, _+_, _≤_, _<_}
+use Prim.Native.Nat.{ℕ, _<_}
 use native.Mathlib.Omega.{arith}
 use lib.Dec.{eqb}
-use lib.ListN.{length, getD}
-use borrow.Author.Tests.{eqb-true, eqb-false, eq-eqb, ne-eqb}
-use Rattle.sets.specs.Pick.{pick, both}
+use borrow.Author.Tests.{eqb-true, eqb-false, ne-eqb}
 use Rattle.reading.specs.Misfit.{NoLf}
 use Rattle.words.specs.Bytes.{blank, small, inName, inWord, goesOn, slashes, AllOn}
-use Rattle.words.specs.Words.{Word, gap, note, run, after, ended, lex, words, bodies}
-use Rattle.words.proofs.Steps.{both-true, Stops, run-on, run-stop, gap-is, note-is, run-is}
+use Rattle.words.specs.Words.{gap, note, run, after, ended, lex, words, bodies}
+use Rattle.words.proofs.Steps.{both-true, run-on, run-stop, gap-is, note-is, run-is}
 use Rattle.qasm_reading.specs.Standing.{Gap, empty, space, comment, Apart, Stands, last, last-comment, next}
 use Rattle.words.proofs.Forth.{word-forth}
 

@@ -1,5 +1,4 @@
 -- How a circuit's text is read, statement by statement (request E1). proofs/ shows that it finds what specs/Texts.antt says.
-use mathlib.Core.Bool.{Bool, true, false}
 use mathlib.Core.List.{List, [], _∷_}
 use mathlib.Core.Option.{Option, none, some}
 use Prim.Native.Nat.{ℕ, zero, suc}

@@ -16,7 +16,7 @@ use Rattle.reading.specs.declared.read.Reading.the-variants.{Read, Refused}
 use Rattle.reading.specs.Readings.{judgedBytes, listAfter}
 use Rattle.words.specs.Bytes.{lineBehind}
 use Rattle.words.specs.Words.{Word, words}
-use Rattle.qasm_reading.specs.Parsing.{Parsed, circuit, angle, statement, early, parsed, headFault, registered}
+use Rattle.qasm_reading.specs.Parsing.{Parsed, circuit, angle, statement, early, parsed, registered}
 
 -- ---- what is in a text: number, place and values of an answer are those of `readVerdict` and `readJob`; a circuit's text has no couplers
 

@@ -1,6 +1,6 @@
 -- How words stand in a text, with blanks and comments between them (request E1: "with comments and blanks"). Nothing here says how they are found.
 use mathlib.Core.Path.{_≡_}
-use mathlib.Core.Bool.{Bool, true, false}
+use mathlib.Core.Bool.{true, false}
 use mathlib.Core.List.{List, [], _∷_, _++_}
 use Prim.Native.Nat.{ℕ, _<_}
 use lib.ListN.{length, getD}

@@ -1,16 +1,14 @@
 -- What is read as a gate is one of its forms. Assumes nothing.
-use mathlib.Core.Path.{_≡_, refl, sym, ap, _∙_, subst}
+use mathlib.Core.Path.{_≡_, refl, ap, subst}
 use mathlib.Core.Bool.{Bool, true, false}
 use mathlib.Core.List.{List, [], _∷_, _++_, append-assoc}
 use mathlib.Core.Option.{Option, none, some}
-use Prim.Native.Nat.{ℕ, zero, suc, _+_, _≤_, _<_}
-use native.Mathlib.Omega.{arith}
+use Prim.Native.Nat.{ℕ, _≤_}
 use Rattle.sets.specs.Pick.{pick}
 use Rattle.gates.specs.Layout.{packed}
 use Rattle.angles.specs.Units.{isOver, unitsOf}
-use Rattle.lines.specs.Lines.{digits}
-use Rattle.words.specs.Words.{Word, bodies}
-use Rattle.words.specs.Taking.{Got, taken, numbered, named, front, orElse}
+use Rattle.words.specs.Words.{Word}
+use Rattle.words.specs.Taking.{Got, taken, numbered, orElse}
 use Rattle.statements.specs.Spelling.{mark, pi, cx, u1}
 use Rattle.statements.specs.Statements.{manyOf, timesOf, dividedOf, overOf, multipleOf, angleOf, qubitOf, cnotOf, tailOf, openingOf, turnOf, singleOf, otherOf, gateOf}
 use Rattle.statements.specs.Forms.{Times, nought, once, many, Over, plain, over, Form, cnot, turn, xgate, hadamard, GoodTimes, GoodOver, GoodForm, timesWords, overWords, minusWords, qubitWords, formWords, timesIn, overIn, recordIn}

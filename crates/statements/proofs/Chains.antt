@@ -5,17 +5,13 @@ use mathlib.Core.List.{List, [], _∷_}
 use mathlib.Core.Option.{Option, none, some}
 use Prim.Native.Nat.{ℕ, _+_, _*_, _≤_, _<_}
 use native.Mathlib.Omega.{arith}
-use Rattle.sets.specs.Pick.{pick, both}
-use lib.Dec.{ltb, eqb}
-use borrow.Author.Tests.{ltb-true}
 use Rattle.gates.specs.Layout.{packed}
 use Rattle.angles.specs.Units.{isOver, unitsOf}
 use Rattle.angles.proofs.Laws.{units-lt}
 use Rattle.lines.specs.Lines.{digits}
 use Rattle.lines.proofs.Layouts.{packed-is}
-use Rattle.words.specs.Words.{Word, bodies}
+use Rattle.words.specs.Words.{Word}
 use Rattle.words.specs.Taking.{Got, taken, numbered, named, front, orElse}
-use Rattle.words.proofs.Steps.{both-true}
 use Rattle.statements.specs.Spelling.{openqasm, two, include, qelib, qreg, cx, u1, pi, mark}
 use Rattle.statements.specs.Statements.{versionOf, includeOf, nameOf, registerOf, manyOf, timesOf, dividedOf, overOf, multipleOf, angleOf, qubitOf, cnotOf, tailOf, openingOf, turnOf, singleOf, otherOf, gateOf}
 use Rattle.statements.proofs.Taken.{Leads, taken-back, number-back-word, number-most}

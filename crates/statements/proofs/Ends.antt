@@ -4,13 +4,13 @@ use mathlib.Core.Bool.{Bool, true, false}
 use mathlib.Core.List.{List, [], _∷_}
 use mathlib.Core.Option.{Option, none, some}
 use Prim.Native.Nat.{ℕ}
-use Rattle.sets.specs.Pick.{pick, either}
+use Rattle.sets.specs.Pick.{pick}
 use Rattle.spots.proofs.Numbers.{never}
 use Rattle.words.specs.Bytes.{same}
 use Rattle.words.specs.Words.{Word}
 use Rattle.words.specs.Taking.{Got, taken}
 use Rattle.statements.specs.Spelling.{mark}
-use Rattle.statements.specs.Statements.{tailOf, openingOf, hasEnd, isThere, endsIn, endsAt, badAngle}
+use Rattle.statements.specs.Statements.{tailOf, openingOf, hasEnd, endsIn, endsAt, badAngle}
 
 not-semi : (w : Word) (ts : List Word) → taken (mark 59) (some (w ∷ ts)) ≡ none → same (w .bytes) (mark 59) ≡ false
 unfolding taken

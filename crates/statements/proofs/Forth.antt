@@ -1,9 +1,9 @@
 -- Every form of a gate is read as its record. Assumes nothing.
-use mathlib.Core.Path.{_≡_, refl, sym, ap, _∙_, subst}
+use mathlib.Core.Path.{_≡_, refl, sym, ap, _∙_}
 use mathlib.Core.Bool.{Bool, true, false}
 use mathlib.Core.List.{List, [], _∷_, _++_, append-assoc}
-use mathlib.Core.Option.{Option, none, some}
-use Prim.Native.Nat.{ℕ, zero, suc, _+_, _^_, _≤_, _<_}
+use mathlib.Core.Option.{none, some}
+use Prim.Native.Nat.{ℕ, zero, suc, _≤_, _<_}
 use native.Mathlib.Omega.{arith}
 use lib.ListN.{length, getD}
 use Rattle.gates.specs.Layout.{packed}
@@ -12,14 +12,14 @@ use Rattle.lines.specs.Lines.{digits}
 use Rattle.spots.specs.Numbers.{digitOf}
 use Rattle.words.specs.Bytes.{same}
 use Rattle.words.specs.Words.{Word, bodies}
-use Rattle.words.specs.Taking.{Got, taken, numbered, named, front, orElse}
-use Rattle.statements.specs.Spelling.{mark, pi, cx, u1}
+use Rattle.words.specs.Taking.{Got, taken, numbered, front, orElse}
+use Rattle.statements.specs.Spelling.{mark, cx, u1}
 use Rattle.statements.specs.Statements.{manyOf, timesOf, dividedOf, overOf, multipleOf, angleOf, qubitOf, cnotOf, tailOf, openingOf, turnOf, singleOf, otherOf, gateOf}
 use Rattle.statements.specs.Forms.{Times, nought, once, many, Over, plain, over, Form, cnot, turn, xgate, hadamard, GoodTimes, GoodOver, GoodForm, timesWords, overWords, minusWords, qubitWords, formWords, timesIn, overIn, recordIn}
 use native.Mathlib.Nat.{pow-le-pow-right}
 use Rattle.angles.proofs.Powers.{over-power}
 use Rattle.lines.proofs.Digits.{digits-small}
-use Rattle.statements.proofs.Taken.{same-self, digits-other, taken-forth, taken-digits, number-word}
+use Rattle.statements.proofs.Taken.{digits-other, taken-forth, number-word}
 
 -- words that are spelt so, at any places
 abbrev pub tag : (ℕ → ℕ) → List (List ℕ) → List Word

@@ -1,11 +1,9 @@
 -- The first three statements: where their words stand they are read, and what was read stood there. Assumes nothing.
 use mathlib.Core.Path.{_≡_, refl, sym, ap, _∙_}
 use mathlib.Core.Bool.{true}
-use mathlib.Core.List.{List, [], _∷_, _++_}
-use mathlib.Core.Option.{Option, none, some}
-use Prim.Native.Nat.{ℕ, zero, suc, _≤_}
-use native.Mathlib.Omega.{arith}
-use lib.ListN.{length}
+use mathlib.Core.List.{List, [], _++_}
+use mathlib.Core.Option.{Option, some}
+use Prim.Native.Nat.{ℕ, _≤_}
 use Rattle.words.specs.Bytes.{same}
 use Rattle.words.specs.Words.{Word, bodies}
 use Rattle.words.specs.Taking.{Got, taken, numbered, named, front, isName}

@@ -7,7 +7,6 @@ use Prim.Native.Nat.{ℕ, suc, _≤_}
 use native.Mathlib.Omega.{arith}
 use lib.ListN.{length}
 use Rattle.sets.specs.Pick.{pick, either}
-use Rattle.spots.proofs.Numbers.{never}
 use Rattle.words.specs.Bytes.{same}
 use Rattle.words.specs.Words.{Word, bodies}
 use Rattle.words.specs.Taking.{Got, taken}

@@ -1,12 +1,11 @@
 -- Words one by one: what stands there is taken, and what was taken stood there. Assumes nothing.
-use mathlib.Core.Path.{_≡_, refl, sym, ap, _∙_, subst}
+use mathlib.Core.Path.{_≡_, refl, sym, ap, _∙_}
 use mathlib.Core.Bool.{Bool, true, false}
 use mathlib.Core.List.{List, [], _∷_, _++_, append-nil}
 use mathlib.Core.Option.{Option, none, some}
 use Prim.Native.Nat.{ℕ, zero, suc, _+_, _/_, _%_, _≤_, _<_}
 use native.Mathlib.Omega.{arith}
 use lib.Dec.{eqb, ltb}
-use lib.ListN.{length, getD, drop}
 use borrow.Author.Tests.{eqb-true, eq-eqb, ne-eqb, ltb-true, ltb-false}
 use Rattle.sets.specs.Pick.{pick, both}
 use Rattle.lines.specs.Lines.{digits}
@@ -15,7 +14,7 @@ use Rattle.spots.specs.Numbers.{readNumber, digitOf}
 use Rattle.spots.proofs.Numbers.{never, number-back, number-forth, number-le}
 use Rattle.words.specs.Bytes.{same}
 use Rattle.words.specs.Words.{Word, bodies}
-use Rattle.words.specs.Taking.{Got, taken, behind, numbered, isName, named, front}
+use Rattle.words.specs.Taking.{taken, behind, numbered, isName, named, front}
 
 -- ---- the same words
 

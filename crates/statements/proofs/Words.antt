@@ -1,15 +1,13 @@
 -- Words with their places: where words stand that are spelt so, a statement is read, and what stands behind them is left. Assumes nothing.
 use mathlib.Core.Path.{_≡_, refl, sym, ap, _∙_}
-use mathlib.Core.List.{List, [], _∷_, _++_, append-assoc, append-nil, map}
-use mathlib.Core.Option.{Option, none, some}
-use Prim.Native.Nat.{ℕ, zero, suc, _+_, _≤_}
+use mathlib.Core.List.{List, [], _∷_, _++_, map}
+use mathlib.Core.Option.{some}
+use Prim.Native.Nat.{ℕ, suc}
 use native.Mathlib.Omega.{arith}
 use lib.ListN.{length, getD, length-append}
 use Rattle.words.specs.Words.{Word, bodies}
-use Rattle.words.specs.Taking.{Got}
 use Rattle.statements.specs.Statements.{gateOf}
 use Rattle.statements.specs.Forms.{Form, GoodForm, formWords, recordIn}
-use Rattle.statements.proofs.Taken.{Leads}
 use Rattle.statements.proofs.Forth.{tag, tag-bodies, afterForm, gate-forth}
 use Rattle.statements.proofs.Back.{gate-back}
 

@@ -3,12 +3,12 @@ use mathlib.Core.Bool.{Bool, true, false}
 use mathlib.Core.List.{List, [], _∷_}
 use mathlib.Core.Option.{Option, none, some}
 use Prim.Native.Nat.{ℕ}
-use Rattle.sets.specs.Pick.{pick, both, either}
+use Rattle.sets.specs.Pick.{pick, either}
 use Rattle.gates.specs.Layout.{packed}
 use Rattle.angles.specs.Units.{isOver, unitsOf}
 use Rattle.words.specs.Bytes.{same}
 use Rattle.words.specs.Words.{Word}
-use Rattle.words.specs.Taking.{Got, lost, taken, numbered, front, named, orElse}
+use Rattle.words.specs.Taking.{Got, taken, numbered, front, named, orElse}
 use Rattle.statements.specs.Limits.{mostQubit, mostTimes}
 use Rattle.statements.specs.Spelling.{openqasm, two, include, qelib, qreg, cx, u1, pi, mark}
 

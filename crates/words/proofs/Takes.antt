@@ -1,15 +1,14 @@
 -- What is taken where the first word is known. Assumes nothing.
-use mathlib.Core.Path.{_≡_, refl, sym, ap, _∙_}
-use mathlib.Core.Bool.{Bool, true, false}
-use mathlib.Core.List.{List, [], _∷_, _++_}
-use mathlib.Core.Option.{Option, none, some}
-use Prim.Native.Nat.{ℕ, zero, suc, _+_, _-_, _≤_, _<_}
-use native.Mathlib.Omega.{arith}
-use lib.ListN.{length, getD, drop}
+use mathlib.Core.Path.{_≡_}
+use mathlib.Core.Bool.{true, false}
+use mathlib.Core.List.{List, [], _∷_}
+use mathlib.Core.Option.{none, some}
+use Prim.Native.Nat.{ℕ, _≤_, _<_}
+use lib.ListN.{length, drop}
 use Rattle.spots.specs.Numbers.{readNumber}
 use Rattle.words.specs.Bytes.{same}
 use Rattle.words.specs.Words.{Word}
-use Rattle.words.specs.Taking.{Got, lost, taken, behind, numbered, isName, named, front}
+use Rattle.words.specs.Taking.{lost, taken, numbered, isName, named, front}
 use Rattle.words.proofs.Steps.{at-cons, at-end}
 
 module _ (ws : List Word) (e : ws ≡ []) where

@@ -1,12 +1,10 @@
 -- What the code's places in a text stand for.
-use mathlib.Core.Bool.{Bool, true, false}
+use mathlib.Core.Bool.{false}
 use mathlib.Core.List.{List, [], _∷_, _++_}
 use mathlib.Core.Option.{Option, none, some}
 use mathlib.Core.Path.{_≡_}
 use Prim.Native.Nat.{ℕ, _+_, _-_, _≤_, _<_}
-use lib.Dec.{ltb}
 use lib.ListN.{length, getD, take, drop}
-use Rattle.sets.specs.Pick.{pick}
 use Rattle.words.specs.Bytes.{blank, slashes}
 use Rattle.words.specs.Words.{Word, words}
 use Rattle.words.specs.Taking.{Got, named, front}

@@ -3,7 +3,7 @@ use mathlib.Core.Bool.{Bool, true, false}
 use mathlib.Core.List.{List, [], _∷_}
 use mathlib.Core.Option.{Option, none, some}
 use Prim.Native.Nat.{ℕ}
-use Rattle.sets.specs.Pick.{pick, both, either}
+use Rattle.sets.specs.Pick.{pick, both}
 use Rattle.spots.specs.Numbers.{readNumber}
 use Rattle.words.specs.Bytes.{small, inName, same}
 use Rattle.words.specs.Words.{Word}

@@ -1,12 +1,10 @@
 -- `qasm_reading::read::body` meets its contract. Assumes nothing.
 use mathlib.Core.Path.{_≡_, refl, sym, ap, _∙_}
-use mathlib.Core.Option.{some}
 use native.Mathlib.Omega.{arith}
 use denote.Ref.{now}
 use lib.ListN.{length, drop}
 use Rattle.lines.specs.Lent.{onto}
 use Rattle.words.specs.Words.{words}
-use Rattle.statements.specs.Statements.{badAngle}
 use Rattle.qasm_reading.specs.Parsing.{circuit, runOf, endOf, registered}
 use Rattle.qasm_reading.specs.Readings.{answerOf, gatesIn}
 use Rattle.qasm_reading.proofs.Answers.{end-angle, end-statement, end-done, room-short, room-long}

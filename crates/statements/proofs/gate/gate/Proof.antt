@@ -1,13 +1,10 @@
 -- `statements::gate::gate` meets its contract. Assumes nothing.
-use mathlib.Core.Path.{_≡_, refl, sym, ap, _∙_, subst}
+use mathlib.Core.Path.{ap}
 use denote.Ref.{now}
-use lib.ListN.{length, getD, drop}
-use Prim.Native.Nat.{_+_, _-_, _≤_, _<_}
-use native.Mathlib.Omega.{arith}
-use mathlib.Core.Option.{some, none}
+use lib.ListN.{drop}
+use mathlib.Core.Option.{some}
 use Rattle.words.specs.Words.{words}
-use Rattle.words.specs.Places.{leftAt, gotAt}
-use Rattle.words.specs.Taking.{Got}
+use Rattle.words.specs.Places.{leftAt}
 use Rattle.statements.proofs.Chains.{gate-cnot, gate-other}
 use borrow.Author.Needs.{needs}
 use Rattle.statements.proofs.gate.gate.Statement.{statement}

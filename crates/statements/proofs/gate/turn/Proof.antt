@@ -1,10 +1,8 @@
 -- `statements::gate::turn` meets its contract. Assumes nothing.
-use mathlib.Core.Path.{_≡_, refl, sym, ap, _∙_, subst}
+use mathlib.Core.Path.{ap}
 use denote.Ref.{now}
-use lib.ListN.{length, getD, drop}
-use Prim.Native.Nat.{_+_, _-_, _≤_, _<_}
 use native.Mathlib.Omega.{arith}
-use Rattle.words.specs.Places.{leftAt, gotAt}
+use Rattle.words.specs.Places.{leftAt}
 use Rattle.words.specs.Taking.{Got}
 use Rattle.statements.proofs.Chains.{tail-le, angle-lt, turn-chain}
 use borrow.Author.Needs.{needs}

@@ -1,11 +1,10 @@
 -- `statements::head::has_end` meets its contract. Assumes nothing.
 use borrow.Author.Needs.{needs}
-use mathlib.Core.Path.{_≡_, refl, sym, ap, _∙_, subst}
+use mathlib.Core.Path.{_≡_, refl, ap, _∙_}
 use denote.Ref.{now}
-use lib.ListN.{length, getD, drop}
-use Prim.Native.Nat.{_+_, _-_, _≤_, _<_}
+use lib.ListN.{length, drop}
+use Prim.Native.Nat.{_-_}
 use native.Mathlib.Omega.{arith}
-use mathlib.Core.Option.{some, none}
 use Rattle.words.specs.Words.{words}
 use Rattle.words.specs.Places.{leftAt}
 use Rattle.statements.specs.Statements.{hasEnd}

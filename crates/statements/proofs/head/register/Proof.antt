@@ -1,11 +1,7 @@
 -- `statements::head::register` meets its contract. Assumes nothing.
-use mathlib.Core.Path.{_≡_, refl, sym, ap, _∙_, subst}
+use mathlib.Core.Path.{_∙_}
 use denote.Ref.{now}
 use mathlib.Core.List.{_++_}
-use lib.ListN.{length, getD, drop}
-use Prim.Native.Nat.{_+_, _-_, _≤_, _<_}
-use native.Mathlib.Omega.{arith}
-use mathlib.Core.Option.{some, none}
 use Rattle.words.specs.Words.{words}
 use Rattle.words.specs.Places.{leftAt}
 use Rattle.statements.proofs.Chains.{register-chain, register-there, name-chain}

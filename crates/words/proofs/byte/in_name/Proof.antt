@@ -1,5 +1,5 @@
 -- `words::byte::in_name` meets its contract. Assumes nothing.
-use mathlib.Core.Path.{_≡_, refl, sym, ap, _∙_}
+use mathlib.Core.Path.{sym, _∙_}
 use Rattle.words.specs.Bytes.{inName, small}
 use borrow.Author.Needs.{needs}
 use Rattle.words.proofs.byte.in_name.Statement.{statement}

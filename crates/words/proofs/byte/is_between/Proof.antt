@@ -1,5 +1,5 @@
 -- `words::byte::is_between` meets its contract. Assumes nothing.
-use borrow.Author.Tests.{lt-ltb, le-ltb, le-leb, lt-leb, eq-eqb, ne-eqb}
+use borrow.Author.Tests.{le-leb, lt-leb}
 use Rattle.words.proofs.byte.is_between.Statement.{statement}
 use Rattle.words.proofs.byte.is_between.Tie as tie
 

@@ -1,8 +1,5 @@
 -- `words::take::name` meets its contract. Assumes nothing.
-use mathlib.Core.Path.{_≡_, refl, sym, ap, _∙_, subst}
-use denote.Ref.{now}
-use lib.ListN.{length, getD, drop}
-use Prim.Native.Nat.{_+_, _-_, _≤_, _<_}
+use mathlib.Core.Path.{sym, _∙_}
 use native.Mathlib.Omega.{arith}
 use Rattle.spots.proofs.Numbers.{never}
 use Rattle.words.specs.Taking.{named}

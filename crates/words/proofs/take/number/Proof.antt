@@ -1,9 +1,6 @@
 -- `words::take::number` meets its contract. Assumes nothing.
-use mathlib.Core.Path.{_≡_, refl, sym, ap, _∙_, subst}
+use mathlib.Core.Path.{sym, ap, _∙_}
 use denote.Ref.{now}
-use lib.ListN.{length, getD, drop}
-use Prim.Native.Nat.{_+_, _-_, _≤_, _<_}
-use native.Mathlib.Omega.{arith}
 use Rattle.spots.specs.Places.{restAt}
 use Rattle.words.specs.Taking.{numbered}
 use Rattle.words.specs.Places.{part}
