@@ -1,5 +1,5 @@
-//! Circuits in OpenQASM 2.0 for `generate`, each with the text of its couplers: drafts of jobs, written
-//! as statements, these as words, and the words in any layout.
+//! Circuits in OpenQASM 2.0 and 3.0 for `generate`, each with the text of its couplers: drafts of jobs,
+//! written as statements, these as words, and the words in any layout.
 
 use super::*;
 
@@ -16,27 +16,78 @@ fn words(statement: &str) -> Statement {
     statement.split(' ').map(str::to_string).collect()
 }
 
-const VERSION: &str = "OPENQASM 2.0 ;";
-const INCLUDE: &str = "include \"qelib1.inc\" ;";
+#[derive(Clone, Copy, PartialEq)]
+enum Language {
+    /// OpenQASM 2.0 with `u1` alone. Stored circuits are drawn in it, and are not to change.
+    Early,
+    Two,
+    Three,
+}
+use Language::{Early, Three, Two};
 
-fn register(name: &str, n: usize) -> String {
-    format!("qreg {name} [ {n} ] ;")
+/// Those in one of which a circuit is drawn.
+type Languages = &'static [Language];
+const EARLY: Languages = &[Early];
+const BOTH: Languages = &[Two, Three];
+
+/// Where there is no choice, the dice are left alone.
+fn one_of<T: Clone>(dice: &mut Dice, list: &[T]) -> T {
+    if let [only] = list { only.clone() } else { dice.pick(list) }
+}
+
+impl Language {
+    fn head(self, name: &str, n: usize) -> [Statement; 3] {
+        let (version, include, register) = match self {
+            Early | Two => ("2.0", "qelib1.inc", format!("qreg {name} [ {n} ] ;")),
+            Three => ("3.0", "stdgates.inc", format!("qubit [ {n} ] {name} ;")),
+        };
+        [format!("OPENQASM {version} ;"), format!("include \"{include}\" ;"), register].map(|text| words(&text))
+    }
+
+    /// The rotations without a common phase come first.
+    fn rotations(self) -> &'static [&'static str] {
+        match self {
+            Early => &["u1"],
+            Two => &["u1", "rz"],
+            Three => &["p", "u1", "rz", "rz"],
+        }
+    }
+
+    fn names(self) -> &'static [&'static str] {
+        if self == Early { NAMES } else { LATER_NAMES }
+    }
+
+    /// What is strange in either version, or in one of them.
+    fn odd(self, early: &[&'static str], later: &[&'static str]) -> Vec<&'static str> {
+        if self == Early { early.to_vec() } else { [early, later].concat() }
+    }
 }
 
 /// No word is reserved.
 const NAMES: &[&str] = &[
     "q", "q", "q", "r", "pi", "cx", "u1", "x", "h", "qreg", "include", "p", "e", "a_", "qB", "q0", "wire_7", "aAzZ09_",
 ];
+const LATER_NAMES: &[&str] = &["q", "q", "q", "q", "p", "rz", "gphase", "qubit", "pi", "u1", "x", "wire_7", "bit", "a"];
 
 /// One of the ways to write an angle of so many units.
 fn spelled(dice: &mut Dice, units: usize) -> String {
+    spelled_in(dice, units, 32_768, 65_535)
+}
+
+/// One of the ways to write so many half units of a common phase.
+fn spelled_phase(dice: &mut Dice, half_units: usize) -> String {
+    spelled_in(dice, half_units, 65_536, 131_071)
+}
+
+/// Pi has so many parts, which is also its largest divisor; it is multiplied by `most` at most.
+fn spelled_in(dice: &mut Dice, parts: usize, pi: usize, most: usize) -> String {
     let is_minus = dice.percent(40);
-    let left = if is_minus { (65_536 - units) % 65_536 } else { units };
-    // Over 32,768 / step, k counts steps of so many units. Full turns may be added to it.
-    let steps: Vec<usize> = (0..16).map(|power| 1 << power).filter(|step| left % step == 0).collect();
+    let left = if is_minus { (2 * pi - parts) % (2 * pi) } else { parts };
+    // Over pi / step, k counts steps of so many parts. Full turns may be added to it.
+    let steps: Vec<usize> = (0..=pi.ilog2()).map(|power| 1 << power).filter(|step| left % step == 0).collect();
     let step = dice.pick(&steps);
-    let (least, turn) = (left / step, 65_536 / step);
-    let turns = (65_535 - least) / turn;
+    let (least, turn) = (left / step, 2 * pi / step);
+    let turns = (most - least) / turn;
     let k = least + turn * if dice.percent(30) { dice.between(0, turns) } else { 0 };
     let multiple = match k {
         0 if dice.percent(50) => "0".to_string(),
@@ -44,27 +95,77 @@ fn spelled(dice: &mut Dice, units: usize) -> String {
         _ => format!("{k} * pi"),
     };
     let minus = if is_minus { "- " } else { "" };
-    let divisor = if step == 32_768 && dice.percent(80) { String::new() } else { format!(" / {}", 32_768 / step) };
+    let divisor = if step == pi && dice.percent(80) { String::new() } else { format!(" / {}", pi / step) };
     format!("{minus}{multiple}{divisor}")
 }
 
-/// The way in which angles are printed.
-fn in_units(units: usize) -> String {
-    format!("{units} * pi / 32768")
+/// The longest and the shortest ways to write those angles that lie at an end.
+const END_ANGLES: &[(usize, &[&str])] = &[
+    (0, &["0", "- 0", "2 * pi", "- 2 * pi", "4 * pi", "65534 * pi", "- 65532 * pi", "0 * pi / 32768"]),
+    (32_768, &["pi", "- pi", "3 * pi", "65535 * pi", "- 65535 * pi", "65533 * pi", "32768 * pi / 32768"]),
+    (1, &["pi / 32768", "- 65535 * pi / 32768"]),
+    (65_535, &["- pi / 32768", "65535 * pi / 32768"]),
+];
+
+/// A rotation without its qubit, by one of the words and in one of the ways to say it.
+fn turned(dice: &mut Dice, language: Language, rotations: &[&str], units: usize) -> String {
+    let word = one_of(dice, rotations);
+    let ends = END_ANGLES.iter().find(|(end, _)| *end == units && language != Early);
+    match ends {
+        Some((_, ways)) if dice.percent(50) => format!("{word} ( {} )", dice.pick(ways)),
+        _ => format!("{word} ( {} )", spelled(dice, units)),
+    }
 }
 
-fn statement(gate: Gate, name: &str, angle: impl FnOnce(usize) -> String) -> Statement {
+/// The way in which it is printed in 2.0.
+fn in_units(units: usize) -> String {
+    format!("u1 ( {units} * pi / 32768 )")
+}
+
+fn statement(gate: Gate, name: &str, rotation: impl FnOnce(usize) -> String) -> Statement {
     words(&match gate {
         Cnot(c, t) => format!("cx {name} [ {c} ] , {name} [ {t} ] ;"),
-        Rot(q, units) => format!("u1 ( {} ) {name} [ {q} ] ;", angle(units)),
+        Rot(q, units) => format!("{} {name} [ {q} ] ;", rotation(units)),
         X(q) => format!("x {name} [ {q} ] ;"),
         H(q) => format!("h {name} [ {q} ] ;"),
     })
 }
 
-fn statements(draft: &Draft, name: &str, mut angle: impl FnMut(usize) -> String) -> Vec<Statement> {
-    let head = [VERSION, INCLUDE, &register(name, draft.n)].map(words);
-    head.into_iter().chain(draft.gates.iter().map(|&gate| statement(gate, name, &mut angle))).collect()
+fn statements(
+    language: Language, draft: &Draft, name: &str, mut rotation: impl FnMut(usize) -> String,
+) -> Vec<Statement> {
+    let gates = draft.gates.iter().map(|&gate| statement(gate, name, &mut rotation));
+    language.head(name, draft.n).into_iter().chain(gates).collect()
+}
+
+fn any_phase(dice: &mut Dice) -> usize {
+    match dice.below(10) {
+        0..3 => dice.pick(&[0, 1, 2, 65_535, 65_536, 65_537, 131_070, 131_071]),
+        3..5 => dice.between(1, 9),
+        _ => dice.below(131_072),
+    }
+}
+
+/// So many `gphase` among the gates.
+fn put_phases(dice: &mut Dice, statements: &mut Vec<Statement>, count: usize) {
+    for _ in 0..count {
+        let half_units = any_phase(dice);
+        let phase = words(&format!("gphase ( {} ) ;", spelled_phase(dice, half_units)));
+        statements.insert(dice.between(3, statements.len()), phase);
+    }
+}
+
+/// A circuit as statements, said in one of many ways. In 3.0 nearly every circuit would have a common phase,
+/// so some are drawn with nothing that brings one but flips.
+fn said(dice: &mut Dice, language: Language, draft: &Draft, name: &str) -> Vec<Statement> {
+    let is_quiet = language == Three && dice.percent(20);
+    let rotations = if is_quiet { &language.rotations()[..2] } else { language.rotations() };
+    let mut statements = statements(language, draft, name, |units| turned(dice, language, rotations, units));
+    if language == Three && !is_quiet {
+        let count = dice.pick(&[0, 0, 1, 1, 2, 3, 8]);
+        put_phases(dice, &mut statements, count);
+    }
+    statements
 }
 
 // ------------------------------------------------------------ layouts
@@ -146,9 +247,9 @@ fn set(dice: &mut Dice, statements: &[Statement], layout: Layout) -> Vec<u8> {
     text
 }
 
-/// As circuits are printed.
+/// As circuits are printed in 2.0.
 fn as_printed(draft: &Draft) -> Vec<u8> {
-    set(&mut Dice(0), &statements(draft, "q", in_units), Layout::Lines)
+    set(&mut Dice(0), &statements(Early, draft, "q", in_units), Layout::Lines)
 }
 
 /// A long circuit in a loose layout would be longer than a text may be.
@@ -162,11 +263,12 @@ fn any_layout(dice: &mut Dice, draft: &Draft) -> Layout {
     }
 }
 
-/// A circuit drawn anyhow: its name, its angles, its layout.
-fn drawn(dice: &mut Dice, draft: &Draft) -> Vec<u8> {
-    let name = dice.pick(NAMES);
+/// A circuit drawn anyhow: its version, its name, its angles, its layout.
+fn drawn(dice: &mut Dice, languages: Languages, draft: &Draft) -> Vec<u8> {
+    let language = one_of(dice, languages);
+    let name = dice.pick(language.names());
     let layout = any_layout(dice, draft);
-    let statements = statements(draft, name, |units| spelled(dice, units));
+    let statements = said(dice, language, draft, name);
     set(dice, &statements, layout)
 }
 
@@ -176,8 +278,8 @@ fn couplers_text(couplers: &[(usize, usize)]) -> Vec<u8> {
     couplers.iter().flat_map(|(a, b)| format!("e\t{a}\t{b}\n").into_bytes()).collect()
 }
 
-fn pair_of(dice: &mut Dice, draft: &Draft) -> Pair {
-    [couplers_text(&draft.couplers), drawn(dice, draft)]
+fn pair_of(dice: &mut Dice, languages: Languages, draft: &Draft) -> Pair {
+    [couplers_text(&draft.couplers), drawn(dice, languages, draft)]
 }
 
 fn printed_pair(draft: &Draft) -> Pair {
@@ -207,6 +309,9 @@ const ODD_WORDS: &[&str] = &[
     "1.0", "2.0", "3.0", ".", "q", "Q", "r", "q.r", "_", "cx", "CX", "x", "X", "h", "u1", "u2", "U", "rz", "OPENQASM",
     "include", "qreg", "creg", "qubit", "\u{3c0}", "#", "\u{b}", "\u{c}", "e", "",
 ];
+const LATER_WORDS: &[&str] = &[
+    "p", "rz", "gphase", "gphase", "qubit", "131071", "131072", "65536", "131072", "3", "3.1", "4", "P", "Rz", "phase",
+];
 
 /// Statements that are not carried, or not in this form, where the register is `q`. Some are two, and some
 /// are good.
@@ -233,6 +338,44 @@ const ODD_STATEMENTS: &[&str] = &[
     "x q[0]: ;",
 ];
 
+/// The same since E5; most are good ones in 3.0, or in one of the versions.
+const LATER_STATEMENTS: &[&str] = &[
+    "rz(pi) q[0] ;", "rz(pi)q[0] ;", "rz ;", "rz q[0] ;", "rz pi q[0] ;", "rz(pi) ;", "rz(pi) q ;", "rz(pi) r[0] ;",
+    "rz(pi) q[256] ;", "rz(pi) q[255] ;", "rz(pi) q[0],q[1] ;", "rz(pi q[0] ;", "rz pi) q[0] ;", "rz[pi] q[0] ;",
+    "rz() q[0] ;", "rz((pi)) q[0] ;", "rz(pi)) q[0] ;", "rz(pi/3) q[0] ;", "rz(pi/3) q[256] ;", "rz(pi/3) r[0] ;",
+    "rz(pi/3) q ;", "rz(pi) q[0] rz(pi) q[1] ;", "rz(u1(pi) q[0]) q[1] ;", "rz(65535*pi) q[0] ;",
+    "rz(-65535*pi) q[0] ;", "rz(65536*pi) q[0] ;", "rz(131071*pi) q[0] ;", "rz(pi/65536) q[0] ;", "Rz(pi) q[0] ;",
+    "RZ(pi) q[0] ;", "rz.(pi) q[0] ;", "rzz(pi) q[0],q[1] ;", "rx(pi) q[0] ;", "ry(pi) q[0] ;", "crz(pi) q[0],q[1] ;",
+    "p(pi) q[0] ;", "p(pi)q[0] ;", "p ;", "p q[0] ;", "p pi q[0] ;", "p(pi) ;", "p(pi) q ;", "p(pi) r[0] ;",
+    "p(pi) p[0] ;", "p(pi) q[256] ;", "p(pi) q[255] ;", "p(pi) q[0],q[1] ;", "p(pi q[0] ;", "p pi) q[0] ;",
+    "p() q[0] ;", "p((pi)) q[0] ;", "p(pi/3) q[0] ;", "p(pi/3) q[256] ;", "p(pi/3) r[0] ;", "p(pi/3) ;",
+    "p(p(pi) q[0]) q[1] ;", "p(65535*pi) q[0] ;", "p(65536*pi) q[0] ;", "p(pi/65536) q[0] ;", "P(pi) q[0] ;",
+    "phase(pi) q[0] ;", "cp(pi) q[0],q[1] ;", "u1(pi) q[0] ;", "u1(pi) ;", "u1(pi/3) ;", "U(0,0,pi) q[0] ;",
+    "gphase(pi) ;", "gphase (pi) ;", "gphase ;", "gphase() ;", "gphase( ;", "gphase) ;", "gphase)( ;", "gphase(pi ;",
+    "gphase pi ;", "gphase pi) ;", "gphase[pi] ;", "gphase(pi)) ;", "gphase((pi)) ;", "gphase((pi) ;",
+    "gphase(pi)(pi) ;", "gphase(pi), ;", "gphase(pi)/2 ;", "gphase(pi) pi ;", "gphase(pi) gphase(pi) ;",
+    "gphase(gphase(pi)) ;", "gphase(pi) q[0] ;", "gphase(pi) q ;", "gphase(pi/3) ;", "gphase(pi/3) q[0] ;",
+    "gphase(pi) q[0]) ;", "gphase q[0] ;", "gphase[0] ;", "gphase(q[0]) ;", "gphase(0) ;", "gphase(-0) ;",
+    "gphase(131071*pi/65536) ;", "gphase(-131071*pi/65536) ;", "gphase(131072*pi/65536) ;", "gphase(131071*pi) ;",
+    "gphase(131072*pi) ;", "gphase(pi/65536) ;", "gphase(pi/131072) ;", "gphase(1) ;", "gphase(pi,pi) ;",
+    "Gphase(pi) ;", "GPHASE(pi) ;", "gphase.(pi) ;", "gphases(pi) ;", "ctrl @ gphase(pi) q[0] ;", "(pi) ;",
+    "inv @ x q[0] ;", "qubit q ;", "qubit[3] q ;", "qubit[2] r ;", "qubit r[2] ;", "qreg r[3] ;", "bit c ;",
+    "bit[2] c ;", "OPENQASM 3.0 ;", "include \"stdgates.inc\" ;", "reset q ;", "let a = q[0] ;", "// common phase ;",
+];
+
+/// What is no version.
+const ODD_VERSIONS: &[&str] = &[
+    "", ";", "OPENQASM ;", "OPENQASM", "OPENQASM 2.0", "OPENQASM 3.0", "OPENQASM 2 ;", "OPENQASM 3 ;", "OPENQASM 2.1 ;",
+    "OPENQASM 3.1 ;", "OPENQASM 4.0 ;", "OPENQASM 0 ;", "OPENQASM 2.00 ;", "OPENQASM 3.00 ;", "OPENQASM 03.0 ;",
+    "OPENQASM 3. ;", "OPENQASM .0 ;", "OPENQASM 3 . 0 ;", "OPENQASM 3 .0 ;", "OPENQASM 2 .0 ;", "OPENQASM2.0 ;",
+    "OPENQASM3.0 ;", "OPENQASM \"2.0\" ;", "OPENQASM \"3.0\" ;", "OPENQASM 2.0 2.0 ;", "OPENQASM 2.0 3.0 ;",
+    "OPENQASM 2.0,3.0 ;", "OPENQASM -2.0 ;", "OPENQASM (2.0) ;", "OPENQASM = 3.0 ;", "3.0 ;", "2.0 OPENQASM ;",
+    "openqasm 2.0 ;", "openqasm 3.0 ;", "OpenQASM 3.0 ;", "QASM 2.0 ;", "OPENQASM 3.0.0 ;", "OPENQASM 3.0 qubit ;",
+    "OPENQASM 3.0 include ;", "OPENQASM 3,0 ;", "OPENQASM two ;", "OPENQASM \u{663}.0 ;", "\u{feff}OPENQASM 3.0 ;",
+    "OPENQASM 3.0\u{c} ;", "include \"stdgates.inc\" ;", "include \"qelib1.inc\" ;", "qubit[3] q ;", "qreg q[3] ;",
+    "x q[0] ;", "gphase(pi) ;", "gphase(pi/3) ;", "u1(pi/3) q[0] ;", "// OPENQASM 2.0 ;", "{ ;", "\" ;",
+];
+
 /// What is no angle. Two of these are comments, which take the rest of the statement with them.
 const ODD_ANGLES: &[&str] = &[
     "", "-", "+", "*", "/", "1", "2", "-1", "1/2", "0.5", ".5", "1e0", "0x1", "00", "-00", "000", "01", "+0", "+pi",
@@ -250,6 +393,15 @@ const ODD_ANGLES: &[&str] = &[
     "-\u{b}pi", "pi/2\u{c}", "\0", "pi\\2", "pi:2", "pi'", "2\u{d7}pi", "u1(pi) q[0]", "pi// ) q[0]",
 ];
 
+/// At the ends of what may stand in a `gphase`, and beyond; none of them is a rotation's.
+const LATER_ANGLES: &[&str] = &[
+    "131071*pi", "-131071*pi", "131072*pi", "-131072*pi", "131073*pi", "0131071*pi", "262143*pi", "1000000*pi",
+    "131071*pi/65536", "-131071*pi/65536", "131072*pi/65536", "65536*pi/65536", "99999*pi/65536", "100000*pi/65536",
+    "pi/65536", "-pi/65536", "0/65536", "pi/131072", "0/131072", "131071*pi/131072", "pi/65537", "pi/98304",
+    "pi/065536", "131071*pi/3", "4295098367*pi", "pi/4295032832", "18446744073709682687*pi",
+    "pi/18446744073709617152",
+];
+
 /// Blanks part words, and so do most of the bytes that are words by themselves.
 fn cut_into_words(statement: &str) -> Statement {
     let marks = [";", ",", "(", ")", "[", "]", "*"];
@@ -257,10 +409,10 @@ fn cut_into_words(statement: &str) -> Statement {
     parted.split(' ').filter(|word| !word.is_empty()).map(str::to_string).collect()
 }
 
-fn damage_words(dice: &mut Dice, statement: &mut Statement) {
+fn damage_words(dice: &mut Dice, language: Language, statement: &mut Statement) {
     let place = dice.below(statement.len().max(1));
     let other = dice.below(statement.len().max(1));
-    let odd = dice.pick(ODD_WORDS).to_string();
+    let odd = dice.pick(&language.odd(ODD_WORDS, LATER_WORDS)).to_string();
     match dice.below(5) {
         0 => statement.insert(place, odd),
         1 if !statement.is_empty() => statement.insert(place, statement[other].clone()),
@@ -271,31 +423,56 @@ fn damage_words(dice: &mut Dice, statement: &mut Statement) {
     }
 }
 
-fn damage_statements(dice: &mut Dice, all: &mut Vec<Statement>) {
+/// An angle that is none, or is none of this word.
+fn with_odd_angle(dice: &mut Dice, language: Language) -> Statement {
+    let words: &[&str] = if language == Three { &["u1", "rz", "p", "gphase", "gphase"] } else { language.rotations() };
+    let word = one_of(dice, words);
+    let angle = dice.pick(&language.odd(ODD_ANGLES, LATER_ANGLES));
+    cut_into_words(&if word == "gphase" { format!("gphase({angle});") } else { format!("{word}({angle}) q[0];") })
+}
+
+fn damage_statements(dice: &mut Dice, language: Language, all: &mut Vec<Statement>) {
     // The few statements before the gates are not to be spared.
     let i = if dice.percent(40) { dice.below(all.len().min(4)) } else { dice.below(all.len()) };
     let j = dice.below(all.len());
     let behind_register = dice.between(3.min(all.len()), all.len());
     match dice.below(8) {
-        0 | 1 => all.insert(behind_register, cut_into_words(dice.pick(ODD_STATEMENTS))),
-        2 | 3 => all.insert(behind_register, cut_into_words(&format!("u1({}) q[0];", dice.pick(ODD_ANGLES)))),
+        0 | 1 => {
+            let odd = dice.pick(&language.odd(ODD_STATEMENTS, LATER_STATEMENTS));
+            all.insert(behind_register, cut_into_words(odd));
+        }
+        2 | 3 => all.insert(behind_register, with_odd_angle(dice, language)),
         4 => all.swap(i, j),
         5 => all.insert(i, all[j].clone()),
         6 if all.len() > 1 => drop(all.remove(i)),
-        _ => damage_words(dice, &mut all[i]),
+        _ => damage_words(dice, language, &mut all[i]),
+    }
+}
+
+/// A statement of the head is that of the other version, or the first one is of none.
+fn damage_head(dice: &mut Dice, language: Language, name: &str, n: usize, all: &mut [Statement]) {
+    let other = if language == Three { Two } else { Three };
+    let i = dice.below(3);
+    all[i] = other.head(name, n)[i].clone();
+    if dice.percent(60) {
+        all[0] = cut_into_words(dice.pick(ODD_VERSIONS));
     }
 }
 
 /// Damaged in its statements, in its bytes or in both, or cut at any byte.
-fn damaged_circuit(dice: &mut Dice, draft: &Draft) -> Vec<u8> {
-    let name = if dice.percent(70) { "q" } else { dice.pick(NAMES) };
-    let mut statements = statements(draft, name, |units| spelled(dice, units));
+fn damaged_circuit(dice: &mut Dice, languages: Languages, draft: &Draft) -> Vec<u8> {
+    let language = one_of(dice, languages);
+    let name = if dice.percent(70) { "q" } else { dice.pick(language.names()) };
+    let mut statements = said(dice, language, draft, name);
+    if language != Early && dice.percent(20) {
+        damage_head(dice, language, name, draft.n, &mut statements);
+    }
     let layout = any_layout(dice, draft);
     let (in_statements, in_bytes, cut) = dice.pick(&[
         (1, 0, false), (1, 0, false), (1, 0, false), (1, 0, false), (1, 0, false), (2, 0, false), (1, 1, false),
         (0, 1, false), (0, 2, false), (0, 0, true),
     ]);
-    (0..in_statements).for_each(|_| damage_statements(dice, &mut statements));
+    (0..in_statements).for_each(|_| damage_statements(dice, language, &mut statements));
     let mut text = set(dice, &statements, layout);
     (0..in_bytes).for_each(|_| damage_bytes(dice, &mut text, ODD_CIRCUIT_BYTES));
     if cut {
@@ -305,13 +482,18 @@ fn damaged_circuit(dice: &mut Dice, draft: &Draft) -> Vec<u8> {
 }
 
 /// Bytes, letters or words of circuits, thrown together, alone or behind a good head.
-fn noisy_circuit(dice: &mut Dice) -> Vec<u8> {
-    let head = format!("OPENQASM 2.0;include\"qelib1.inc\";{}", dice.pick(&["", "qreg q[2];", "qreg q[2];x q[0];\n"]));
+fn noisy_circuit(dice: &mut Dice, languages: Languages) -> Vec<u8> {
+    let language = one_of(dice, languages);
+    let (head, behind) = match language {
+        Three => ("OPENQASM 3.0;include\"stdgates.inc\";", ["", "qubit[2]q;", "qubit[2]q;rz(pi)q[0];\n"]),
+        _ => ("OPENQASM 2.0;include\"qelib1.inc\";", ["", "qreg q[2];", "qreg q[2];x q[0];\n"]),
+    };
+    let head = [head, dice.pick(&behind)].concat();
     let mut text = if dice.percent(70) { head.into_bytes() } else { vec![] };
     for _ in 0..dice.below(40) {
         match dice.below(3) {
             0 => text.push(dice.pick(ODD_CIRCUIT_BYTES)),
-            1 => text.extend([dice.pick(ODD_WORDS), " "].concat().bytes()),
+            1 => text.extend([dice.pick(&language.odd(ODD_WORDS, LATER_WORDS)), " "].concat().bytes()),
             _ => text.push(dice.below(256) as u8),
         }
     }
@@ -384,32 +566,64 @@ fn small_circuit_draft(dice: &mut Dice) -> Draft {
     perhaps_with_hadamards(dice, draft)
 }
 
+/// So few gates that reading accepts them where too little is lent.
+fn tiny_circuit_draft(dice: &mut Dice) -> Draft {
+    let n = dice.between(1, 3);
+    let mut draft = reachable(dice, n, 3);
+    if dice.percent(50) {
+        draft.gates.insert(0, X(dice.below(n)));
+    }
+    draft
+}
+
 /// Some drawings of one meaning; between them the couplers are listed anew and the gates redrawn.
-fn drawings(dice: &mut Dice) -> Vec<Pair> {
+fn drawings(dice: &mut Dice, languages: Languages) -> Vec<Pair> {
     let draft = circuit_draft(dice);
     let others = [redrawn(dice, &draft), redrawn_with_flips(dice, &draft)];
-    [&draft, &draft, &others[0], &others[1]].map(|draft| pair_of(dice, draft)).into()
+    [&draft, &draft, &others[0], &others[1]].map(|draft| pair_of(dice, languages, draft)).into()
 }
 
-fn damaged_pair(dice: &mut Dice) -> Pair {
+fn damaged_pair(dice: &mut Dice, languages: Languages) -> Pair {
     let draft = small_circuit_draft(dice);
-    [couplers_text(&draft.couplers), damaged_circuit(dice, &draft)]
+    [couplers_text(&draft.couplers), damaged_circuit(dice, languages, &draft)]
 }
 
-fn good_or_damaged(dice: &mut Dice, draft: &Draft) -> Vec<u8> {
-    if dice.percent(60) { drawn(dice, draft) } else { damaged_circuit(dice, draft) }
+fn good_or_damaged(dice: &mut Dice, languages: Languages, draft: &Draft) -> Vec<u8> {
+    if dice.percent(60) { drawn(dice, languages, draft) } else { damaged_circuit(dice, languages, draft) }
 }
 
 /// Whatever is wrong with the circuit, the couplers come first.
-fn pair_with_damaged_couplers(dice: &mut Dice) -> Pair {
+fn pair_with_damaged_couplers(dice: &mut Dice, languages: Languages) -> Pair {
     let draft = small_circuit_draft(dice);
-    [damaged_couplers(dice, couplers_text(&draft.couplers)), good_or_damaged(dice, &draft)]
+    [damaged_couplers(dice, couplers_text(&draft.couplers)), good_or_damaged(dice, languages, &draft)]
+}
+
+/// Rotations by angles at an end, on wires that bear nothing but their own qubit yet.
+fn perhaps_with_end_angles(dice: &mut Dice, mut draft: Draft) -> Draft {
+    if draft.n > 0 && dice.percent(30) {
+        for _ in 0..dice.between(1, 3) {
+            let (end, _) = dice.pick(END_ANGLES);
+            draft.gates.insert(0, Rot(dice.below(draft.n), end));
+        }
+    }
+    draft
+}
+
+/// Many `gphase`, up to more than a text can hold, and few gates.
+fn pair_of_phases(dice: &mut Dice) -> Pair {
+    let draft = small_circuit_draft(dice);
+    let mut statements = statements(Three, &draft, "q", |units| turned(dice, Three, &["rz"], units));
+    let count = dice.pick(&[20, 300, 2_000, 4_097, 5_000]);
+    let phase = dice.pick(&["pi", "- pi / 2", "0", "pi / 65536"]);
+    statements.splice(3..3, vec![words(&format!("gphase ( {phase} ) ;")); count]);
+    put_phases(dice, &mut statements, 5);
+    [couplers_text(&draft.couplers), set(dice, &statements, Layout::Tight)]
 }
 
 /// A circuit of about the length that may be read, now and then with damaged couplers.
 fn long_pair(dice: &mut Dice) -> Pair {
     let draft = small_circuit_draft(dice);
-    let [couplers, circuit] = [couplers_text(&draft.couplers), good_or_damaged(dice, &draft)];
+    let [couplers, circuit] = [couplers_text(&draft.couplers), good_or_damaged(dice, BOTH, &draft)];
     let size = dice.pick(&[65_535, 65_536, 65_536, 65_537, 65_537, 65_538, 100_000]);
     let couplers = if dice.percent(20) { damaged_couplers(dice, couplers) } else { couplers };
     [couplers, filled(dice, &circuit, size)]
@@ -419,15 +633,18 @@ fn long_pair(dice: &mut Dice) -> Pair {
 fn random_pairs(dice: &mut Dice) -> Vec<Pair> {
     let draft = match dice.below(100) {
         0..45 => circuit_draft(dice),
-        45..55 => return drawings(dice),
+        45..55 => return drawings(dice, BOTH),
         55..58 => circuit_at_a_limit(dice),
         58..64 => with_faults(dice),
-        64..90 => return vec![damaged_pair(dice)],
-        90..92 => return vec![[couplers_text(&line(2)), noisy_circuit(dice)]],
-        92..98 => return vec![pair_with_damaged_couplers(dice)],
+        64..85 => return vec![damaged_pair(dice, BOTH)],
+        85..89 => tiny_circuit_draft(dice),
+        89 => return vec![pair_of_phases(dice)],
+        90..92 => return vec![[couplers_text(&line(2)), noisy_circuit(dice, BOTH)]],
+        92..98 => return vec![pair_with_damaged_couplers(dice, BOTH)],
         _ => return vec![long_pair(dice)],
     };
-    vec![pair_of(dice, &draft)]
+    let draft = perhaps_with_end_angles(dice, draft);
+    vec![pair_of(dice, BOTH, &draft)]
 }
 
 pub fn circuits(count: usize, seed: u64) -> Vec<Pair> {
@@ -656,6 +873,7 @@ fn cut_circuits() -> Vec<Pair> {
 /// Text and then so much filling that there are `size` bytes.
 fn filled_up(text: String, size: usize, filling: u8) -> Vec<u8> {
     let mut text = text.into_bytes();
+    assert!(text.len() <= size, "nothing is cut off");
     text.resize(size, filling);
     text
 }
@@ -679,7 +897,7 @@ fn circuits_at_their_limits() -> Vec<Pair> {
     ];
     for count in [256, 257] {
         let walk = with_parities(10, count, 0);
-        let statements = statements(&walk, "q", |_| "0".to_string());
+        let statements = statements(Early, &walk, "q", |_| "u1 ( 0 )".to_string());
         pairs.push([couplers_text(&walk.couplers), set(&mut Dice(0), &statements, Layout::Tight)]);
     }
     for count in [190, 191] {
@@ -689,19 +907,252 @@ fn circuits_at_their_limits() -> Vec<Pair> {
 }
 
 /// Random ones that are not long.
-fn seeded_circuits() -> Vec<Pair> {
-    let mut dice = Dice(101);
-    let mut pairs: Vec<Pair> = (0..60).map(|_| damaged_pair(&mut dice)).collect();
+fn seeded_circuits(seed: u64, languages: Languages) -> Vec<Pair> {
+    let mut dice = Dice(seed);
+    let mut pairs: Vec<Pair> = (0..60).map(|_| damaged_pair(&mut dice, languages)).collect();
     for _ in 0..40 {
         let draft = circuit_draft(&mut dice);
-        pairs.push(pair_of(&mut dice, &draft));
+        pairs.push(pair_of(&mut dice, languages, &draft));
     }
     for _ in 0..15 {
-        pairs.extend(drawings(&mut dice));
+        pairs.extend(drawings(&mut dice, languages));
     }
-    pairs.extend((0..15).map(|_| pair_with_damaged_couplers(&mut dice)));
-    pairs.extend((0..15).map(|_| [vec![], noisy_circuit(&mut dice)]));
+    pairs.extend((0..15).map(|_| pair_with_damaged_couplers(&mut dice, languages)));
+    pairs.extend((0..15).map(|_| [vec![], noisy_circuit(&mut dice, languages)]));
     pairs.retain(|[couplers, circuit]| couplers.len() + circuit.len() < 500);
+    pairs
+}
+
+// ------------------------------------------------------------ the fixed list since E5
+
+const HEAD_3: &str = "OPENQASM 3.0;\ninclude \"stdgates.inc\";\nqubit[3] q;\n";
+
+fn behind_head_3(statements: &str) -> Pair {
+    beside(BESIDE, format!("{HEAD_3}{statements}"))
+}
+
+/// Half units of all kinds, each by a `gphase` alone.
+const PHASES: &[&str] = &[
+    "0", "-0", "0*pi", "0/4", "pi", "-pi", "1*pi", "2*pi", "-2*pi", "3*pi", "pi/2", "-pi/2", "3*pi/2", "-3*pi/2",
+    "pi/4", "-pi/4", "7*pi/4", "pi/8", "pi/16", "pi/32", "pi/64", "pi/128", "pi/256", "pi/512", "pi/1024", "pi/2048",
+    "pi/4096", "pi/8192", "pi/16384", "pi/32768", "-pi/32768", "65535*pi", "65536*pi", "65537*pi", "131070*pi",
+    "65535*pi/65536", "65537*pi/65536", "98304*pi/65536", "131070*pi/65536", "131071*pi/32768", "131071*pi/2",
+    "-131071*pi/2", "9*pi/65536", "10*pi/65536", "12345*pi/65536", "54321*pi/2048", "- // ;\n 3\t*\r\npi // pi\n/ 4 ",
+    "pi// /2\n", "pi///2\n", "pi/ //4\n2", "\n-\npi\n",
+];
+
+/// Whole texts. Beside a version there is what belongs to it or to the other one.
+const LATER_HEADS: &[&str] = &[
+    // What ends before the register: 14 within the version, and then place 0.
+    "OPENQASM 3.0", "OPENQASM 3.0 // ;", "\n\nOPENQASM 3.0", "OPENQASM 3.0;", "\n\n OPENQASM\n3.0\n;\n",
+    "OPENQASM 3.0;\ninclude", "OPENQASM 3.0;\n\ninclude \"stdgates.inc\"", "OPENQASM 3.0;\ninclude \"stdgates.inc\";",
+    "OPENQASM 3.0;\ninclude \"stdgates.inc\";\nqubit[3] q", "OPENQASM 3.0;\ninclude \"stdgates.inc\";\nqubit",
+    "OPENQASM 3.0;\ngphase(pi/3)", "OPENQASM 2.0;\nOPENQASM 3.0",
+    // What is there and wrong.
+    "OPENQASM 3.0;;", "OPENQASM 3.0;\n\n;", "OPENQASM 3.0;\nOPENQASM 3.0;", "OPENQASM 3.0;\n\nOPENQASM 2.0;",
+    "OPENQASM 2.0;\nOPENQASM 3.0;", "OPENQASM 3.0;\n\nqubit[3] q;", "OPENQASM 3.0;\ngphase(pi);",
+    "OPENQASM 3.0;\ngphase(pi/3);", "OPENQASM 3.0;\ninclude \"stdgates.inc\";\n\ngphase(pi);\nqubit[3] q;",
+    "OPENQASM 3.0;\ninclude \"stdgates.inc\";\nrz(pi/3) q[0];", "OPENQASM 3.0;\ninclude \"stdgates.inc;",
+    "OPENQASM 3.0;\ninclude \"stdgates.inc\"\";", "OPENQASM 3.0;\ninclude \"Stdgates.inc\";",
+    "OPENQASM 3.0;\ninclude \"stdgates\";", "OPENQASM 3.0;\ninclude stdgates.inc;",
+    // Of the other version: the second statement, the third, both; then a gate.
+    "OPENQASM 3.0;\ninclude \"qelib1.inc\";\nqubit[3] q;\n", "OPENQASM 3.0;\ninclude \"stdgates.inc\";\nqreg q[3];\n",
+    "OPENQASM 3.0;\ninclude \"qelib1.inc\";\nqreg q[3];\n", "OPENQASM 2.0;\ninclude \"stdgates.inc\";\nqreg q[3];\n",
+    "OPENQASM 2.0;\ninclude \"qelib1.inc\";\nqubit[3] q;\n", "OPENQASM 2.0;\ninclude \"stdgates.inc\";\nqubit[3] q;\n",
+    "OPENQASM 2.0;\ninclude \"qelib1.inc\";\nqreg q[3];\np(pi) q[0];\n",
+    "OPENQASM 2.0;\ninclude \"qelib1.inc\";\nqreg q[3];\nx q[0];\ngphase(pi);\n",
+    // The register otherwise.
+    "OPENQASM 3.0;\ninclude \"stdgates.inc\";\nqubit q;\n", "OPENQASM 3.0;\ninclude \"stdgates.inc\";\nqubit q[3];\n",
+    "OPENQASM 3.0;\ninclude \"stdgates.inc\";\nqubit[3];\n", "OPENQASM 3.0;\ninclude \"stdgates.inc\";\nqubit(3) q;\n",
+    "OPENQASM 3.0;\ninclude \"stdgates.inc\";\nqubit[3] q r;\n",
+    "OPENQASM 3.0;\ninclude \"stdgates.inc\";\nbit[3] q;\n",
+    "OPENQASM 3.0;\ninclude \"stdgates.inc\";\nqubit[3] q[3];\n",
+    "OPENQASM 3.0;\ninclude \"stdgates.inc\";\nqubit[3] q, r;\n",
+    "OPENQASM 3.0;\ninclude \"stdgates.inc\";\nqubit[1] q;\nqubit[1] r;\n",
+    // Good ones, tight, wide and with comments.
+    "OPENQASM 3.0;include\"stdgates.inc\";qubit[3]q;",
+    "OPENQASM 3.0;include \"stdgates.inc\";qubit [3] q ; rz (pi) q[1] ;",
+    "\n\nOPENQASM\n3.0\n;\r\ninclude\n\"stdgates.inc\"\n;\tqubit\n[\n3\n]\nq\n;\ngphase\n(\npi\n)\n;\n",
+    "//;\nOPENQASM//2.0;\n3.0//;\n;//;\ninclude//\"\n\"stdgates.inc\"//\";\n;qubit//\u{e9}\n[//3\n3//]\n]//q\nq//;\n;// x q[0];",
+];
+
+/// Behind the head of 2.0: `rz` is as `u1`, and the common phase comes to the last line.
+const BEHIND_2: &[&str] = &[
+    "rz(pi/4) q[0];", "rz(2*pi) q[0];", "rz(4*pi) q[0];", "rz(-pi/32768) q[0];", "rz(pi) q[0];rz(pi) q[0];",
+    "rz(pi/4) q[0];u1(pi/4) q[0];", "rz(pi/4) q[0];u1(-pi/4) q[0];", "x q[0];rz(pi/4) q[0];x q[0];",
+    "x q[0];rz(pi/32768) q[0];", "x q[0];u1(-pi/32768) q[0];", "x q[0];rz(pi) q[0];", "x q[0];rz(2*pi) q[0];",
+    "x q[0];rz(pi) q[0];u1(pi) q[0];", "x q[0];rz(65535*pi/32768) q[0];u1(pi/16384) q[0];",
+    "x q[0];rz(pi/2) q[0];h q[0];x q[0];u1(pi/2) q[0];", "x q[0];rz(pi) q[0];h q[0];x q[0];rz(pi) q[0];",
+    "x q[0];rz(pi/4) q[0];h q[1];x q[0];rz(-pi/4) q[0];", "x q[0];cx q[0],q[1];rz(pi/8) q[1];rz(pi/8) q[0];",
+    // A comment that is read says nothing.
+    "x q[0];\n// common phase 5*pi/65536\n", "x q[0];u1(pi) q[0];\n// common phase 65536*pi/65536\n",
+    "rz(pi/3) q[0];\nrz(pi) q[256];", "rz(pi) q[256];\nrz(pi/3) q[0];", "rz(pi/3) q[0]", "\n\nrz(\npi/3) q[0];",
+    "rz(pi) q[3];", "x q[0];rz(0) q[0];x q[0];rz(0) q[0];x q[0];",
+];
+
+/// Behind the head of 3.0.
+const BEHIND_3: &[&str] = &[
+    // An angle is kept modulo two turns until the common phase is taken.
+    "rz(2*pi) q[0];", "rz(4*pi) q[0];", "rz(6*pi) q[0];", "rz(-2*pi) q[0];", "rz(pi) q[0];rz(pi) q[0];",
+    "rz(2*pi) q[0];rz(2*pi) q[1];", "rz(2*pi) q[0];rz(2*pi) q[1];rz(2*pi) q[2];", "rz(3*pi) q[0];rz(-pi) q[0];",
+    "gphase(131071*pi/65536);", "rz(-pi/32768) q[0];", "rz(pi/32768) q[0];", "p(2*pi) q[0];", "u1(2*pi) q[0];",
+    // One record and three readings; all of them in one sum, and against each other.
+    "u1(pi/4) q[0];", "p(pi/4) q[0];", "rz(pi/4) q[0];", "u1(pi/4) q[0];p(pi/4) q[0];rz(pi/4) q[0];",
+    "rz(pi/4) q[0];rz(-pi/4) q[0];", "rz(pi/4) q[0];p(-pi/4) q[0];", "p(pi/4) q[0];u1(-pi/4) q[0];",
+    "cx q[0],q[1];\np(8192*pi/32768) q[1];\nx q[2];\nh q[0];\n",
+    "cx q[0],q[1];\np(8192*pi/32768) q[1];\nx q[2];\nh q[0];\ngphase(5*pi/65536);\n",
+    // On a flipped wire: what is read and what laying returns.
+    "x q[0];u1(pi/4) q[0];", "x q[0];p(pi/4) q[0];", "x q[0];rz(pi/4) q[0];", "x q[0];rz(pi/4) q[0];x q[0];",
+    "x q[0];rz(pi/32768) q[0];", "x q[0];rz(-pi/32768) q[0];", "x q[0];rz(pi) q[0];", "x q[0];rz(2*pi) q[0];",
+    "x q[0];rz(3*pi) q[0];", "x q[0];rz(65535*pi/32768) q[0];", "x q[0];rz(pi/4) q[0];x q[0];rz(pi/4) q[0];",
+    "x q[0];cx q[0],q[1];rz(pi/8) q[1];rz(pi/8) q[0];", "x q[0];rz(pi) q[0];rz(pi) q[0];",
+    "x q[0];p(pi) q[0];p(pi) q[0];", "x q[0];p(65535*pi/32768) q[0];p(pi/16384) q[0];",
+    // Sums that come to a full turn, and almost.
+    "gphase(pi);gphase(pi);", "gphase(131071*pi/65536);gphase(pi/65536);", "gphase(131071*pi/65536);gphase(pi/32768);",
+    "gphase(131071*pi/65536);gphase(131071*pi/65536);", "gphase(pi/3);gphase(pi);", "rz(2*pi) q[0];gphase(pi);",
+    "rz(2*pi) q[0];gphase(-pi);", "rz(pi/32768) q[0];gphase(pi/65536);", "rz(pi/32768) q[0];gphase(pi/32768);",
+    "x q[0];rz(pi/4) q[0];gphase(-pi/8);x q[0];", "x q[0];p(pi) q[0];gphase(-pi);",
+    "x q[0];p(pi/4) q[0];gphase(-pi/4);",
+    "x q[0];p(pi/2) q[0];gphase(pi/65536);", "x q[0];p(pi) q[0];gphase(65535*pi/65536);", "gphase(0);gphase(-0);",
+    // Anywhere among the gates, and over several stretches.
+    "gphase(pi/65536);x q[0];gphase(pi/65536);h q[0];gphase(pi/65536);", "h q[0];gphase(pi/4);h q[0];",
+    "gphase(pi/2);cx q[0],q[1];gphase(-pi/4);cx q[1],q[0];gphase(-pi/4);", "rz(pi/2) q[0];h q[1];rz(-pi/2) q[0];",
+    "rz(pi/2) q[0];h q[1];rz(pi/2) q[0];", "x q[0];rz(pi/4) q[0];h q[0];x q[0];rz(pi/4) q[0];",
+    "x q[0];rz(pi/4) q[0];h q[0];x q[0];rz(-pi/4) q[0];", "x q[0];p(pi) q[0];h q[0];x q[0];p(pi) q[0];",
+    "x q[0];p(pi) q[0];h q[0];x q[0];p(pi/2) q[0];gphase(pi/65536);h q[1];gphase(pi/2);",
+    "x q[0];p(pi/2) q[0];h q[0];rz(pi/2) q[1];h q[0];x q[2];rz(2*pi) q[2];h q[2];gphase(3*pi/4);",
+    // It is no gate: places in tests 5 and 7, and the 4 gates that reading is lent.
+    "gphase(pi);x q[3];", "gphase(pi);gphase(pi);x q[0];gphase(pi);x q[3];gphase(pi);",
+    "x q[0];gphase(pi);cx q[1],q[1];",
+    "gphase(pi);gphase(pi);gphase(pi);gphase(pi);gphase(pi);",
+    "gphase(pi);x q[0];x q[0];gphase(pi);x q[0];x q[0];gphase(pi);",
+    "x q[0];x q[0];x q[0];x q[0];gphase(pi);", "gphase(pi);x q[0];x q[0];gphase(pi);x q[0];x q[0];x q[0];gphase(0);",
+    "x q[0];x q[0];x q[0];x q[0];x q[0];gphase(pi/3);", "x q[0];x q[0];x q[0];x q[3];gphase(pi);",
+    "rz(0) q[0];rz(0) q[0];rz(0) q[0];rz(0) q[0];", "rz(0) q[0];rz(0) q[0];rz(0) q[0];rz(0) q[0];rz(2*pi) q[0];",
+    // Writing is lent 100 bytes: 99, 100 and 101, with and without a last line.
+    "cx q[0],q[1];cx q[1],q[0];p(10*pi/32768) q[0];", "cx q[0],q[1];cx q[1],q[0];p(100*pi/32768) q[0];",
+    "cx q[0],q[1];cx q[1],q[0];p(1000*pi/32768) q[0];", "cx q[0],q[1];x q[1];x q[0];gphase(9*pi/65536);",
+    "cx q[0],q[1];x q[1];x q[0];gphase(10*pi/65536);", "x q[0];x q[1];x q[2];gphase(131071*pi/65536);",
+    "rz(-99*pi/32768) q[0];gphase(-90*pi/65536);", "rz(pi/32768) q[0];", "rz(pi/32768) q[0];h q[0];",
+    "p(pi) q[0];h q[0];x q[0];",
+    "cx q[0],q[1];x q[1];x q[0];gphase(-0);", "x q[0];cx q[2],q[2];x q[0];gphase(pi);",
+    // Two faults: the first statement decides. Both in one: 13.
+    "gphase(pi/3);\ny q[0];", "y q[0];\ngphase(pi/3);", "gphase(pi);\n\nrz(pi/3) q[0];\ngphase(pi/3);",
+    "gphase(pi/3);\nx q[9];", "x q[9];\ngphase(pi/3);", "x q[9];\ngphase(pi) q[0];", "p(pi/3) q[0];\np(pi) q[256];",
+    "gphase(pi/3) q[0];", "rz(pi/3) q[256];", "p(pi/3) r[0];",
+    // What is left over, and lines.
+    "gphase(pi)", "x q[0];\ngphase(pi/3)", "gphase(pi);\n\ngphase", "\n\ngphase(\npi/3\n)\n;", "gphase(pi)\nq[0];",
+    "gphase(pi); gphase\n\n(pi;", "// one; gphase(pi);\n\n gphase // ;\n() ;", "gphase(;)", "gphase(pi;);",
+    "gphase(//);\n);",
+    // Comments and blanks within, and names.
+    "gphase//\n(//\n-//\n3//\n*//\npi//\n/ //\n4//\n)//\n;//", "gphase\t(\rpi\n)\r\n;", "gphase(pi);// gphase(pi);\n//",
+    "rz//\n(//\n-//\n3//\n*//\npi//\n/ //\n4//\n)//\nq//\n[//\n1//\n]//\n;//", "p(pi)\nq[0];rz (pi)q[1];",
+    "// common phase 5*pi/65536\n", "gphase(5*pi/65536);\n// common phase 5*pi/65536\n",
+];
+
+/// The same with other couplers and another number of qubits.
+const OTHERWISE_3: &[(&str, &str, &str)] = &[
+    // Test 7: places of stretches do not count `gphase`, wires are no places.
+    ("e 0 1;", "3", "gphase(pi);x q[0];h q[2];gphase(pi);x q[1];gphase(pi);cx q[0],q[2];"),
+    ("e 0 1;", "3", "gphase(pi);gphase(pi);cx q[0],q[2];"), ("e 0 1;", "3", "cx q[0],q[2];rz(pi) q[2];cx q[0],q[2];"),
+    ("e 0 1;", "3", "cx q[0],q[2];rz(2*pi) q[2];cx q[0],q[2];"),
+    ("e 0 1;", "3", "h q[0];gphase(pi);h q[0];cx q[0],q[2];"),
+    // Tests 1 to 3 before them; 10 before 12, 13 and 14.
+    ("", "0", "gphase(pi);"), ("", "21", "gphase(pi);"), ("e 0 1;", "1", "rz(pi) q[0];"),
+    ("e 0 0;", "2", "gphase(pi);"),
+    ("", "1", "gphase(pi);"), ("", "20", "rz(pi) q[19];gphase(pi);"), ("", "256", "gphase(pi);"),
+    ("x;", "3", "gphase(pi/3);"), ("e 0 1;e 1;", "3", "gphase(pi);"),
+    // A whole phase on few and on many qubits.
+    (
+        "e 0 1;e 1 2;e 2 3;e 3 4;e 4 5;", "6",
+        "x q[0];cx q[0],q[5];rz(pi/4) q[5];cx q[5],q[2];p(pi/8) q[2];gphase(pi/65536);",
+    ),
+    (
+        "e 0 1;e 1 2;", "20",
+        "x q[19];rz(pi/4) q[19];x q[2];cx q[2],q[0];p(-pi/4) q[0];rz(3*pi) q[0];h q[9];x q[9];rz(pi) q[9];",
+    ),
+    ("", "20", "p(pi/32768) q[10];p(pi/32768) q[11];gphase(pi/65536);"),
+    ("", "20", "p(pi/32768) q[10];p(pi/32768) q[11];x q[9];"),
+];
+
+/// Each by itself in 3.0, where all matter; by groups for the rotations that have no common phase.
+fn later_angles() -> Vec<Pair> {
+    let mut pairs: Vec<Pair> = vec![];
+    let stretch = |word: &str, angle: &str| format!("{word}({angle}) q[1];\nh q[1];\n");
+    for &angles in ANGLES {
+        let in_stretches = |word: &str| angles.iter().map(|angle| stretch(word, angle)).collect::<String>();
+        pairs.push(behind_head(&in_stretches("rz")));
+        pairs.extend(["p", "rz"].map(|word| behind_head_3(&in_stretches(word))));
+        pairs.extend(angles.iter().map(|angle| behind_head_3(&format!("rz({angle}) q[1];\n"))));
+    }
+    pairs.extend(PHASES.iter().map(|angle| behind_head_3(&format!("gphase({angle});\n"))));
+    for (i, angle) in ODD_ANGLES.iter().chain(LATER_ANGLES).enumerate() {
+        pairs.push(match i % 4 {
+            0 => behind_head(&format!("x q[0];\nrz({angle}) q[1];\n")),
+            word => behind_head_3(&format!("x q[0];\n{}({angle}) q[1];\n", ["", "rz", "p", "u1"][word])),
+        });
+        pairs.push(behind_head_3(&format!("x q[0];\ngphase({angle});\n")));
+    }
+    pairs
+}
+
+/// What is no version, before what is good and before faults, on any line; and behind couplers that are none.
+fn odd_versions() -> Vec<Pair> {
+    let in_2 = HEAD.strip_prefix("OPENQASM 2.0;").expect("its version comes first");
+    let in_3 = HEAD_3.strip_prefix("OPENQASM 3.0;").expect("its version comes first");
+    let with = |version: &&str| {
+        let before_faults = format!("\n\n{version}\nOPENQASM 3.0;\ny;\nu1(pi/3) q[0];");
+        let texts = [format!("{version}{in_2}x q[0];"), format!("\n{version}{in_3}x q[0];"), before_faults];
+        texts.map(|text| beside(BESIDE, text))
+    };
+    let behind_couplers = beside("e 0 1;x;", "OPENQASM 1.0;\n");
+    ODD_VERSIONS.iter().flat_map(with).chain([behind_couplers]).collect()
+}
+
+/// Cut before every third byte, and behind the name of the register before every one.
+fn cut_circuits_3() -> Vec<Pair> {
+    let text = "OPENQASM 3.0;\ninclude \"stdgates.inc\";\nqubit[3] q;\n// ;\nrz(-3*pi/4) q[1];gphase(-3*pi/4);";
+    (0..=text.len()).filter(|end| end % 3 == 0 || *end > 40).map(|end| beside("", &text.as_bytes()[..end])).collect()
+}
+
+/// As long as a text may be, of `gphase` alone; longer by one byte, and of no version; as many gates as may be
+/// and `gphase` between them, and one gate more; 256 parities, and one more, with `gphase` before each.
+fn phases_at_their_limits() -> Vec<Pair> {
+    let phases = format!("{HEAD_3}{}//", "gphase(pi/65536);".repeat(3_851));
+    let longest = filled_up(phases, 65_536, b';');
+    let one_too_long = filled_up("OPENQASM 1.0;\n".to_string(), 65_537, b' ');
+    let gates = |count: usize| format!("{HEAD_3}{}{}", "gphase(pi/2);".repeat(2_047), "x q[0];".repeat(count));
+    let mut pairs = vec![beside(BESIDE, longest), beside("", one_too_long)];
+    pairs.extend([4_096, 4_097].map(|count| beside(BESIDE, gates(count))));
+    for count in [256, 257] {
+        let walk = with_parities(10, count, 0);
+        let statements = statements(Three, &walk, "q", |_| "gphase ( pi / 4 ) ; rz ( 0 )".to_string());
+        pairs.push([couplers_text(&walk.couplers), set(&mut Dice(0), &statements, Layout::Tight)]);
+    }
+    pairs
+}
+
+fn since_e5() -> Vec<Pair> {
+    let head_3 = |size: &str| HEAD_3.replace("[3]", &format!("[{size}]"));
+    let named = |name: &str| HEAD_3.replace(" q;", &format!(" {name};"));
+    let mut pairs: Vec<Pair> = BEHIND_3.iter().map(|statements| behind_head_3(statements)).collect();
+    pairs.extend(BEHIND_2.iter().map(|statements| behind_head(statements)));
+    pairs.extend(OTHERWISE_3.iter().map(|(couplers, size, gates)| beside(couplers, head_3(size) + gates)));
+    pairs.extend(later_angles());
+    pairs.extend(LATER_HEADS.iter().map(|&text| beside(BESIDE, text)));
+    pairs.extend(odd_versions());
+    let names = REGISTERS.iter().chain(LATER_NAMES);
+    pairs.extend(names.map(|name| beside(BESIDE, named(name) + &format!("rz(pi) {name}[1];gphase(pi);\n"))));
+    pairs.extend(SIZES.iter().map(|size| beside("", head_3(size))));
+    for statement in LATER_STATEMENTS {
+        pairs.push(behind_head(&format!("x q[0];\n{statement}\n")));
+        pairs.push(behind_head_3(&format!("x q[0];\n{statement}\n")));
+    }
+    pairs.extend(ODD_STATEMENTS.iter().map(|statement| behind_head_3(&format!("x q[0];\n{statement}\n"))));
+    pairs.extend(BEHIND.iter().map(|statements| behind_head_3(statements)));
+    pairs.extend(cut_circuits_3());
+    pairs.extend(phases_at_their_limits());
+    pairs.extend(seeded_circuits(305, BOTH));
     pairs
 }
 
@@ -711,25 +1162,27 @@ pub fn qasm_vectors() -> Vec<Pair> {
     pairs.extend(circuits_with_odd_bytes());
     pairs.extend(cut_circuits());
     pairs.extend(circuits_at_their_limits());
-    pairs.extend(seeded_circuits());
+    pairs.extend(seeded_circuits(101, EARLY));
+    pairs.extend(since_e5());
     pairs
 }
 
 // ------------------------------------------------------------ one long run
 
-/// A chip, and a circuit for it of several stretches with comments: what is laid for it has more bytes than
-/// may be read.
+/// A chip, and a circuit in 3.0 for it of several stretches with comments: what is laid for it has more bytes
+/// than may be read. Its common phase comes from all there is: `rz`, `gphase` and rotations on flipped wires.
 fn long_run() -> Draft {
     let mut dice = Dice(65_536);
     let mut couplers = singapore();
     rewrite_couplers(&mut dice, &mut couplers);
     let mut gates = vec![];
     for stretch in 0..50 {
+        gates.push(X(stretch % 20));
         for _ in 0..5 {
             gates.extend(cnots_anywhere(&mut dice, 20, 2));
             gates.push(Rot(dice.below(20), any_angle(&mut dice)));
         }
-        gates.extend([X(stretch % 20), H(7 * stretch % 20)]);
+        gates.push(H(7 * stretch % 20));
     }
     Draft::new(20, &couplers, &gates)
 }
@@ -740,14 +1193,15 @@ pub fn qasm_couplers() -> Vec<u8> {
 
 pub fn qasm_circuit() -> Vec<u8> {
     let mut dice = Dice(2);
-    let statements = statements(&long_run(), "wire", |units| spelled(&mut dice, units));
+    let mut statements = said(&mut dice, Three, &long_run(), "wire");
+    put_phases(&mut dice, &mut statements, 20);
     set(&mut dice, &statements, Layout::Loose(12))
 }
 
 // ------------------------------------------------------------ for a foreign reader
 
-/// Circuits of few qubits, one statement a line, with comments on lines of their own: what most readers of
-/// OpenQASM take.
+/// Circuits in 2.0 of few qubits, one statement a line, with comments on lines of their own: what most readers
+/// of OpenQASM take.
 pub fn plain_circuits(count: usize, seed: u64) -> Vec<Pair> {
     let mut dice = Dice(seed);
     let plain = |_| {
@@ -755,7 +1209,7 @@ pub fn plain_circuits(count: usize, seed: u64) -> Vec<Pair> {
         let draft = reachable(&mut dice, n, 20);
         let draft = perhaps_with_flips(&mut dice, draft);
         let draft = perhaps_with_hadamards(&mut dice, draft);
-        let statements = statements(&draft, "q", |units| spelled(&mut dice, units));
+        let statements = said(&mut dice, Two, &draft, "q");
         let mut lines = lines_of(&set(&mut dice, &statements, Layout::Lines));
         lines.insert(dice.between(1, lines.len()), b"// drawn by hand; x q[0];\n".to_vec());
         [couplers_text(&draft.couplers), lines.concat()]

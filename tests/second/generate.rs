@@ -19,7 +19,7 @@
 //!                                               the same pairs, in bundles for the program
 //!                                               `qasm_vectors`
 //!     generate qasm-vectors BUNDLE TEXT         the fixed list of pairs
-//!     generate plain-circuits COUNT SEED        good ones of few qubits, one statement a line
+//!     generate plain-circuits COUNT SEED        good ones in 2.0 of few qubits, one statement a line
 //!
 //! BUNDLE and TEXT are the room that the stored list's program has, in bytes, for the bundle and
 //! for one text with the lines that close it; a list that needs more is not printed. Five texts are
@@ -1767,6 +1767,32 @@ fn winding() -> Vec<Vec<u8>> {
     texts
 }
 
+/// Jobs whose common phase, in half units, is told apart from what other units and other turns make of it.
+/// Spelled as the rare jobs are.
+const PHASED: &[&str] = &[
+    // One rotation on a flipped wire: 2, 65,534, 65,536, 65,538, 131,070 and none.
+    "q 1;n 0;r 0 1;",
+    "q 1;n 0;r 0 32767;",
+    "q 1;n 0;r 0 32768;",
+    "q 1;n 0;r 0 32769;",
+    "q 1;n 0;r 0 65535;",
+    "q 1;n 0;r 0 0;",
+    // Exactly 65,536 units, none; one more, 2; 80,000 units, 28,928; three turns but three units, 131,066.
+    "q 1;n 0;r 0 65535;r 0 1;",
+    "q 1;n 0;r 0 32768;r 0 32768;",
+    "q 1;n 0;r 0 65535;r 0 2;",
+    "q 2;n 0;n 1;r 0 40000;r 1 40000;",
+    "q 1;n 0;r 0 65535;r 0 65535;r 0 65535;",
+    // A flip that is carried: 98,304 units, 65,536. On one of two wires: 32,768.
+    "q 2;e 0 1;n 0;c 0 1;r 1 49152;r 0 49152;",
+    "q 2;n 1;r 0 50000;r 1 16384;",
+    // Over stretches: none, 2, 65,536, and of four stretches with 40,000 units each 57,856.
+    "q 1;n 0;r 0 32768;h 0;n 0;r 0 32768;",
+    "q 1;n 0;r 0 32768;h 0;n 0;r 0 32769;",
+    "q 1;n 0;r 0 16384;h 0;n 0;r 0 16384;",
+    "q 1;n 0;r 0 40000;h 0;n 0;r 0 40000;h 0;n 0;r 0 40000;h 0;n 0;r 0 40000;",
+];
+
 /// The fixed list can only hold texts that are empty or end with LF.
 fn ends_with_lf(text: &[u8]) -> bool {
     text.is_empty() || text.ends_with(b"\n")
@@ -1791,6 +1817,7 @@ fn vectors() -> Vec<Vec<u8>> {
     texts.extend(stretched_list());
     texts.extend(scarce_texts());
     texts.extend(winding());
+    texts.extend(PHASED.iter().map(|text| spelled_out(text)));
     texts.retain(|text| ends_with_lf(text));
     texts
 }

@@ -1,4 +1,4 @@
-//! The judge: knows what document 01, with document 02's E1, E2, E3, E7 and E12, means and nothing of
+//! The judge: knows what document 01, with document 02's E1, E2, E3, E5, E7 and E12, means and nothing of
 //! how gates are laid. It says whether the texts that the laying and the counting program printed are
 //! right for a job, or those of the programs `qasm` and `qasm_vectors` for a circuit.
 //!
@@ -12,15 +12,16 @@
 //!                                    three files
 //!     judge circuits PAIRS PRINTED   a bundle of pairs, the couplers' text and then the circuit's, and
 //!                                    what the program `qasm_vectors` printed for it: for each pair
-//!                                    what `qasm` prints, what reading and writing answer where too
-//!                                    little is lent and the line `p`, nothing between them
+//!                                    what `qasm` prints, what reading answers where too little is
+//!                                    lent, the line `p` of the common phase that it read, and what
+//!                                    writing answers, nothing between them
 //!     judge circuit-bundle PAIRS PRINTED
 //!                                    two bundles; for each pair one text in PRINTED, what `qasm`
 //!                                    printed
 //!
-//! The laying and the counting program and `qasm` do not print the common phase that an acceptance
-//! returns. So `many` and `circuits` judge the phase that was returned, and the others take the one
-//! that has to be returned in its place.
+//! The laying and the counting program do not print the common phase that an acceptance returns. So `many`
+//! judges the phase that was returned, and `one` and `bundle` take the one that has to be returned in its
+//! place. A printed circuit has the whole common phase as its last line.
 //! Where there are many, stretches with the same qubits, couplers, final parities, flips and sums, of
 //! one job or of two, must get the same gates too; it says how many of them there were ("drawn
 //! before").
@@ -30,6 +31,7 @@
 
 mod statements;
 
+use statements::Version;
 use std::collections::hash_map::{Entry, HashMap};
 use std::collections::{BTreeMap, BTreeSet, VecDeque};
 use std::fmt::Write as _;
@@ -39,7 +41,11 @@ enum Line {
     Qubits(u32),
     Coupler(u32, u32),
     Cnot(u32, u32),
+    /// By an angle of one turn at most: a state gets it where the qubit is 1.
     Rotation(u32, u32),
+    /// By an angle of two turns at most, the `rz` of OpenQASM 3.0: a state gets half of it where the qubit
+    /// is 1, and loses half of it where the qubit is 0.
+    Symmetric(u32, u32),
     X(u32),
     Hadamard(u32),
 }
@@ -51,11 +57,15 @@ enum Verdict {
 }
 
 struct Wanted {
+    /// Of a circuit alone.
+    version: Option<&'static Version>,
     n: u32,
     couplers: BTreeSet<(u32, u32)>,
     /// The qubits of the Hadamards.
     hadamards: Vec<u32>,
     stretches: Vec<Stretch>,
+    /// A common phase that is asked for beside the gates.
+    gphase: u32,
     /// For each qubit the lowest qubit of its island.
     labels: Vec<u32>,
 }
@@ -72,7 +82,7 @@ struct Printed<'a> {
     counted: Option<&'a [u8]>,
     /// The lines of reading and writing where too little is lent.
     scant: Option<&'a [u8]>,
-    /// The line of the common phase, empty where there is none.
+    /// The line of the common phase that laying a job returned, empty where there is none.
     phase: Option<&'a [u8]>,
 }
 
@@ -149,6 +159,9 @@ fn parse_couplers(text: &[u8]) -> Result<Vec<Line>, u32> {
 
 const FULL_TURN: u32 = 65_536;
 
+/// A full turn of a phase.
+const HALF_UNITS: u32 = 131_072;
+
 /// A wire is its parity and, at a place that no qubit has, its flip. So an X is an exclusive or with
 /// this number, and the exclusive or of a CNOT carries the control's flip along.
 const FLIP: u32 = 1 << 31;
@@ -162,11 +175,11 @@ struct Stretch {
     rotations: Vec<Rotation>,
 }
 
-/// A rotation, by the wire that it met.
+/// A rotation of either kind, by the wire that it met.
 struct Rotation {
     place: usize,
     wire: u32,
-    angle: u32,
+    gate: Line,
 }
 
 impl Stretch {
@@ -177,9 +190,9 @@ impl Stretch {
     fn feed(&mut self, gate: Line) {
         match gate {
             Line::Cnot(c, t) => self.wires[t as usize] ^= self.wires[c as usize],
-            Line::Rotation(q, angle) => {
+            Line::Rotation(q, _) | Line::Symmetric(q, _) => {
                 let place = self.place + self.gates.len();
-                self.rotations.push(Rotation { place, wire: self.wires[q as usize], angle });
+                self.rotations.push(Rotation { place, wire: self.wires[q as usize], gate });
             }
             Line::X(q) => self.wires[q as usize] ^= FLIP,
             _ => unreachable!("only gates of a stretch are fed"),
@@ -200,8 +213,7 @@ impl Stretch {
 
     /// The phase common to all states.
     fn phase(&self) -> u32 {
-        let on_flipped = self.rotations.iter().filter(|rotation| is_flipped(rotation.wire));
-        on_flipped.fold(0, |phase, rotation| (phase + rotation.angle) % FULL_TURN)
+        self.rotations.iter().fold(0, |phase, rotation| (phase + rotation.common()) % HALF_UNITS)
     }
 }
 
@@ -210,9 +222,26 @@ impl Rotation {
         self.wire & !FLIP
     }
 
-    /// What it adds to the sum of its parity.
+    /// What it adds to the sum of its parity. Between 0 and 1 the two kinds make the same difference.
     fn share(&self) -> u32 {
-        if is_flipped(self.wire) { (FULL_TURN - self.angle) % FULL_TURN } else { self.angle }
+        let (Line::Rotation(_, angle) | Line::Symmetric(_, angle)) = self.gate else { unreachable!("it rotates") };
+        let angle = angle % FULL_TURN;
+        if is_flipped(self.wire) { (FULL_TURN - angle) % FULL_TURN } else { angle }
+    }
+
+    /// What it gives to the states in which its parity is 0, and so, beside its share, to all.
+    fn common(&self) -> u32 {
+        given(self.gate, is_flipped(self.wire))
+    }
+}
+
+/// The half units that a rotation gives to a state, where its qubit is 1 or 0.
+fn given(rotation: Line, is_one: bool) -> u32 {
+    match (rotation, is_one) {
+        (Line::Rotation(_, angle), true) => 2 * angle,
+        (Line::Symmetric(_, angle), true) => angle,
+        (Line::Symmetric(_, angle), false) => (HALF_UNITS - angle) % HALF_UNITS,
+        _ => 0,
     }
 }
 
@@ -241,16 +270,18 @@ fn hadamards(gates: &[Line]) -> Vec<u32> {
 }
 
 fn sum_of_phases(stretches: &[Stretch]) -> u32 {
-    stretches.iter().fold(0, |sum, stretch| (sum + stretch.phase()) % FULL_TURN)
+    stretches.iter().fold(0, |sum, stretch| (sum + stretch.phase()) % HALF_UNITS)
 }
 
-/// Where a basis state goes and the units of phase it gets on the way.
+/// Where a basis state goes and the half units of phase it gets on the way.
 fn follow_state(mut state: u32, gates: &[Line]) -> (u32, u32) {
     let mut phase = 0;
     for &gate in gates {
         match gate {
             Line::Cnot(c, t) => state ^= (state >> c & 1) << t,
-            Line::Rotation(q, angle) => phase = (phase + angle * (state >> q & 1)) % FULL_TURN,
+            Line::Rotation(q, _) | Line::Symmetric(q, _) => {
+                phase = (phase + given(gate, state >> q & 1 == 1)) % HALF_UNITS;
+            }
             Line::X(q) => state ^= 1 << q,
             _ => unreachable!("only gates of a stretch are followed"),
         }
@@ -345,7 +376,7 @@ fn bad_coupler(line: &Line, n: u32) -> bool {
 fn bad_gate(line: &Line, n: u32) -> bool {
     match *line {
         Line::Cnot(c, t) => c >= n || t >= n || c == t,
-        Line::Rotation(q, _) | Line::X(q) | Line::Hadamard(q) => q >= n,
+        Line::Rotation(q, _) | Line::Symmetric(q, _) | Line::X(q) | Line::Hadamard(q) => q >= n,
         _ => true,
     }
 }
@@ -367,15 +398,21 @@ fn test_length(text: &[u8]) -> Result<(), Refusal> {
     if text.len() > 65_536 { Err((11, 0)) } else { Ok(()) }
 }
 
-/// What is asked for: n, the couplers as listed, the gates.
-type Lists = (u32, Vec<Line>, Vec<Line>);
+/// What is asked for, the couplers as listed.
+struct Lists {
+    version: Option<&'static Version>,
+    n: u32,
+    listed: Vec<Line>,
+    gates: Vec<Line>,
+    gphase: u32,
+}
 
 fn lists_of_job(text: &[u8]) -> Result<Lists, Refusal> {
     test_length(text)?;
     let lines = parse_job(text).map_err(|line| (10, line))?;
     let Line::Qubits(n) = lines[0] else { unreachable!("a job starts with its qubits") };
     let (listed, gates) = lines[1..].iter().partition(|&&line| part(line) == 1);
-    Ok((n, listed, gates))
+    Ok(Lists { version: None, n, listed, gates, gphase: 0 })
 }
 
 fn right_reading(circuit: &[u8]) -> Result<statements::Circuit, Refusal> {
@@ -387,8 +424,8 @@ fn right_reading(circuit: &[u8]) -> Result<statements::Circuit, Refusal> {
 fn lists_of_circuit(couplers: &[u8], circuit: &[u8]) -> Result<Lists, Refusal> {
     test_length(couplers)?;
     let listed = parse_couplers(couplers).map_err(|line| (10, line))?;
-    let circuit = right_reading(circuit)?;
-    Ok((circuit.n, listed, circuit.gates))
+    let statements::Circuit { version, n, gates, gphase } = right_reading(circuit)?;
+    Ok(Lists { version: Some(version), n, listed, gates, gphase })
 }
 
 fn right_answer(task: &Task) -> Verdict {
@@ -400,7 +437,7 @@ fn right_answer(task: &Task) -> Verdict {
 }
 
 /// Tests 1 to 7.
-fn right_laying((n, listed, gates): Lists) -> Verdict {
+fn right_laying(Lists { version, n, listed, gates, gphase }: Lists) -> Verdict {
     use Verdict::Refused;
     if n == 0 || n > 20 {
         return Refused(1, 0);
@@ -429,7 +466,9 @@ fn right_laying((n, listed, gates): Lists) -> Verdict {
     let labels = island_labels(n, &couplers);
     match unreachable_place(&stretches, &labels) {
         Some(place) => Refused(7, place as u32),
-        None => Verdict::Accepted(Wanted { n, couplers, hadamards: hadamards(&gates), stretches, labels }),
+        None => {
+            Verdict::Accepted(Wanted { version, n, couplers, hadamards: hadamards(&gates), stretches, gphase, labels })
+        }
     }
 }
 
@@ -451,16 +490,18 @@ fn head(wanted: &Wanted) -> String {
     head
 }
 
-/// The laid gates of a circuit, if the text reads and is what is to be printed for them.
-fn laid_statements(wanted: &Wanted, laid: &[u8]) -> Result<Vec<Line>, String> {
+/// The laid gates and the common phase of a circuit, if the text reads and is what is to be printed for
+/// them in this version.
+fn laid_statements(version: &Version, n: u32, laid: &[u8]) -> Result<(Vec<Line>, u32), String> {
     let read = statements::read(laid)
         .map_err(|(number, line)| format!("line {line} of the laid circuit is refused with {number}: {}", show(laid)))?;
-    ensure(read.n == wanted.n, || format!("{} qubits instead of {}", read.n, wanted.n))?;
-    let right = statements::written(read.n, &read.gates);
+    ensure(read.n == n, || format!("{} qubits instead of {n}", read.n))?;
+    let phase = statements::last_phase(version, laid);
+    let right = statements::written(version, read.n, &read.gates, phase);
     let same = right.bytes().zip(laid).take_while(|(a, b)| a == *b).count();
     ensure(right.as_bytes() == laid, || format!("reads, but is not what is printed for it, from byte {same} on"))?;
-    let bad = read.gates.iter().position(|gate| bad_gate(gate, wanted.n));
-    bad.map_or(Ok(read.gates), |place| Err(format!("laid gate {place} is no gate of this circuit")))
+    let bad = read.gates.iter().position(|gate| bad_gate(gate, n));
+    bad.map_or(Ok((read.gates, phase)), |place| Err(format!("laid gate {place} is no gate of this circuit")))
 }
 
 /// The laid gates of a job, if the text is the right `q` and `e` lines and then gates only.
@@ -574,23 +615,29 @@ fn check_hadamards(wanted: &Wanted, laid: &[Line]) -> Result<(), String> {
     })
 }
 
-/// The phase that the acceptance returned; where it is not printed, the one it has to return.
+/// All that is asked for: in a circuit beside its gates too.
+fn asked_phase(wanted: &Wanted) -> u32 {
+    (wanted.gphase + sum_of_phases(&wanted.stretches)) % HALF_UNITS
+}
+
+/// The phase that the acceptance of a job returned; where it is not printed, the one it has to return.
 fn returned_phase(wanted: &Wanted, printed: Option<&[u8]>) -> Result<u32, String> {
-    let Some(line) = printed else { return Ok(sum_of_phases(&wanted.stretches)) };
+    let Some(line) = printed else { return Ok(asked_phase(wanted)) };
     if line.is_empty() {
         return Ok(0);
     }
     let phase = std::str::from_utf8(line).ok().and_then(|line| {
         let mut rest = line.strip_prefix('p')?;
-        take_number(&mut rest, FULL_TURN - 1).filter(|&phase| phase != 0 && rest == "\n")
+        take_number(&mut rest, HALF_UNITS - 1).filter(|&phase| phase != 0 && rest == "\n")
     });
     phase.ok_or_else(|| format!("no line of a common phase: {}", show(line)))
 }
 
-/// The job's common phase is that of the laid gates and the returned one together.
+/// The common phase of a job is that of the laid gates and the returned one together; of a circuit the one
+/// that is printed takes the place of the returned one.
 fn check_phase(wanted: &Wanted, laid: &[Stretch], returned: u32) -> Result<(), String> {
-    let asked = sum_of_phases(&wanted.stretches);
-    let reached = (sum_of_phases(laid) + returned) % FULL_TURN;
+    let asked = asked_phase(wanted);
+    let reached = (sum_of_phases(laid) + returned) % HALF_UNITS;
     ensure(asked == reached, || format!("a common phase of {reached} instead of {asked}"))
 }
 
@@ -601,7 +648,7 @@ fn share_of_states(n: u32, asked: &Stretch, laid: &Stretch) -> Result<u32, Strin
         let (asked_bits, asked_phase) = follow_state(state, &asked.gates);
         let (bits, phase) = follow_state(state, &laid.gates);
         ensure(bits == asked_bits, || format!("basis state {state} goes elsewhere"))?;
-        shares.insert((asked_phase + FULL_TURN - phase) % FULL_TURN);
+        shares.insert((asked_phase + HALF_UNITS - phase) % HALF_UNITS);
     }
     match Vec::from_iter(shares)[..] {
         [share] => Ok(share),
@@ -609,14 +656,15 @@ fn share_of_states(n: u32, asked: &Stretch, laid: &Stretch) -> Result<u32, Strin
     }
 }
 
-/// The same said of states, for few qubits: each stretch has its own share of the returned phase.
+/// The same said of states, for few qubits: each stretch has its own share of the returned or printed phase,
+/// and what a circuit asks for beside its gates is the rest of it.
 fn check_states(wanted: &Wanted, laid: &[Stretch], returned: u32) -> Result<(), String> {
     if wanted.n > 6 {
         return Ok(());
     }
-    let mut sum = 0;
+    let mut sum = wanted.gphase;
     for (asked, laid) in wanted.stretches.iter().zip(laid) {
-        sum = (sum + share_of_states(wanted.n, asked, laid)?) % FULL_TURN;
+        sum = (sum + share_of_states(wanted.n, asked, laid)?) % HALF_UNITS;
     }
     ensure(sum == returned, || format!("basis states lack a phase of {sum}, not of {returned}"))
 }
@@ -646,7 +694,13 @@ fn check_refused(number: u32, place: u32, printed: &Printed) -> Result<(), Strin
     ensure(printed.phase.is_none_or(<[u8]>::is_empty), || format!("a common phase behind {right}"))
 }
 
-/// What reading answers with room for 4 gates and, where it accepts, writing with 100 bytes.
+/// The common phase that a circuit has where no qubit is ever 1.
+fn phase_of_zeros(circuit: &statements::Circuit) -> u32 {
+    circuit.gates.iter().fold(circuit.gphase, |phase, &gate| (phase + given(gate, false)) % HALF_UNITS)
+}
+
+/// What reading answers with room for 4 gates and, where it accepts, the common phase that it reads and what
+/// writing answers with 100 bytes.
 fn right_scant(circuit: &[u8]) -> String {
     let line = |(number, place): Refusal| format!("x\t{number}\t{place}\n");
     let circuit = match right_reading(circuit) {
@@ -655,13 +709,15 @@ fn right_scant(circuit: &[u8]) -> String {
         Ok(circuit) => circuit,
     };
     let bad = circuit.gates.iter().position(|gate| bad_gate(gate, circuit.n));
+    let phase = phase_of_zeros(&circuit);
     let writing = match bad {
         _ if circuit.n == 0 || circuit.n > 20 => (1, 0),
         Some(place) => (5, place as u32),
-        None if statements::written(circuit.n, &circuit.gates).len() > 100 => (8, 0),
+        None if statements::written(circuit.version, circuit.n, &circuit.gates, phase).len() > 100 => (8, 0),
         None => (0, 0),
     };
-    line((0, 0)) + &line(writing)
+    let phase_line = if phase == 0 { String::new() } else { format!("p\t{phase}\n") };
+    line((0, 0)) + &phase_line + &line(writing)
 }
 
 fn check_scant(task: &Task, printed: &Printed) -> Result<(), String> {
@@ -672,19 +728,23 @@ fn check_scant(task: &Task, printed: &Printed) -> Result<(), String> {
     })
 }
 
+/// The laid gates, and the common phase that was returned or printed with them.
+fn gates_and_phase(wanted: &Wanted, printed: &Printed) -> Result<(Vec<Line>, u32), String> {
+    match wanted.version {
+        None => Ok((laid_lines(wanted, printed.laid)?, returned_phase(wanted, printed.phase)?)),
+        Some(version) => laid_statements(version, wanted.n, printed.laid),
+    }
+}
+
 /// Gives the laid stretches back.
-fn check_laid(task: &Task, wanted: &Wanted, printed: &Printed) -> Result<Vec<Stretch>, String> {
-    let gates = match task {
-        Task::Job(_) => laid_lines(wanted, printed.laid)?,
-        Task::Circuit { .. } => laid_statements(wanted, printed.laid)?,
-    };
+fn check_laid(wanted: &Wanted, printed: &Printed) -> Result<Vec<Stretch>, String> {
+    let (gates, returned) = gates_and_phase(wanted, printed)?;
     check_couplers(wanted, &gates)?;
     check_hadamards(wanted, &gates)?;
     let laid = stretches(wanted.n, &gates);
     for (i, (asked, laid)) in wanted.stretches.iter().zip(&laid).enumerate() {
         check_stretch(wanted, asked, laid).map_err(|fault| format!("stretch {i}: {fault}"))?;
     }
-    let returned = returned_phase(wanted, printed.phase)?;
     check_phase(wanted, &laid, returned)?;
     check_states(wanted, &laid, returned)?;
     printed.counted.map_or(Ok(()), |counted| check_counted(wanted.n, &gates, counted))?;
@@ -707,7 +767,7 @@ fn judge(task: &Task, printed: &Printed) -> Result<Option<Drawings>, String> {
     match right_answer(task) {
         Verdict::Refused(number, place) => check_refused(number, place, printed).map(|()| None),
         Verdict::Accepted(wanted) => {
-            let laid = check_laid(task, &wanted, printed)?;
+            let laid = check_laid(&wanted, printed)?;
             let asked = wanted.stretches.iter().map(|asked| (asked.wires.clone(), asked.terms()));
             let got = laid.into_iter().map(|laid| laid.gates);
             Ok(Some(Drawings { head: head(&wanted), stretches: asked.zip(got).collect() }))
@@ -783,10 +843,11 @@ fn take_circuit<'a>(rest: &mut &'a [u8]) -> &'a [u8] {
     &all[..all.len() - rest.len()]
 }
 
-/// The answer of reading and, where that is an acceptance, the answer of writing.
+/// The answer of reading and, where that is an acceptance, the phase and the answer of writing.
 fn take_scant<'a>(rest: &mut &'a [u8]) -> &'a [u8] {
     let all = *rest;
     if take_line(rest) == b"x\t0\t0\n" {
+        take_phase(rest);
         take_line(rest);
     }
     &all[..all.len() - rest.len()]
@@ -798,8 +859,7 @@ fn parted_circuits(mut rest: &[u8]) -> Vec<Printed<'_>> {
     while !rest.is_empty() {
         let laid = take_circuit(&mut rest);
         let scant = Some(take_scant(&mut rest));
-        let phase = Some(take_phase(&mut rest));
-        answers.push(Printed { laid, counted: None, scant, phase });
+        answers.push(Printed { laid, counted: None, scant, phase: None });
     }
     answers
 }

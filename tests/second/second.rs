@@ -1,5 +1,5 @@
 //! The independent second program of Pikselvuo: it lays the same gates as the first one, from
-//! document 01, document 02's E1, E2, E3, E7 and E12 and the page on laying alone. Text in, text out.
+//! document 01, document 02's E1, E2, E3, E5, E7 and E12 and the page on laying alone. Text in, text out.
 //!
 //!     second lay     one job in, what the laying program prints out
 //!     second count   one job in, what the counting program prints out
@@ -12,8 +12,9 @@
 //!                    one circuit in, its couplers in a file; what the program `qasm` prints out
 //!     second circuits
 //!                    a bundle of pairs in, the couplers' text and then the circuit's; for each pair
-//!                    what `qasm` prints, what reading and writing answer where too little is lent,
-//!                    and the common phase where it is not 0, as the program `qasm_vectors` does
+//!                    what `qasm` prints and what reading and writing answer where too little is lent,
+//!                    between them the common phase that was read where it is not 0, as the program
+//!                    `qasm_vectors` does
 //!     second circuit-bundle
 //!                    the first of these texts, closed by a line `--`
 //!
@@ -25,6 +26,7 @@
 
 mod openqasm;
 
+use openqasm::Circuit;
 use std::collections::BTreeMap;
 use std::fs::File;
 use std::io::{self, BufWriter, Read, Write};
@@ -35,6 +37,8 @@ const MOST_COUPLERS: usize = 190;
 const MOST_GATES: usize = 4_096;
 const MOST_PARITIES: usize = 256;
 const FULL_TURN: u32 = 65_536;
+/// Common phases count in half units; this many make a full turn.
+const FULL_PHASE: u32 = 2 * FULL_TURN;
 
 /// What is lent: records for the two lists of reading and for the output of laying, bytes for
 /// writing.
@@ -82,10 +86,11 @@ struct Job {
 
 // ---------------------------------------------------------------- reading the text
 
-/// A decimal number without sign and needless zeros, at most `most`.
+/// A decimal number without sign and needless zeros, at most `most`; none that is asked for has more than
+/// six digits.
 fn number(field: &[u8], most: usize) -> Option<usize> {
     let needless_zero = field.len() > 1 && field[0] == b'0';
-    if field.is_empty() || field.len() > 5 || needless_zero {
+    if field.is_empty() || field.len() > 6 || needless_zero {
         return None;
     }
     let mut value = 0;
@@ -343,7 +348,7 @@ struct Meaning {
     flip: [bool; MOST_QUBITS],
     /// Every parity that bears a rotation, also where the sum is 0.
     sums: BTreeMap<u32, u32>,
-    /// The phase common to all states.
+    /// The phase common to all states, in half units.
     phase: u32,
 }
 
@@ -377,7 +382,7 @@ impl Meaning {
         let sum = self.sums.entry(self.parity[q]).or_insert(0);
         if self.flip[q] {
             *sum = (*sum + FULL_TURN - angle) % FULL_TURN;
-            self.phase = (self.phase + angle) % FULL_TURN;
+            self.phase = (self.phase + 2 * angle) % FULL_PHASE;
         } else {
             *sum = (*sum + angle) % FULL_TURN;
         }
@@ -809,8 +814,8 @@ fn flips_of(qubits: u32, meaning: &Meaning) -> impl Iterator<Item = Gate> + '_ {
 #[derive(PartialEq, Debug)]
 struct Laid {
     gates: Vec<Gate>,
-    /// The common phases of the job's stretches, added up, less those of the laid gates. These have
-    /// none: a rotation is laid before its island's first X.
+    /// The common phases of the job's stretches, added up, less those of the laid gates, in half units.
+    /// The latter have none: a rotation is laid before its island's first X.
     phase: u32,
 }
 
@@ -840,7 +845,7 @@ fn lay(job: &Job, lent: &Lent) -> Result<Laid, Refusal> {
         // None is left behind the last stretch.
         gates.extend(hadamards.next());
     }
-    let phase = meanings.iter().map(|meaning| meaning.phase).sum::<u32>() % FULL_TURN;
+    let phase = meanings.iter().map(|meaning| meaning.phase).sum::<u32>() % FULL_PHASE;
     Ok(Laid { gates, phase })
 }
 
@@ -936,35 +941,29 @@ fn scant_text(text: &[u8]) -> String {
     lines
 }
 
-/// Reads the couplers, then the circuit, and lays it. The job comes back with what is laid for it.
-fn lay_circuit(couplers: &[u8], circuit: &[u8]) -> Result<(Job, Laid), Refusal> {
+/// Reads the couplers, then the circuit, and lays it. What is read of the circuit comes back with the laid
+/// gates in place of its own, and with the whole common phase: what was read and what laying returns.
+fn lay_circuit(couplers: &[u8], circuit: &[u8]) -> Result<Circuit, Refusal> {
     let couplers = read_couplers(couplers)?;
-    let job = Job { couplers, ..openqasm::read(circuit, &ENOUGH)? };
-    let laid = lay(&job, &ENOUGH)?;
-    Ok((job, laid))
-}
-
-/// What `qasm` prints, and the line of the common phase.
-fn circuit_and_phase(couplers: &[u8], circuit: &[u8]) -> [String; 2] {
-    match lay_circuit(couplers, circuit) {
-        Err(refusal) => [refusal_line(refusal), String::new()],
-        Ok((job, laid)) => [openqasm::text_of(job.n, &laid.gates), phase_text(laid.phase)],
-    }
+    let drawn = openqasm::read(circuit, &ENOUGH)?;
+    let laid = lay(&Job { couplers, ..drawn.job }, &ENOUGH)?;
+    let job = Job { n: drawn.job.n, couplers: vec![], gates: laid.gates };
+    Ok(Circuit { job, phase: (drawn.phase + laid.phase) % FULL_PHASE, ..drawn })
 }
 
 /// What `qasm` prints.
 fn circuit_text(couplers: &[u8], circuit: &[u8]) -> String {
-    let [laid, _] = circuit_and_phase(couplers, circuit);
-    laid
+    lay_circuit(couplers, circuit).map_or_else(refusal_line, |laid| openqasm::text_of(&laid))
 }
 
 /// What `qasm_vectors` prints of a pair. Reading and writing look at the circuit alone.
 fn circuit_texts(couplers: &[u8], circuit: &[u8]) -> String {
-    let [laid, phase] = circuit_and_phase(couplers, circuit);
     let read = openqasm::read(circuit, &SCANT_CIRCUIT);
-    let written = read.as_ref().map(|circuit| answer_line(openqasm::write(circuit, &SCANT_CIRCUIT)));
-    let written = written.unwrap_or_default();
-    [laid, answer_line(read), written, phase].concat()
+    let behind = read.as_ref().map(|circuit| {
+        phase_text(circuit.phase) + &answer_line(openqasm::write(circuit, &SCANT_CIRCUIT))
+    });
+    let behind = behind.unwrap_or_default();
+    [circuit_text(couplers, circuit), answer_line(read), behind].concat()
 }
 
 // ---------------------------------------------------------------- programs
@@ -1278,7 +1277,7 @@ mod flips {
 
     #[test]
     fn a_rotation_between_two_flips() {
-        let texts = ["q\t1\nr\t0\t65531\n", "s\t0\t1\t0\n", "p\t5\n"];
+        let texts = ["q\t1\nr\t0\t65531\n", "s\t0\t1\t0\n", "p\t10\n"];
         assert_eq!(all_texts(b"q\t1\nn\t0\nr\t0\t5\nn\t0\n"), texts);
     }
 
@@ -1297,7 +1296,13 @@ mod flips {
     #[test]
     fn a_phase_of_one_turn_is_none() {
         assert_eq!(all_texts(b"q\t1\nn\t0\nr\t0\t32768\nr\t0\t32768\n")[2], "");
-        assert_eq!(all_texts(b"q\t1\nn\t0\nr\t0\t32769\nr\t0\t32768\n")[2], "p\t1\n");
+        assert_eq!(all_texts(b"q\t1\nn\t0\nr\t0\t32769\nr\t0\t32768\n")[2], "p\t2\n");
+    }
+
+    #[test]
+    fn half_units() {
+        assert_eq!(all_texts(b"q\t1\nn\t0\nr\t0\t32768\n")[2], "p\t65536\n");
+        assert_eq!(all_texts(b"q\t1\nn\t0\nr\t0\t65535\n")[2], "p\t131070\n");
     }
 }
 
@@ -1349,7 +1354,7 @@ mod hadamards {
 
     #[test]
     fn the_phases_are_summed() {
-        gets("q 1;n 0;r 0 5;n 0;h 0;n 0;r 0 6;n 0;", ["q 1;r 0 65531;h 0;r 0 65530;", "s 0 2 0;", "p 11;"]);
+        gets("q 1;n 0;r 0 5;n 0;h 0;n 0;r 0 6;n 0;", ["q 1;r 0 65531;h 0;r 0 65530;", "s 0 2 0;", "p 22;"]);
         gets("q 1;n 0;r 0 5;n 0;h 0;n 0;r 0 65531;n 0;", ["q 1;r 0 65531;h 0;r 0 5;", "s 0 2 0;", ""]);
     }
 

@@ -1,5 +1,5 @@
--- The divisors of 32768 are the powers of two from 1 to 32768. Assumes nothing.
-use mathlib.Core.Path.{_≡_, refl, ap, _∙_}
+-- The divisors of pi are the powers of two from 1 to pi, in units and in half units. Assumes nothing.
+use mathlib.Core.Path.{_≡_, refl, sym, ap, _∙_}
 use mathlib.Core.Bool.{Bool, true, false}
 use Prim.Native.Nat.{ℕ, zero, suc, _+_, _-_, _*_, _/_, _%_, _^_, _≤_}
 use lib.Dec.{eqb, ltb}
@@ -8,7 +8,9 @@ use native.Mathlib.Nat.{div-add-mod', mul-assoc, mul-left-comm, mul-comm, mul-le
 use lib.Pow.{pow-add, pow-pos}
 use native.Mathlib.Omega.{arith}
 use Rattle.sets.specs.Pick.{both}
-use Rattle.angles.specs.Units.{isOver}
+use Rattle.angles.specs.declared.Scale.{Scale}
+use Rattle.angles.specs.declared.Scale.the-variants.{Units, Halves}
+use Rattle.angles.specs.Units.{piIn, isOver}
 
 -- a power of two, of which the exponent is at most n
 pub record Power (d n : ℕ) : Type 0 where
@@ -41,32 +43,40 @@ power (suc n) d q h = go (eqb (d % 2) 0) refl (power n (d / 2) q) (power n d (q 
         let r = odd (omega (arith, ap (λ x. d * x) p, mul-left-comm d 2 (q / 2), h, two-pow-succ n)) in
         record { exponent = r .exponent; most = omega (arith, r .most); same = r .same }
 
--- "a power of two from 1 to 32768", both ways
-pub over-power : (d : ℕ) → isOver d ≡ true → Power d 15
+-- pi is 2 ^ 15 units, 2 ^ 16 half units
+abbrev pub mostExponent : Scale → ℕ
+mostExponent Units = 15
+mostExponent Halves = 16
+
+pi-power : (c : Scale) → 2 ^ mostExponent c ≡ piIn c
+pi-power Units = refl
+pi-power Halves = refl
+
+-- what is no divisor of pi is refused
+over-divides : (c : Scale) (d : ℕ) → isOver c d ≡ true → piIn c % d ≡ 0
 unfolding isOver
-over-power d h = go (ltb 0 d) (eqb (32768 % d) 0) refl refl h
+over-divides c d h = go (ltb 0 d) (eqb (piIn c % d) 0) refl h
   where
-    go : (t u : Bool) → ltb 0 d ≡ t → eqb (32768 % d) 0 ≡ u → both t u ≡ true → Power d 15
-    go true true p q e = power 15 d (32768 / d) (mul-comm d (32768 / d) ∙ omega (arith, div-add-mod' 32768 d, eqb-true (32768 % d) 0 q))
-    go true false p q e = let z : _≡_ {A = ℕ} 0 1 = cc e in absurd (omega arith)
-    go false u p q e = let z : _≡_ {A = ℕ} 0 1 = cc e in absurd (omega arith)
+    go : (t u : Bool) → eqb (piIn c % d) 0 ≡ u → both t u ≡ true → piIn c % d ≡ 0
+    go true true q e = eqb-true (piIn c % d) 0 q
+    go true false q e = let z : _≡_ {A = ℕ} 0 1 = cc e in absurd (omega arith)
+    go false u q e = let z : _≡_ {A = ℕ} 0 1 = cc e in absurd (omega arith)
 
-few : (e : ℕ) → e ≤ 15 → isOver (2 ^ e) ≡ true
+-- exactly: k * pi / d has k times pi over d, and nothing is lost
+pub exact : (c : Scale) (d : ℕ) → isOver c d ≡ true → piIn c / d * d ≡ piIn c
+exact c d h = omega (arith, div-add-mod' (piIn c) d, over-divides c d h)
+
+-- "a power of two from 1 to 32768", and for half units to 65536, both ways
+pub over-power : (c : Scale) (d : ℕ) → isOver c d ≡ true → Power d (mostExponent c)
+over-power c d h = power (mostExponent c) d (piIn c / d) (mul-comm d (piIn c / d) ∙ exact c d h ∙ sym (pi-power c))
+
+few : (c : Scale) (e : ℕ) → e ≤ mostExponent c → isOver c (2 ^ e) ≡ true
 unfolding isOver
-few e h =
-    let z : 15 ≡ e + (15 - e) = omega arith in
-    let w : 32768 % 2 ^ e ≡ 0 = ap (λ m. 2 ^ m % 2 ^ e) z ∙ ap (λ m. m % 2 ^ e) (pow-add 2 e (15 - e)) ∙ mul-mod-right (2 ^ e) (2 ^ (15 - e)) in
-    rw (lt-ltb 0 (2 ^ e) (pow-pos e), eq-eqb (32768 % 2 ^ e) 0 w)
+few c e h =
+    let n = mostExponent c in
+    let z : n ≡ e + (n - e) = omega arith in
+    let w : piIn c % 2 ^ e ≡ 0 = ap (λ m. m % 2 ^ e) (sym (pi-power c) ∙ ap (λ m. 2 ^ m) z ∙ pow-add 2 e (n - e)) ∙ mul-mod-right (2 ^ e) (2 ^ (n - e)) in
+    rw (lt-ltb 0 (2 ^ e) (pow-pos e), eq-eqb (piIn c % 2 ^ e) 0 w)
 
-pub power-over : (d : ℕ) → Power d 15 → isOver d ≡ true
-power-over d p = ap isOver (p .same) ∙ few (p .exponent) (p .most)
-
--- exactly: k * pi / d has k * 32768 units over d, and nothing is lost
-pub exact : (d : ℕ) → isOver d ≡ true → 32768 / d * d ≡ 32768
-unfolding isOver
-exact d h = go (ltb 0 d) (eqb (32768 % d) 0) refl refl h
-  where
-    go : (t u : Bool) → ltb 0 d ≡ t → eqb (32768 % d) 0 ≡ u → both t u ≡ true → 32768 / d * d ≡ 32768
-    go true true p q e = omega (arith, div-add-mod' 32768 d, eqb-true (32768 % d) 0 q)
-    go true false p q e = let z : _≡_ {A = ℕ} 0 1 = cc e in absurd (omega arith)
-    go false u p q e = let z : _≡_ {A = ℕ} 0 1 = cc e in absurd (omega arith)
+pub power-over : (c : Scale) (d : ℕ) → Power d (mostExponent c) → isOver c d ≡ true
+power-over c d p = ap (isOver c) (p .same) ∙ few c (p .exponent) (p .most)

@@ -1,24 +1,39 @@
--- A signed multiple of pi in units of 1/65,536 turn (request E1: "`-pi/4` is -8,192 units, so 57,344").
+-- A signed multiple of pi as a whole number (request E1: "`-pi/4` is -8,192 units, so 57,344"; request E5: "an angle is kept modulo two turns").
 use mathlib.Core.Bool.{Bool, true, false}
 use Prim.Native.Nat.{ℕ, _-_, _*_, _/_, _%_}
 use lib.Dec.{eqb, ltb}
 use lib.IntN.{ℤ, pos, negsuc, negℤ}
 use Rattle.sets.specs.Pick.{both}
+use Rattle.angles.specs.declared.Scale.{Scale}
+use Rattle.angles.specs.declared.Scale.the-variants.{Units, Halves}
 
--- "over a power of two from 1 to 32768": these are the divisors of 32768 (proofs/Powers.antt)
-unfoldable pub isOver : ℕ → Bool
-isOver d = both (ltb 0 d) (eqb (32768 % d) 0)
+-- half a turn: an angle counts in units, 65,536 to the turn, a common phase "in half units, 131,072 to the turn"
+abbrev pub piIn : Scale → ℕ
+piIn Units = 32768
+piIn Halves = 65536
 
--- "with an optional minus": u units, or as many the other way round
+-- "k up to 65,535"; of a common phase "k up to 131,071"
+abbrev pub mostTimes : Scale → ℕ
+mostTimes c = 2 * piIn c - 1
+
+-- "over a power of two from 1 to 32768"; of a common phase "over up to 65536": these are the divisors of pi (proofs/Powers.antt)
+unfoldable pub isOver : Scale → ℕ → Bool
+isOver c d = both (ltb 0 d) (eqb (piIn c % d) 0)
+
+-- "with an optional minus": u of them, or as many the other way round
 unfoldable pub signedOf : Bool → ℕ → ℤ
 signedOf true u = negℤ (pos u)
 signedOf false u = pos u
 
--- "reduced to 0..65,535": the units within a turn that differ from z by whole turns (proofs/Laws.antt, `reduced-turns`). `negsuc n` is -(n + 1)
+-- "modulo two turns" of units, one turn of half units: what is below 131,072 and differs from z by a multiple of it (proofs/Laws.antt, `reduced-turns`). `negsuc n` is -(n + 1)
 unfoldable pub reducedOf : ℤ → ℕ
-reducedOf (pos n) = n % 65536
-reducedOf (negsuc n) = 65535 - n % 65536
+reducedOf (pos n) = n % 131072
+reducedOf (negsuc n) = 131071 - n % 131072
 
--- k * pi / d, where pi is 32,768 units. Over 0 it is 0
+-- k * pi / d. Over 0 it is 0
+unfoldable pub countOf : Scale → Bool → ℕ → ℕ → ℕ
+countOf c minus k d = reducedOf (signedOf minus (k * (piIn c / d)))
+
+-- "until the common phase is taken": the units of a rotation's record, modulo one turn
 unfoldable pub unitsOf : Bool → ℕ → ℕ → ℕ
-unitsOf minus k d = reducedOf (signedOf minus (k * (32768 / d)))
+unitsOf minus k d = countOf Units minus k d % 65536

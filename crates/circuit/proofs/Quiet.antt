@@ -2,7 +2,7 @@
 use mathlib.Core.Path.{_≡_, refl, sym, ap, ap₂, _∙_, subst}
 use mathlib.Core.Bool.{Bool}
 use mathlib.Core.List.{List, [], _∷_, _++_}
-use Prim.Native.Nat.{ℕ, _+_, _-_, _%_}
+use Prim.Native.Nat.{ℕ, _+_, _-_, _*_, _%_}
 use lib.Dec.{eqb}
 use lib.Bits.{bitXor, xor-zero-l}
 use lib.ListN.{getD, set}
@@ -50,7 +50,7 @@ unfolding Quiet shifted shiftsOn flipStep shifts
 quiet-shifted [] F h = refl
 quiet-shifted (Cnot c t ∷ gs) F h = ap (λ (m : ℕ). 0 + m) (quiet-shifted gs (flipStep (Cnot c t) F) h)
 quiet-shifted (Rotation q a ∷ gs) F h =
-    ap₂ (λ (x y : ℕ). x + y) (ap (λ (b : Bool). pick b 0 a) (eq-eqb (getD F q 0) 0 (h .0))) (quiet-shifted gs F (h .1))
+    ap₂ (λ (x y : ℕ). x + y) (ap (λ (b : Bool). pick b 0 (2 * (a % 65536))) (eq-eqb (getD F q 0) 0 (h .0))) (quiet-shifted gs F (h .1))
 quiet-shifted (X q ∷ gs) F h = ap (λ (m : ℕ). 0 + m) (quiet-shifted gs (flipStep (X q) F) h)
 quiet-shifted (Bad ∷ gs) F h = ap (λ (m : ℕ). 0 + m) (quiet-shifted gs F h)
 
@@ -60,7 +60,7 @@ sum-is p gs h = ap (λ (m : ℕ). m % 65536) (quiet-given p gs start noFlips h)
 
 pub phase-none : (gs : List Gate) → Quiet gs noFlips → phaseOf gs ≡ 0
 unfolding phaseOf
-phase-none gs h = ap (λ (m : ℕ). m % 65536) (quiet-shifted gs noFlips h)
+phase-none gs h = ap (λ (m : ℕ). m % 131072) (quiet-shifted gs noFlips h)
 
 -- a CNOT whose control is not flipped changes no flip
 cnot-calm : (c t : ℕ) (F : List ℕ) → getD F c 0 ≡ 0 → flipStep (Cnot c t) F ≡ F

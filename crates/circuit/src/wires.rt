@@ -61,18 +61,18 @@ pub fn taken(flip: u32, angle: u32) -> u32
     }
 }
 
-// And what it adds to the common phase.
+// And what it adds to the common phase, in half units.
 pub fn shift(flip: u32, angle: u32) -> u32
     ensures { λ r. ⌜ r ≡ shifts flip angle ⌝ }
 {
-    if flip == 0 { 0 } else { angle }
+    if flip == 0 { 0 } else { 2 * (angle % 65536) }
 }
 
 // Two common phases together.
 pub fn together(a: u32, b: u32) -> u32
     ensures { λ r. ⌜ r ≡ phases a b ⌝ }
 {
-    (a % 65536 + b % 65536) % 65536
+    (a % 131072 + b % 131072) % 131072
 }
 
 impl Wires {

@@ -12,7 +12,7 @@ use Rattle.gates.specs.declared.gate.Gate.{Gate}
 use Rattle.gates.specs.Limits.{mostQubits}
 use Rattle.gates.specs.Layout.{gateOf, gatesOf}
 use Rattle.verdicts.specs.declared.verdict.Verdict.{Verdict}
-use Rattle.verdicts.specs.declared.verdict.Verdict.the-variants.{Accepted, Qubits, ManyCouplers, WrongCoupler, ManyGates, BadGate, ManyParities, Unreachable, Room, Line, LongText, Angle, Statement}
+use Rattle.verdicts.specs.declared.verdict.Verdict.the-variants.{Accepted, Qubits, ManyCouplers, WrongCoupler, ManyGates, BadGate, ManyParities, Unreachable, Room, Line, LongText, Angle, Statement, Unversioned}
 use Rattle.verdicts.specs.Verdicts.{numberOf, placeOf}
 use Rattle.verdicts.proofs.Passing.{drawn-accepted}
 use Rattle.tallies.specs.Tally.{cnotsOf, rotationsOf, depthOf, boundOf}
@@ -38,7 +38,7 @@ use Rattle.console.proofs.Passing.{order-accepted}
 word : (v : ℕ) → v < 2 ^ 64 → v < 10 ^ 20
 word v h = omega arith
 
-pub number-few : (v : Verdict) → numberOf v < 14
+pub number-few : (v : Verdict) → numberOf v < 15
 number-few Accepted = omega arith
 number-few Qubits = omega arith
 number-few ManyCouplers = omega arith
@@ -52,6 +52,7 @@ number-few (Line k) = omega arith
 number-few LongText = omega arith
 number-few (Angle k) = omega arith
 number-few (Statement k) = omega arith
+number-few Unversioned = omega arith
 
 pub refusal-fits : (v : Verdict) → placeOf v < 2 ^ 64 → length (refusalOf v) ≤ mostPrinted
 unfolding refusalOf refusalText

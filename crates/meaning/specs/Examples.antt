@@ -47,7 +47,7 @@ gates10 = gatesOf 2 (cnotRecord 0 1 ∷ rotationRecord 1 1 ∷ cnotRecord 0 1 �
 abbrev pub xRecord : ℕ → ℕ
 xRecord q = packed 3 q 0
 
--- 12. "X, rotation 5, X on one wire": the angle is taken from the sum and goes to the common phase
+-- 12. "X, rotation 5, X on one wire": the angle is taken from the sum and goes to the common phase, 10 half units
 abbrev pub gates12 : List Gate
 gates12 = gatesOf 1 (xRecord 0 ∷ rotationRecord 0 5 ∷ xRecord 0 ∷ [])
 
@@ -69,7 +69,7 @@ meaningExamples =
     ∷ record { number = 6; says = terms (gatesOf 3 records6) ≡ [] }
     ∷ record { number = 9; says = (boundOf 2 1 ≡ 9) × (boundOf 1 1 ≡ 2) × (boundOf 4 3 ≡ 49) × (boundOf 16 10 ≡ 806) × (boundOf 20 256 ≡ 10764) }
     ∷ record { number = 10; says = depthOf gates10 ≡ 2 }
-    ∷ record { number = 12; says = (sumOf 1 gates12 ≡ 65531) × (phaseOf gates12 ≡ 5) × (flipOf gates12 0 ≡ 0) × (depthOf gates12 ≡ 0) }
+    ∷ record { number = 12; says = (sumOf 1 gates12 ≡ 65531) × (phaseOf gates12 ≡ 10) × (flipOf gates12 0 ≡ 0) × (depthOf gates12 ≡ 0) }
     ∷ record { number = 13; says = (flipOf gates13 0 ≡ 1) × (flipOf gates13 1 ≡ 1) × (finalOf gates13 1 ≡ 3) }
     ∷ record { number = 14; says = (flipOf gates14 0 ≡ 0) × (terms gates14 ≡ []) × (phaseOf gates14 ≡ 0) × (depthOf gates14 ≡ 0) }
     ∷ []

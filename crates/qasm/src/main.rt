@@ -1,4 +1,6 @@
-// The program for circuits: a circuit's text from standard input, the laid circuit's to standard output, stretch by stretch. Its argument names the couplers' file.
+// The program for circuits: a circuit's text from standard input, the laid circuit's to standard output, stretch by stretch, last its common phase. Its argument names the
+// couplers' file.
+use circuit::wires;
 use console::COUPLER_LINES;
 use console::GATE_LINES;
 use console::INPUT;
@@ -49,15 +51,21 @@ fn lay(fd: i32) {
     let k = begun.bytes;
     io::write_all(STDOUT_FILENO, &out[..k]);
     let job = begun.job;
+    let q = job.qubits;
     let c = job.couplers;
     let g = job.gates;
+    let version = begun.version;
+    let mut phase = begun.phase;
     let mut from = begun.from;
     while from <= g {
-        let part = printing::lay_part(job.qubits, &couplers[..c], &gates[..g], from, &mut out);
+        let part = printing::lay_part(version, q, &couplers[..c], &gates[..g], from, &mut out);
         let k = part.bytes;
         io::write_all(STDOUT_FILENO, &out[..k]);
+        phase = wires::together(phase, part.phase);
         from = part.next;
     }
+    let k = printing::end(version, phase, &mut out);
+    io::write_all(STDOUT_FILENO, &out[..k]);
 }
 
 // Rattle has no exit status, so standard error alone tells that nothing was done.

@@ -1,7 +1,7 @@
 -- Demands 2 and 3 from OpenQASM to OpenQASM, as theorems about texts. Assumes nothing.
-use mathlib.Core.Path.{_≡_, refl, sym, ap, _∙_, subst}
+use mathlib.Core.Path.{_≡_, refl, sym, ap, ap₂, _∙_, subst}
 use mathlib.Core.Bool.{Bool, true, false}
-use mathlib.Core.List.{List, [], _∷_, _++_, map}
+use mathlib.Core.List.{List, [], _∷_, _++_, append-assoc, map}
 use Prim.Native.Nat.{ℕ, _≤_}
 use native.Mathlib.Omega.{arith}
 use lib.ListN.{length}
@@ -26,6 +26,7 @@ use Rattle.stretches.specs.Laid.{stretchRecords, jobRecords}
 use Rattle.stretches.specs.Meaning.{AlikeJob}
 use Rattle.stretches.specs.Demands.{AgreeJob, recordsOn}
 use Rattle.stretches.proofs.Eachs.{each-mapped, each-map, at-each}
+use Rattle.stretches.proofs.Laying.{phases-small}
 use Rattle.stretches.proofs.Passing.{Passed, job-passed}
 use Rattle.stretches.proofs.Demands.{laid-faithful, demand-3, all-hadamards}
 use Rattle.stretches.proofs.Archive.{same-records}
@@ -38,16 +39,20 @@ use Rattle.reading.proofs.Sizes.{couplers-least}
 use Rattle.reading.proofs.Listings.{couplers-parsed}
 use Rattle.text.proofs.Rows.{couplers-rows}
 use Rattle.qasm_reading.specs.Parsing.{circuit, parsed}
-use Rattle.qasm_reading.specs.Readings.{jobIn, gatesIn, judgedReading}
+use Rattle.qasm_reading.specs.Readings.{circuitIn, gatesIn, judgedReading}
 use Rattle.qasm_reading.specs.Texts.{CircuitText}
 use Rattle.qasm_reading.proofs.Parsed.{circuit-parsed, circuit-once}
 use Rattle.qasm_reading.proofs.Rows.{judged-good}
 use Rattle.qasm_reading.proofs.Enough.{gates-few}
-use Rattle.qasm_lines.specs.Spelling.{circuitText}
+use Rattle.circuit.specs.Phase.{phases}
+use Rattle.versions.specs.declared.Version.{Version}
+use Rattle.versions.specs.declared.Version.the-variants.{Three}
+use Rattle.qasm_lines.specs.Spelling.{headText, gatesText, phaseText, circuitText}
+use Rattle.qasm_text.specs.Writings.{readPhase}
 use Rattle.qasm_text.proofs.RoundTrip.{good-circuit}
 use Rattle.console.specs.Printed.{mostCouplerLines, mostGateLines}
 use Rattle.console.proofs.Choosing.{unless-passed}
-use Rattle.qasm_console.specs.Printed.{laidCircuit, laidDrawing, laidTexts}
+use Rattle.qasm_console.specs.Printed.{wholePhase, laidCircuit, laidDrawing, laidTexts}
 use Rattle.qasm_console.specs.Demands.{Drawn, Kept}
 
 -- ---- what is laid can be written
@@ -99,9 +104,9 @@ module _ (n : ℕ) (couplers gates : List ℕ) (p : Passed n couplers gates) whe
       (each-map (λ x. isHadamard n x ≡ true) (Fine n) (hadamard-fine n) (hadamardsOf n gates) (all-hadamards n couplers gates p))
 
   -- the text of what is laid is that of a circuit, however long
-  laid-text : CircuitText (circuitText n (jobRecords n couplers gates)) n (jobRecords n couplers gates)
-  laid-text =
-      good-circuit n (jobRecords n couplers gates) (p .qubits)
+  laid-text : (v : Version) (g : ℕ) → CircuitText (circuitText v n (jobRecords n couplers gates) g) v n (jobRecords n couplers gates) (readPhase v g)
+  laid-text v g =
+      good-circuit v n (jobRecords n couplers gates) g (p .qubits)
       (ap numberOf (drawn-accepted n (jobRecords n couplers gates) (at-each (Fine n) (jobRecords n couplers gates) laid-fine)))
 
 -- ---- what is printed for a text
@@ -111,51 +116,70 @@ at-bound : (n : ℕ) (couplers gates : List ℕ) → numberOf (judgedStretches n
 unfolding jobVerdict judgedBound
 at-bound n couplers gates z = sym (ap numberOf (then-on (judgedStretches n couplers gates) (judgedBound n gates (jobBound n gates)) z)) ∙ rw (le-ltb (jobBound n gates) (jobBound n gates) (omega arith))
 
-module _ (couplers t : List ℕ) (n : ℕ) (gates : List ℕ) (d : Drawn couplers t n gates) where
-  found : parsed t ≡ circuit n gates
-  found = circuit-parsed t n gates (d .text)
+module _ (couplers t : List ℕ) (v : Version) (n : ℕ) (gates : List ℕ) (g : ℕ) (d : Drawn couplers t v n gates g) where
+  abbrev laid : List ℕ
+  laid = jobRecords n couplers gates
+
+  found : parsed t ≡ circuit v n gates g
+  found = circuit-parsed t v n gates g (d .text)
 
   few : length gates ≤ mostGateLines
   few = omega (arith, gates-few t (d .short), ap (λ r. length (gatesIn r)) found)
 
-  pub printed : laidDrawing couplers t ≡ circuitText n (jobRecords n couplers gates)
+  pub printed : laidDrawing couplers t ≡ circuitText v n (jobRecords n couplers gates) (wholePhase n gates g)
   unfolding laidDrawing laidCircuit
   printed =
-      sym (unless-passed (judgedReading t mostGateLines) (laidCircuit (jobIn (parsed t) .qubits) couplers (gatesIn (parsed t))) (ap numberOf (judged-good t mostGateLines (d .short) n gates (d .text) few)))
-      ∙ ap (λ r. laidCircuit (jobIn r .qubits) couplers (gatesIn r)) found ∙ sym (unless-passed (judgedStretches n couplers gates) (circuitText n (jobRecords n couplers gates)) (d .accepted))
+      sym (unless-passed (judgedReading t mostGateLines) (laidCircuit (circuitIn (parsed t)) couplers (gatesIn (parsed t))) (ap numberOf (judged-good t mostGateLines (d .short) v n gates g (d .text) few)))
+      ∙ ap (λ r. laidCircuit (circuitIn r) couplers (gatesIn r)) found ∙ sym (unless-passed (judgedStretches n couplers gates) (circuitText v n (jobRecords n couplers gates) (wholePhase n gates g)) (d .accepted))
 
   passed : Passed n couplers gates
   passed = job-passed n couplers gates (d .accepted)
 
-  -- what is printed reads as the records laid, and as nothing else
-  pub printed-text : CircuitText (laidDrawing couplers t) n (jobRecords n couplers gates)
-  printed-text = subst (λ u. CircuitText u n (jobRecords n couplers gates)) (sym printed) (laid-text n couplers gates passed)
+  -- what is printed reads as the records laid and, in 3.0, the whole common phase, and as nothing else
+  pub printed-text : CircuitText (laidDrawing couplers t) v n (jobRecords n couplers gates) (readPhase v (wholePhase n gates g))
+  printed-text = subst (λ u. CircuitText u v n laid (readPhase v (wholePhase n gates g))) (sym printed) (laid-text n couplers gates passed v (wholePhase n gates g))
 
-  pub printed-only : (m : ℕ) (laid : List ℕ) → CircuitText (laidDrawing couplers t) m laid → (m ≡ n) × (laid ≡ jobRecords n couplers gates)
-  printed-only m laid c = circuit-once (laidDrawing couplers t) m n laid (jobRecords n couplers gates) c printed-text
+  pub printed-only : (w : Version) (m : ℕ) (records : List ℕ) (h : ℕ) → CircuitText (laidDrawing couplers t) w m records h
+      → (w ≡ v) × (m ≡ n) × (records ≡ jobRecords n couplers gates) × (h ≡ readPhase v (wholePhase n gates g))
+  printed-only w m records h c = circuit-once (laidDrawing couplers t) w v m n records laid h (readPhase v (wholePhase n gates g)) c printed-text
+
+  -- in 3.0 the whole common phase of what is printed is that of what was read
+  printed-phase : v ≡ Three → wholePhase n (jobRecords n couplers gates) (readPhase v (wholePhase n gates g)) ≡ wholePhase n gates g
+  unfolding wholePhase readPhase phases
+  printed-phase e =
+      let z = laid-faithful n couplers gates passed .same .phase in
+      ap (λ w. wholePhase n laid (readPhase w (wholePhase n gates g))) e ∙ omega (arith, z, phases-small n couplers gates (stretchesOf n gates), phases-small n couplers gates (stretchesOf n laid))
 
   -- THEOREM, demand 2: what is printed is the text of a circuit with the meaning of the one that was read
-  pub demand-2-texts : Kept couplers t n gates (jobRecords n couplers gates)
-  demand-2-texts = record { text = printed-text; faithful = laid-faithful n couplers gates passed }
+  pub demand-2-texts : Kept couplers t v n gates g (jobRecords n couplers gates)
+  unfolding circuitText
+  demand-2-texts = record {
+    text = printed-text;
+    faithful = laid-faithful n couplers gates passed;
+    phase = printed-phase;
+    front = headText v n ++ gatesText v laid;
+    last = printed ∙ sym (append-assoc (headText v n) (gatesText v laid) (phaseText v (wholePhase n gates g)));
+  }
 
 -- ---- two texts
 
-module _ (couplers couplers′ t t′ : List ℕ) (n m : ℕ) (gates gates′ : List ℕ) (d : Drawn couplers t n gates) (e : Drawn couplers′ t′ m gates′) where
-  -- THEOREM, demand 3: two texts, in any layout, with any names, whose circuits agree on an island: the circuits that are printed for them have the same gates there, in order
+module _ (couplers couplers′ t t′ : List ℕ) (v w : Version) (n m : ℕ) (gates gates′ : List ℕ) (g h : ℕ) (d : Drawn couplers t v n gates g) (e : Drawn couplers′ t′ w m gates′ h) where
+  -- THEOREM, demand 3: two texts, in any layout, with any names, whose circuits agree on an island: the circuits that are printed for them have the same gates there, in order; their
+  -- versions and common phases may differ
   pub demand-3-texts : (S q r : ℕ) → Island n couplers S q → Island m couplers′ S r → AgreeJob S n m couplers couplers′ gates gates′
-      → (laid laid′ : List ℕ) → CircuitText (laidDrawing couplers t) n laid → CircuitText (laidDrawing couplers′ t′) m laid′ → recordsOn n S laid ≡ recordsOn m S laid′
-  demand-3-texts S q r i j agree laid laid′ c c′ =
-      ap (recordsOn n S) (printed-only couplers t n gates d n laid c .1)
+      → (laid laid′ : List ℕ) (f k : ℕ) → CircuitText (laidDrawing couplers t) v n laid f → CircuitText (laidDrawing couplers′ t′) w m laid′ k → recordsOn n S laid ≡ recordsOn m S laid′
+  demand-3-texts S q r i j agree laid laid′ f k c c′ =
+      ap (recordsOn n S) (printed-only couplers t v n gates g d v n laid f c .2)
       ∙ demand-3 n m couplers couplers′ gates gates′ (jobBound n gates) (jobBound m gates′) (at-bound n couplers gates (d .accepted)) (at-bound m couplers′ gates′ (e .accepted)) S q r i j agree .1
-      ∙ sym (ap (recordsOn m S) (printed-only couplers′ t′ m gates′ e m laid′ c′ .1))
+      ∙ sym (ap (recordsOn m S) (printed-only couplers′ t′ w m gates′ h e w m laid′ k c′ .2))
 
--- THEOREM: on the same chip with the same meaning, the common phase aside, the same bytes
-pub same-bytes : (couplers couplers′ t t′ : List ℕ) (n : ℕ) (gates gates′ : List ℕ) → Drawn couplers t n gates → Drawn couplers′ t′ n gates′ → SameCouplers couplers couplers′
-    → AlikeJob n gates gates′ → laidDrawing couplers t ≡ laidDrawing couplers′ t′
-same-bytes couplers couplers′ t t′ n gates gates′ d e chip alike =
-    printed couplers t n gates d
-    ∙ ap (circuitText n) (same-records n couplers couplers′ gates gates′ (job-passed n couplers gates (d .accepted)) (job-passed n couplers′ gates′ (e .accepted)) chip alike)
-    ∙ sym (printed couplers′ t′ n gates′ e)
+-- THEOREM: on the same chip, in the same version, with the same meaning, the whole common phase included, the same bytes
+pub same-bytes : (couplers couplers′ t t′ : List ℕ) (v : Version) (n : ℕ) (gates gates′ : List ℕ) (g h : ℕ) → Drawn couplers t v n gates g → Drawn couplers′ t′ v n gates′ h → SameCouplers couplers couplers′
+    → AlikeJob n gates gates′ → wholePhase n gates g ≡ wholePhase n gates′ h → laidDrawing couplers t ≡ laidDrawing couplers′ t′
+same-bytes couplers couplers′ t t′ v n gates gates′ g h d e chip alike phase =
+    printed couplers t v n gates g d
+    ∙ ap₂ (circuitText v n) (same-records n couplers couplers′ gates gates′ (job-passed n couplers gates (d .accepted)) (job-passed n couplers′ gates′ (e .accepted)) chip alike) phase
+    ∙ sym (printed couplers′ t′ v n gates′ h e)
 
 -- ---- the program, which reads the couplers from a text too
 

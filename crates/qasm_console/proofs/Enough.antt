@@ -19,9 +19,12 @@ use Rattle.reading.specs.Limits.{mostBytes}
 use Rattle.reading.specs.Readings.{couplersIn}
 use Rattle.reading.specs.Listing.{parsedCouplers, judgedCouplersText}
 use Rattle.reading.proofs.ListingEnough as listing
+use Rattle.versions.specs.declared.Version.{Version}
+use Rattle.versions.specs.declared.Version.the-variants.{Two, Three}
 use Rattle.qasm_lines.specs.Spelling.{headText, circuitText}
-use Rattle.qasm_reading.specs.Parsing.{Parsed, circuit, angle, statement, early, parsed}
-use Rattle.qasm_reading.specs.Readings.{gatesIn, jobIn, judgedStatements, judgedList, judgedReading}
+use Rattle.qasm_reading.specs.Parsing.{Parsed, circuit, angle, statement, early, unversioned, parsed}
+use Rattle.qasm_reading.specs.declared.read.Circuit.{Circuit}
+use Rattle.qasm_reading.specs.Readings.{gatesIn, circuitIn, judgedStatements, judgedList, judgedReading}
 use Rattle.qasm_reading.proofs.Enough.{gates-few}
 use Rattle.console.specs.Printed.{mostCouplerLines, mostGateLines, refusalOf, unless}
 use Rattle.console.proofs.Choosing.{unless-refused}
@@ -35,13 +38,14 @@ listing-never-8 s = listing.listing-never-8 s mostCouplerLines (omega arith)
 
 module _ (t : List ℕ) where
   within : length t ≤ mostBytes → (p : Parsed) → parsed t ≡ p → numberOf (andThen (judgedStatements t p) (judgedList p mostGateLines)) ≢ 8
-  within h (circuit n gates) e z =
+  within h (circuit v n gates phase) e z =
       let few : length gates ≤ mostGateLines = omega (arith, gates-few t h, ap (λ (p : Parsed). length (gatesIn p)) e) in
       let y : _≡_ {A = ℕ} 0 8 = sym (ap (λ (b : Bool). numberOf (pick b Accepted Room)) (le-leb (length gates) mostGateLines few)) ∙ z in
       omega arith
   within h (angle l) e z = let y : _≡_ {A = ℕ} 12 8 = z in omega arith
   within h (statement l) e z = let y : _≡_ {A = ℕ} 13 8 = z in omega arith
   within h early e z = let y : _≡_ {A = ℕ} 13 8 = z in omega arith
+  within h unversioned e z = let y : _≡_ {A = ℕ} 14 8 = z in omega arith
 
   pub drawing-never-8 : numberOf (judgedReading t mostGateLines) ≢ 8
   unfolding judgedReading
@@ -53,15 +57,20 @@ module _ (t : List ℕ) where
 
 -- ---- what is printed: there is something of it, and it is no `x` line with number 8 or 9
 
-circuit-printable : (n : ℕ) (couplers gates : List ℕ) → Printable (laidCircuit n couplers gates)
-unfolding laidCircuit circuitText headText filled
-circuit-printable n couplers gates =
-    either-printable (judgedStretches n couplers gates) _ (λ z. letter-printable 79 _ (λ e. omega (arith, e))) (refused-printable n couplers gates)
+text-printable : (v : Version) (n : ℕ) (gates : List ℕ) (g : ℕ) → Printable (circuitText v n gates g)
+unfolding circuitText headText filled
+text-printable Two n gates g = letter-printable 79 _ (λ e. omega (arith, e))
+text-printable Three n gates g = letter-printable 79 _ (λ e. omega (arith, e))
+
+circuit-printable : (c : Circuit) (couplers gates : List ℕ) → Printable (laidCircuit c couplers gates)
+unfolding laidCircuit
+circuit-printable c couplers gates =
+    either-printable (judgedStretches (c .qubits) couplers gates) _ (λ z. text-printable (c .version) (c .qubits) _ _) (refused-printable (c .qubits) couplers gates)
 
 pub drawing-printable : (couplers t : List ℕ) → Printable (laidDrawing couplers t)
 unfolding laidDrawing
 drawing-printable couplers t =
-    either-printable (judgedReading t mostGateLines) _ (λ z. circuit-printable (jobIn (parsed t) .qubits) couplers (gatesIn (parsed t)))
+    either-printable (judgedReading t mostGateLines) _ (λ z. circuit-printable (circuitIn (parsed t)) couplers (gatesIn (parsed t)))
     (refusal-printable (judgedReading t mostGateLines) (drawing-never-8 t))
 
 pub texts-printable : (s t : List ℕ) → Printable (laidTexts s t)

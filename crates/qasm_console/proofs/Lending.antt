@@ -8,41 +8,44 @@ use lib.ListN.{length, take}
 use lib.Seq.{length-take-le}
 use borrow.Author.Tests.{eq-eqb}
 use Rattle.sets.specs.Pick.{pick}
-use Rattle.gates.specs.declared.job.Job.{Job}
 use Rattle.verdicts.specs.Verdicts.{numberOf}
-use Rattle.reading.specs.Readings.{couplersIn, listAfter}
+use Rattle.reading.specs.Readings as reading
+use Rattle.reading.specs.Readings.{couplersIn}
 use Rattle.reading.specs.Listing.{parsedCouplers, judgedCouplersText, couplersReading}
-use Rattle.reading.specs.declared.read.Reading.{Reading}
-use Rattle.reading.specs.declared.read.Reading.the-variants.{Read, Refused}
+use Rattle.reading.specs.declared.read.Reading as listings
+use Rattle.reading.specs.declared.read.Reading.the-variants as answers
 use Rattle.reading.proofs.Said.{listed-says, unlisted-says}
+use Rattle.qasm_reading.specs.declared.read.Reading.{Reading}
+use Rattle.qasm_reading.specs.declared.read.Reading.the-variants.{Read, Refused}
 use Rattle.qasm_reading.specs.Parsing.{parsed}
-use Rattle.qasm_reading.specs.Readings.{gatesIn, readingOf}
+use Rattle.qasm_reading.specs.Readings.{gatesIn, readingOf, listAfter}
+use Rattle.qasm_reading.proofs.Said.{read-says, refused-says}
 use Rattle.console.specs.Printed.{mostCouplerLines, mostGateLines}
-use Rattle.console.specs.declared.printing.Begun.{Begun}
 use Rattle.console.proofs.Fronts.{front-fits}
-use Rattle.qasm_console.specs.Parts.{drawnJob, gatesAfter, BeginsCircuit, Begins}
-use Rattle.qasm_console.proofs.Reading.{read-says, refused-says}
+use Rattle.qasm_console.specs.declared.printing.Begun.{Begun}
+use Rattle.qasm_console.specs.Parts.{Handed, handedCircuit, handedDrawing, handedIn, gatesAfter, BeginsCircuit, Begins}
 use Rattle.qasm_console.proofs.Beginning.{drawn-read, drawn-unread, texts-read, texts-unread}
 
--- ---- of a circuit: j is handed on
+-- ---- of a circuit: h is handed on
 
-module _ (xs t gates gates′ : List ℕ) (j : Job) (e : j ≡ drawnJob xs t) (g : gates′ ≡ gatesAfter t gates) where
-  drawn-fits : (j .couplers ≤ length xs) × (j .gates ≤ length gates′)
+module _ (xs t gates gates′ : List ℕ) (h : Handed) (e : h ≡ handedDrawing xs t) (g : gates′ ≡ gatesAfter t gates) where
+  drawn-fits : (h .job .couplers ≤ length xs) × (h .job .gates ≤ length gates′)
+  unfolding handedCircuit
   drawn-fits = go (readingOf t mostGateLines) refl
     where
-      go : (r : Reading) → readingOf t mostGateLines ≡ r → (j .couplers ≤ length xs) × (j .gates ≤ length gates′)
-      go (Read i) d =
-          let q = e ∙ drawn-read xs t (read-says t i d .0) .0 in (
-            omega (arith, ap (λ (i : Job). i .couplers) q),
-            front-fits (gatesIn (parsed t)) gates gates′ (j .gates) (ap (λ (i : Job). i .gates) q) (g ∙ ap (λ (x : Reading). listAfter x (gatesIn (parsed t)) gates) d),
+      go : (a : Reading) → readingOf t mostGateLines ≡ a → (h .job .couplers ≤ length xs) × (h .job .gates ≤ length gates′)
+      go (Read c) d =
+          let q = e ∙ drawn-read xs t (read-says t mostGateLines c d .0) in (
+            omega (arith, ap (λ (i : Handed). i .job .couplers) q),
+            front-fits (gatesIn (parsed t)) gates gates′ (h .job .gates) (ap (λ (i : Handed). i .job .gates) q) (g ∙ ap (λ (x : Reading). listAfter x (gatesIn (parsed t)) gates) d),
           )
       go (Refused v) d =
-          let q = e ∙ drawn-unread xs t (refused-says t v d .0) .0 in
-          (omega (arith, ap (λ (i : Job). i .couplers) q), omega (arith, ap (λ (i : Job). i .gates) q))
+          let q = e ∙ drawn-unread xs t (refused-says t mostGateLines v d .0) in
+          (omega (arith, ap (λ (i : Handed). i .job .couplers) q), omega (arith, ap (λ (i : Handed). i .job .gates) q))
 
 module _ {xs t gates out gates′ out′ : List ℕ} {r : Begun} (b : BeginsCircuit xs t gates out r gates′ out′) where
   pub drawing-lent : r .job .gates ≤ length gates′
-  drawing-lent = drawn-fits xs t gates gates′ (r .job) (b .job) (b .gates-read) .1
+  drawing-lent = drawn-fits xs t gates gates′ (handedIn r) (b .handed) (b .gates-read) .1
 
   pub drawing-whole : r .job .gates ≡ length (take (r .job .gates) gates′)
   drawing-whole = sym (length-take-le (r .job .gates) gates′ drawing-lent)
@@ -53,16 +56,16 @@ module _ {s t couplers gates out couplers′ gates′ out′ : List ℕ} {r : Be
   counted : (r .job .couplers ≤ length couplers′) × (r .job .gates ≤ length gates′)
   counted = go (couplersReading s mostCouplerLines) refl
     where
-      go : (a : Reading) → couplersReading s mostCouplerLines ≡ a → (r .job .couplers ≤ length couplers′) × (r .job .gates ≤ length gates′)
-      go (Read i) d =
+      go : (a : listings.Reading) → couplersReading s mostCouplerLines ≡ a → (r .job .couplers ≤ length couplers′) × (r .job .gates ≤ length gates′)
+      go (answers.Read i) d =
           let z = listed-says s mostCouplerLines i d .0 in
           let g : gates′ ≡ gatesAfter t gates = b .gates-read ∙ ap (λ (u : Bool). pick u (gatesAfter t gates) gates) (eq-eqb (numberOf (judgedCouplersText s mostCouplerLines)) 0 z) in
-          let f = drawn-fits (couplersIn (parsedCouplers s)) t gates gates′ (r .job) (b .job ∙ texts-read s t z .0) g in
-          let l = front-fits (couplersIn (parsedCouplers s)) couplers couplers′ (length (couplersIn (parsedCouplers s))) refl (b .couplers-read ∙ ap (λ (x : Reading). listAfter x (couplersIn (parsedCouplers s)) couplers) d) in
+          let f = drawn-fits (couplersIn (parsedCouplers s)) t gates gates′ (handedIn r) (b .handed ∙ texts-read s t z) g in
+          let l = front-fits (couplersIn (parsedCouplers s)) couplers couplers′ (length (couplersIn (parsedCouplers s))) refl (b .couplers-read ∙ ap (λ (x : listings.Reading). reading.listAfter x (couplersIn (parsedCouplers s)) couplers) d) in
           (omega (arith, f .0, l), f .1)
-      go (Refused v) d =
-          let q = b .job ∙ texts-unread s t (unlisted-says s mostCouplerLines v d .0) .0 in
-          (omega (arith, ap (λ (i : Job). i .couplers) q), omega (arith, ap (λ (i : Job). i .gates) q))
+      go (answers.Refused v) d =
+          let q = b .handed ∙ texts-unread s t (unlisted-says s mostCouplerLines v d .0) in
+          (omega (arith, ap (λ (i : Handed). i .job .couplers) q), omega (arith, ap (λ (i : Handed). i .job .gates) q))
 
   pub couplers-lent : r .job .couplers ≤ length couplers′
   couplers-lent = counted .0

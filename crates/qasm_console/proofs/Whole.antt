@@ -1,4 +1,4 @@
--- What is printed at a time goes into the memory that is lent, whole: a refusal's line, and the front of every circuit that passes its tests. Assumes nothing.
+-- What is printed at a time goes into the memory that is lent, whole: a refusal's line, the front of every circuit that passes its tests, and a common phase. Assumes nothing.
 use mathlib.Core.Path.{_≡_, ap, ap₂, subst, _∙_}
 use mathlib.Core.Bool.{Bool, true}
 use mathlib.Core.List.{List}
@@ -16,8 +16,9 @@ use Rattle.stretches.proofs.Passing.{job-passed}
 use Rattle.lines.specs.Lines.{refusalText}
 use Rattle.lines.specs.Lent.{onto, lineLength, lineAfter}
 use Rattle.lines.proofs.Writes.{Lined, lined-front}
-use Rattle.qasm_lines.specs.Spelling.{headText}
-use Rattle.qasm_lines.proofs.Sizes.{head-most}
+use Rattle.versions.specs.declared.Version.{Version}
+use Rattle.qasm_lines.specs.Spelling.{headText, phaseText}
+use Rattle.qasm_lines.proofs.Sizes.{head-most, phase-most}
 use Rattle.console.specs.Printed.{refusalOf}
 use Rattle.console.proofs.Whole.{refusal-fits}
 use Rattle.qasm_console.specs.Printed.{mostShown, Prints}
@@ -37,6 +38,10 @@ module _ (out out′ : List ℕ) (r : ℕ) (lent : length out ≡ mostShown) whe
       (subst (λ (s : List ℕ). (r ≡ lineLength s (length out)) × (out′ ≡ lineAfter s out)) (ap₂ refusalText e d) q)
 
   -- a circuit that passed tests 1 to 7
-  pub head-whole : (n : ℕ) (xs ys : List ℕ) → numberOf (judgedStretches n xs ys) ≡ 0 → Lined out 0 (headText n) out′ r → Prints (headText n) out r out′
+  pub head-whole : (v : Version) (n : ℕ) (xs ys : List ℕ) → numberOf (judgedStretches n xs ys) ≡ 0 → Lined out 0 (headText v n) out′ r → Prints (headText v n) out r out′
   unfolding boundOf
-  head-whole n xs ys z p = text-whole (headText n) (omega (arith, head-most n (omega (arith, job-passed n xs ys z .few)))) (lined-front out (headText n) p)
+  head-whole v n xs ys z p = text-whole (headText v n) (omega (arith, head-most v n (omega (arith, job-passed n xs ys z .few)))) (lined-front out (headText v n) p)
+
+  pub phase-whole : (v : Version) (g : ℕ) → Lined out 0 (phaseText v g) out′ r → Prints (phaseText v g) out r out′
+  unfolding boundOf
+  phase-whole v g p = text-whole (phaseText v g) (omega (arith, phase-most v g)) (lined-front out (phaseText v g) p)

@@ -1,17 +1,19 @@
--- What the program `qasm` prints for a couplers' text and a circuit's, and the memory that it lends (request E1).
+-- What the program `qasm` prints for a couplers' text and a circuit's, and the memory that it lends (requests E1 and E5).
 use mathlib.Core.Path.{_≡_}
 use mathlib.Core.List.{List}
 use Prim.Native.Nat.{ℕ, _+_, _*_}
 use lib.ListN.{length}
 use Rattle.tallies.specs.Tally.{largest}
 use Rattle.stretches.specs.Tests.{judgedStretches}
-use Rattle.stretches.specs.Laid.{jobRecords}
+use Rattle.circuit.specs.Phase.{phases}
+use Rattle.stretches.specs.Laid.{jobRecords, jobPhase}
 use Rattle.lines.specs.Lent.{onto}
 use Rattle.reading.specs.Readings.{couplersIn}
 use Rattle.reading.specs.Listing.{parsedCouplers, judgedCouplersText}
 use Rattle.qasm_lines.specs.Spelling.{circuitText}
 use Rattle.qasm_reading.specs.Parsing.{parsed}
-use Rattle.qasm_reading.specs.Readings.{gatesIn, jobIn, judgedReading}
+use Rattle.qasm_reading.specs.declared.read.Circuit.{Circuit}
+use Rattle.qasm_reading.specs.Readings.{gatesIn, circuitIn, judgedReading}
 use Rattle.console.specs.Printed.{mostCouplerLines, mostGateLines, unless}
 
 -- ---- what is lent
@@ -28,13 +30,18 @@ pub record Prints (s out : List ℕ) (r : ℕ) (out′ : List ℕ) : Type 0 wher
 
 -- ---- what is printed
 
--- a circuit of n qubits, laid on these couplers: the same tests 1 to 7 as a job's
-unfoldable pub laidCircuit : ℕ → List ℕ → List ℕ → List ℕ
-laidCircuit n couplers gates = unless (judgedStretches n couplers gates) (circuitText n (jobRecords n couplers gates))
+-- "the whole common phase": the one that was read, g, and the one that laying returns
+unfoldable pub wholePhase : ℕ → List ℕ → ℕ → ℕ
+wholePhase n gates g = phases g (jobPhase n gates)
+
+-- a circuit that was read, laid on these couplers: the same tests 1 to 7 as a job's. "The output has the version of the input"
+unfoldable pub laidCircuit : Circuit → List ℕ → List ℕ → List ℕ
+laidCircuit c couplers gates =
+    unless (judgedStretches (c .qubits) couplers gates) (circuitText (c .version) (c .qubits) (jobRecords (c .qubits) couplers gates) (wholePhase (c .qubits) gates (c .phase)))
 
 -- the text t of a circuit
 unfoldable pub laidDrawing : List ℕ → List ℕ → List ℕ
-laidDrawing couplers t = unless (judgedReading t mostGateLines) (laidCircuit (jobIn (parsed t) .qubits) couplers (gatesIn (parsed t)))
+laidDrawing couplers t = unless (judgedReading t mostGateLines) (laidCircuit (circuitIn (parsed t)) couplers (gatesIn (parsed t)))
 
 -- the couplers' text s is read first: its 11 and 10 come before everything that is said of the circuit
 unfoldable pub laidTexts : List ℕ → List ℕ → List ℕ

@@ -1,11 +1,10 @@
-// The program: a front, then a part for each stretch, each printed into the same memory. The whole text is never held.
+// The program: a front, then a part for each stretch, and last the common phase, each printed into the same memory. The whole text is never held.
 use crate::OUTPUT;
 use crate::refusal;
 use console::COUPLER_LINES;
 use console::GATE_LINES;
 use console::INPUT;
 use console::printing;
-use console::printing::Begun;
 use console::printing::Part;
 use console::refusing;
 use gates::job::Job;
@@ -13,12 +12,16 @@ use laying::lay;
 use laying::lay::Answer;
 use qasm_lines::put;
 use qasm_reading::read;
+use qasm_reading::read::Circuit;
+use qasm_reading::read::Reading;
 use reading::couplers;
-use reading::read::Reading;
+use reading::read::Reading as Listing;
 use stretches::cut;
 use stretches::judge;
 use tallies::tally;
 use verdicts::verdict;
+use verdicts::verdict::Verdict;
+use versions::Version;
 ghost use mathlib.Core.Path.{_≡_};
 ghost use mathlib.Core.List.{_++_};
 ghost use Prim.Native.Nat.{_+_, _≤_};
@@ -28,16 +31,19 @@ ghost use Rattle.judging.specs.Tests.{verdictOf};
 ghost use Rattle.laying.specs.Verdict.{answered, phaseIn};
 ghost use Rattle.stretches.specs.Laid.{stretchRecords};
 ghost use Rattle.reading.specs.Limits.{mostBytes};
-ghost use Rattle.qasm_lines.specs.Spelling.{gatesText};
-ghost use Rattle.console.specs.Printed.{mostGateLines, unless};
-ghost use Rattle.console.specs.Parts.{firstPart, nextPart, sharePart};
+ghost use Rattle.qasm_lines.specs.Spelling.{gatesText, phaseText};
+ghost use Rattle.console.specs.Printed.{mostGateLines, refusalOf, unless};
+ghost use Rattle.console.specs.Parts.{nextPart, sharePart};
 ghost use Rattle.qasm_console.specs.Printed.{Prints};
-ghost use Rattle.qasm_console.specs.Parts.{headCircuit, BeginsCircuit, Begins, partText};
+ghost use Rattle.qasm_console.specs.Parts.{headCircuit, nothingHanded, handedCircuit, handedIn, BeginsCircuit, Begins, partText};
 
-// The front of a circuit, and where its first part begins.
-struct Front {
-    bytes: usize,
-    from: usize,
+// A front that was printed, and what comes behind it: the circuit, whose first part begins at `from`, and the common phase that was read.
+pub struct Begun {
+    pub version: Version,
+    pub job: Job,
+    pub bytes: usize,
+    pub from: usize,
+    pub phase: u32,
 }
 
 // What is printed for a stretch, and its common phase.
@@ -46,21 +52,51 @@ struct Printed {
     phase: u32,
 }
 
-// The whole circuit judged, and the statements before its gates.
-fn begin_gates(n: usize, couplers: &[u32], gates: &[u32], out: &mut [u8; OUTPUT]) -> Front
-    requires { ⌜ length (now gates) ≤ mostGateLines ⌝ }
-    ensures { λ r. ⌜ Prints (headCircuit n (now (couplers .entry)) (now (gates .entry))) (now (out .entry)) (r .bytes) (now (out .exit)) × (r .from ≡ firstPart n (now (couplers .entry)) (now (gates .entry))) ⌝ }
+// Of a refused text nothing is handed on.
+fn refuse(verdict: Verdict, out: &mut [u8; OUTPUT]) -> Begun
+    ensures { λ r. ⌜ Prints (refusalOf verdict) (now (out .entry)) (r .bytes) (now (out .exit)) × (handedIn r ≡ nothingHanded) ⌝ }
 {
+    Begun {
+        version: Version::Two,
+        job: Job {
+            qubits: 0,
+            couplers: 0,
+            gates: 0,
+        },
+        bytes: refusal::print_refusal(verdict, out),
+        from: 1,
+        phase: 0,
+    }
+}
+
+// The whole circuit judged, and the statements before its gates.
+fn begin_gates(circuit: Circuit, couplers: &[u32], gates: &[u32], out: &mut [u8; OUTPUT]) -> Begun
+    requires { ⌜ length (now gates) ≤ mostGateLines ⌝ }
+    ensures { λ r. ⌜ Prints (headCircuit circuit (now (couplers .entry)) (now (gates .entry))) (now (out .entry)) (r .bytes) (now (out .exit)) × (handedIn r ≡ handedCircuit circuit (now (couplers .entry)) (now (gates .entry))) ⌝ }
+{
+    let version = circuit.version;
+    let n = circuit.qubits;
+    let job = Job {
+        qubits: n,
+        couplers: couplers.len(),
+        gates: gates.len(),
+    };
     let verdict = judge::judge(n, couplers, gates);
     if verdict::number(verdict) != 0 {
-        return Front {
+        return Begun {
+            version,
+            job,
             bytes: refusal::print_refusal(verdict, out),
             from: gates.len() + 1,
+            phase: 0,
         };
     }
-    Front {
-        bytes: put::put_head(out, n),
+    Begun {
+        version,
+        job,
+        bytes: put::put_head(out, version, n),
         from: 0,
+        phase: circuit.phase,
     }
 }
 
@@ -74,28 +110,11 @@ fn begin_drawing(
     ensures { λ r. ⌜ BeginsCircuit (now (couplers .entry)) (now (text .entry)) (now (gates .entry)) (now (out .entry)) r (now (gates .exit)) (now (out .exit)) ⌝ }
 {
     match read::read(text, &mut *gates) {
-        Reading::Read { job } => {
-            let g = job.gates;
-            let front = begin_gates(job.qubits, couplers, printing::first(gates, g), out);
-            Begun {
-                job: Job {
-                    qubits: job.qubits,
-                    couplers: couplers.len(),
-                    gates: g,
-                },
-                bytes: front.bytes,
-                from: front.from,
-            }
+        Reading::Read { circuit } => {
+            let g = circuit.gates;
+            begin_gates(circuit, couplers, printing::first(gates, g), out)
         }
-        Reading::Refused { verdict } => Begun {
-            job: Job {
-                qubits: 0,
-                couplers: 0,
-                gates: 0,
-            },
-            bytes: refusal::print_refusal(verdict, out),
-            from: 1,
-        },
+        Reading::Refused { verdict } => refuse(verdict, out),
     }
 }
 
@@ -128,32 +147,25 @@ pub fn begin(
 {
     let text = refusing::front(input, len);
     match couplers::read_couplers(refusing::front(listing, listed), &mut *couplers) {
-        Reading::Read { job } => {
+        Listing::Read { job } => {
             let c = job.couplers;
             begin_drawing(printing::first(couplers, c), text, gates, out)
         }
-        Reading::Refused { verdict } => Begun {
-            job: Job {
-                qubits: 0,
-                couplers: 0,
-                gates: 0,
-            },
-            bytes: refusal::print_refusal(verdict, out),
-            from: 1,
-        },
+        Listing::Refused { verdict } => refuse(verdict, out),
     }
 }
 
 // A stretch laid, and the Hadamard behind it.
 fn print_part(
+    version: Version,
     n: usize,
     couplers: &[u32],
     stretch: &[u32],
     hadamard: &[u32],
     out: &mut [u8; OUTPUT],
 ) -> Printed
-    requires { ⌜ length (gatesText (now hadamard)) ≤ 26 ⌝ }
-    ensures { λ r. ⌜ Prints (unless (verdictOf n (now (couplers .entry)) (now (stretch .entry)) largest) (gatesText (stretchRecords n (now (couplers .entry)) (now (stretch .entry)) ++ now (hadamard .entry)))) (now (out .entry)) (r .bytes) (now (out .exit)) × (r .phase ≡ phaseIn (answered n (now (couplers .entry)) (now (stretch .entry)) largest)) ⌝ }
+    requires { ⌜ length (gatesText version (now hadamard)) ≤ 26 ⌝ }
+    ensures { λ r. ⌜ Prints (unless (verdictOf n (now (couplers .entry)) (now (stretch .entry)) largest) (gatesText version (stretchRecords n (now (couplers .entry)) (now (stretch .entry)) ++ now (hadamard .entry)))) (now (out .entry)) (r .bytes) (now (out .exit)) × (r .phase ≡ phaseIn (answered n (now (couplers .entry)) (now (stretch .entry)) largest)) ⌝ }
 {
     let mut laid = [0u32; tally::LARGEST];
     match lay::lay(n, couplers, stretch, &mut laid) {
@@ -164,8 +176,8 @@ fn print_part(
             depth: _,
             phase,
         } => {
-            let at = put::put_gates(&mut *out, 0, &laid[..records]);
-            let bytes = put::put_gates(out, at, hadamard);
+            let at = put::put_gates(&mut *out, 0, version, &laid[..records]);
+            let bytes = put::put_gates(out, at, version, hadamard);
             Printed { bytes, phase }
         }
         Answer::Refused { verdict } => Printed {
@@ -177,26 +189,41 @@ fn print_part(
 
 // Prints the part of the stretch that begins at `from`; nothing above the number of gates.
 pub fn lay_part(
+    version: Version,
     n: usize,
     couplers: &[u32],
     gates: &[u32],
     from: usize,
     out: &mut [u8; OUTPUT],
 ) -> Part
-    ensures { λ r. ⌜ Prints (partText n (now (couplers .entry)) (now (gates .entry)) from) (now (out .entry)) (r .bytes) (now (out .exit)) × (r .next ≡ nextPart n (now (gates .entry)) from) × (r .phase ≡ sharePart n (now (couplers .entry)) (now (gates .entry)) from) ⌝ }
+    ensures { λ r. ⌜ Prints (partText version n (now (couplers .entry)) (now (gates .entry)) from) (now (out .entry)) (r .bytes) (now (out .exit)) × (r .next ≡ nextPart n (now (gates .entry)) from) × (r .phase ≡ sharePart n (now (couplers .entry)) (now (gates .entry)) from) ⌝ }
 {
     if gates.len() < from {
         return Part {
-            bytes: put::put_gates(out, 0, &gates[..0]),
+            bytes: put::put_gates(out, 0, version, &gates[..0]),
             next: from,
             phase: 0,
         };
     }
     let stretch = cut::stretch_at(n, gates, from);
-    let printed = print_part(n, couplers, stretch, cut::hadamard_at(n, gates, from), out);
+    let printed = print_part(
+        version,
+        n,
+        couplers,
+        stretch,
+        cut::hadamard_at(n, gates, from),
+        out,
+    );
     Part {
         bytes: printed.bytes,
         next: from + stretch.len() + 1,
         phase: printed.phase,
     }
+}
+
+// Prints the whole common phase, behind the last part; nothing where it is 0.
+pub fn end(version: Version, phase: u32, out: &mut [u8; OUTPUT]) -> usize
+    ensures { λ r. ⌜ Prints (phaseText version phase) (now (out .entry)) r (now (out .exit)) ⌝ }
+{
+    put::put_phase(out, 0, version, phase)
 }

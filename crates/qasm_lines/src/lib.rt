@@ -1,4 +1,4 @@
-// The lines of a circuit in OpenQASM 2.0, written one by one where there is room.
+// The lines of a circuit in OpenQASM 2.0 or 3.0, written one by one where there is room.
 pub mod put;
 pub mod room;
 mod spelling;

@@ -2,36 +2,51 @@
 use crate::spelling;
 use lines::pattern;
 use lines::room::Room;
+use versions::Version;
 ghost use mathlib.Core.Path.{_≡_};
 ghost use lib.ListN.{length};
 ghost use Rattle.lines.specs.Room.{roomAfter};
-ghost use Rattle.qasm_lines.specs.Spelling.{gateText, gatesText, headText};
+ghost use Rattle.qasm_lines.specs.Spelling.{gateText, gatesText, headText, phaseText};
 
-pub fn after_head(room: Room, n: usize) -> Room
-    ensures { λ r. ⌜ r ≡ roomAfter room (length (headText n)) ⌝ }
+pub fn after_head(room: Room, version: Version, n: usize) -> Room
+    ensures { λ r. ⌜ r ≡ roomAfter room (length (headText version n)) ⌝ }
 {
-    let head = spelling::head_pattern();
+    let head = spelling::head_pattern(version);
+    let bytes = spelling::head_length(version);
     let numbers = [n];
-    pattern::after_pattern(room, &head, &numbers)
+    pattern::after_pattern(room, &head[..bytes], &numbers)
 }
 
-fn after_gate(room: Room, x: u32) -> Room
-    ensures { λ r. ⌜ r ≡ roomAfter room (length (gateText x)) ⌝ }
+fn after_gate(room: Room, version: Version, x: u32) -> Room
+    ensures { λ r. ⌜ r ≡ roomAfter room (length (gateText version x)) ⌝ }
 {
-    let line = spelling::pattern_of(x / 16777216);
-    let bytes = spelling::length_of(x / 16777216);
+    let line = spelling::pattern_of(version, x / 16777216);
+    let bytes = spelling::length_of(version, x / 16777216);
     let numbers = spelling::numbers_of(x);
     pattern::after_pattern(room, &line[..bytes], &numbers)
 }
 
-pub fn after_gates(room: Room, gates: &[u32]) -> Room
-    ensures { λ r. ⌜ r ≡ roomAfter room (length (gatesText (now (gates .entry)))) ⌝ }
+pub fn after_gates(room: Room, version: Version, gates: &[u32]) -> Room
+    ensures { λ r. ⌜ r ≡ roomAfter room (length (gatesText version (now (gates .entry)))) ⌝ }
 {
     let mut left = room;
     let mut i: usize = 0;
     while i < gates.len() {
-        left = after_gate(left, gates[i]);
+        left = after_gate(left, version, gates[i]);
         i += 1;
     }
     left
+}
+
+pub fn after_phase(room: Room, version: Version, phase: u32) -> Room
+    ensures { λ r. ⌜ r ≡ roomAfter room (length (phaseText version phase)) ⌝ }
+{
+    let g = phase % 131072;
+    if g == 0 {
+        return room;
+    }
+    let line = spelling::phase_pattern(version);
+    let bytes = spelling::phase_length(version);
+    let numbers = [g as usize];
+    pattern::after_pattern(room, &line[..bytes], &numbers)
 }

@@ -1,17 +1,21 @@
-// How the statements are spelt: each line as a pattern, and the numbers that stand in it.
+// How the statements are spelt: each line as a pattern, and the numbers that stand in it. A pattern is filled up with blanks to the length of the longest of its
+// kind; the blanks are never written.
+use versions::Version;
 ghost use mathlib.Core.Path.{_≡_};
 ghost use lib.ListN.{length, take};
-ghost use Rattle.qasm_lines.specs.Spelling.{pattern, numbersIn, headPattern};
+ghost use Rattle.qasm_lines.specs.Spelling.{pattern, numbersIn, headPattern, phasePattern};
 
-// Filled up with blanks to the length of the longest. The blanks are never written.
-pub(crate) fn pattern_of(kind: u32) -> [u8; 21]
-    ensures { λ r. ⌜ take (length (pattern kind)) r ≡ pattern kind ⌝ }
+pub(crate) fn pattern_of(version: Version, kind: u32) -> [u8; 21]
+    ensures { λ r. ⌜ take (length (pattern version kind)) r ≡ pattern version kind ⌝ }
 {
     if kind == 1 {
         return *b"cx q[#],q[#];\n       ";
     }
     if kind == 2 {
-        return *b"u1(#*pi/32768) q[#];\n";
+        return match version {
+            Version::Two => *b"u1(#*pi/32768) q[#];\n",
+            Version::Three => *b"p(#*pi/32768) q[#];\n ",
+        };
     }
     if kind == 3 {
         return *b"x q[#];\n             ";
@@ -19,14 +23,17 @@ pub(crate) fn pattern_of(kind: u32) -> [u8; 21]
     *b"h q[#];\n             "
 }
 
-pub(crate) fn length_of(kind: u32) -> usize
-    ensures { λ r. ⌜ r ≡ length (pattern kind) ⌝ }
+pub(crate) fn length_of(version: Version, kind: u32) -> usize
+    ensures { λ r. ⌜ r ≡ length (pattern version kind) ⌝ }
 {
     if kind == 1 {
         return 14;
     }
     if kind == 2 {
-        return 21;
+        return match version {
+            Version::Two => 21,
+            Version::Three => 20,
+        };
     }
     8
 }
@@ -43,8 +50,38 @@ pub(crate) fn numbers_of(x: u32) -> [usize; 2]
     [a, b]
 }
 
-pub(crate) fn head_pattern() -> [u8; 47]
-    ensures { λ r. ⌜ r ≡ headPattern ⌝ }
+pub(crate) fn head_pattern(version: Version) -> [u8; 50]
+    ensures { λ r. ⌜ take (length (headPattern version)) r ≡ headPattern version ⌝ }
 {
-    *b"OPENQASM 2.0;\ninclude \"qelib1.inc\";\nqreg q[#];\n"
+    match version {
+        Version::Two => *b"OPENQASM 2.0;\ninclude \"qelib1.inc\";\nqreg q[#];\n   ",
+        Version::Three => *b"OPENQASM 3.0;\ninclude \"stdgates.inc\";\nqubit[#] q;\n",
+    }
+}
+
+pub(crate) fn head_length(version: Version) -> usize
+    ensures { λ r. ⌜ r ≡ length (headPattern version) ⌝ }
+{
+    match version {
+        Version::Two => 47,
+        Version::Three => 50,
+    }
+}
+
+pub(crate) fn phase_pattern(version: Version) -> [u8; 27]
+    ensures { λ r. ⌜ take (length (phasePattern version)) r ≡ phasePattern version ⌝ }
+{
+    match version {
+        Version::Two => *b"// common phase #*pi/65536\n",
+        Version::Three => *b"gphase(#*pi/65536);\n       ",
+    }
+}
+
+pub(crate) fn phase_length(version: Version) -> usize
+    ensures { λ r. ⌜ r ≡ length (phasePattern version) ⌝ }
+{
+    match version {
+        Version::Two => 27,
+        Version::Three => 20,
+    }
 }

@@ -1,5 +1,5 @@
 -- Reading's answer from the steps that lead to it. Assumes nothing.
-use mathlib.Core.Path.{_≡_, refl, sym, ap, _∙_}
+use mathlib.Core.Path.{_≡_, refl, sym, ap, ap₂, _∙_}
 use mathlib.Core.Bool.{Bool, true, false}
 use mathlib.Core.List.{List, [], _∷_}
 use mathlib.Core.Option.{Option, none, some}
@@ -13,15 +13,16 @@ use Rattle.verdicts.specs.declared.verdict.Verdict.the-variants.{Accepted, Room
 use Rattle.verdicts.specs.Verdicts.{numberOf}
 use Rattle.verdicts.specs.InOrder.{andThen}
 use Rattle.reading.specs.Limits.{mostBytes}
-use Rattle.reading.specs.Readings.{listAfter}
-use Rattle.reading.specs.declared.read.Reading.{Reading}
-use Rattle.reading.specs.declared.read.Reading.the-variants.{Read, Refused}
 use Rattle.words.specs.Bytes.{lineBehind}
 use Rattle.words.specs.Words.{Word}
 use Rattle.words.specs.Taking.{Got}
+use Rattle.versions.specs.declared.Version.{Version}
+use Rattle.versions.specs.declared.Version.the-variants.{Two, Three}
 use Rattle.statements.specs.Statements.{versionOf, includeOf, nameOf, registerOf, hasEnd, badAngle}
-use Rattle.qasm_reading.specs.Parsing.{Parsed, circuit, angle, statement, early, leftOf, headFault, endOf, registered, included, versioned, parsedWords, parsed}
-use Rattle.qasm_reading.specs.Readings.{jobIn, lineAt, judgedStatements, judgedList, judgedReading, readingOf, answerOf, lineOf}
+use Rattle.qasm_reading.specs.Parsing.{Parsed, circuit, angle, statement, early, unversioned, leftOf, headFault, endOf, registered, included, versioned, parsedWords, parsed}
+use Rattle.qasm_reading.specs.declared.read.Reading.{Reading}
+use Rattle.qasm_reading.specs.declared.read.Reading.the-variants.{Read, Refused}
+use Rattle.qasm_reading.specs.Readings.{circuitIn, listAfter, lineAt, judgedStatements, judgedList, judgedReading, readingOf, answerOf, lineOf}
 
 -- ---- the line of a word
 
@@ -34,7 +35,7 @@ line-word s start b ws ts h e q =
 pub line-end : (s : List ℕ) (ws : List Word) → ws ≡ [] → 0 ≡ lineOf s ws
 line-end s ws e = rw e
 
--- ---- the first three statements
+-- ---- the include line and the register
 
 module _ (s : List ℕ) (ws : List Word) where
   pub head-has : {p : ℕ} → hasEnd ws ≡ true → p ≡ lineOf s ws → Refused (Statement p) ≡ answerOf s 0 (headFault ws)
@@ -67,37 +68,37 @@ module _ (s : List ℕ) (ws : List Word) where
 
 -- ---- behind the register
 
-module _ (s : List ℕ) (room : ℕ) (name : List ℕ) (n : ℕ) (gs : List ℕ) (l : List Word) {p : ℕ} (q : p ≡ lineOf s l) where
-  pub end-angle : 0 < p → badAngle name (some l) ≡ true → Refused (Angle p) ≡ answerOf s room (endOf name n gs l)
+module _ (s : List ℕ) (room : ℕ) (v : Version) (name : List ℕ) (n : ℕ) (gs : List ℕ) (h : ℕ) (l : List Word) {p : ℕ} (q : p ≡ lineOf s l) where
+  pub end-angle : 0 < p → badAngle v name (some l) ≡ true → Refused (Angle p) ≡ answerOf s room (endOf v name n gs h l)
   unfolding endOf
-  end-angle h b = go l q b
+  end-angle i b = go l q b
     where
-      go : (l : List Word) → p ≡ lineOf s l → badAngle name (some l) ≡ true → Refused (Angle p) ≡ answerOf s room (endOf name n gs l)
+      go : (l : List Word) → p ≡ lineOf s l → badAngle v name (some l) ≡ true → Refused (Angle p) ≡ answerOf s room (endOf v name n gs h l)
       go [] q b = absurd (omega arith)
       go (w ∷ ws) q b = rw b (ap (λ k. Refused (Angle k)) q)
 
-  pub end-statement : 0 < p → badAngle name (some l) ≡ false → Refused (Statement p) ≡ answerOf s room (endOf name n gs l)
+  pub end-statement : 0 < p → badAngle v name (some l) ≡ false → Refused (Statement p) ≡ answerOf s room (endOf v name n gs h l)
   unfolding endOf
-  end-statement h b = go l q b
+  end-statement i b = go l q b
     where
-      go : (l : List Word) → p ≡ lineOf s l → badAngle name (some l) ≡ false → Refused (Statement p) ≡ answerOf s room (endOf name n gs l)
+      go : (l : List Word) → p ≡ lineOf s l → badAngle v name (some l) ≡ false → Refused (Statement p) ≡ answerOf s room (endOf v name n gs h l)
       go [] q b = absurd (omega arith)
       go (w ∷ ws) q b = rw b (ap (λ k. Refused (Statement k)) q)
 
-  pub end-done : p ≤ 0 → endOf name n gs l ≡ circuit n gs
+  pub end-done : p ≤ 0 → endOf v name n gs h l ≡ circuit v n gs h
   unfolding endOf
-  end-done h = go l q
+  end-done i = go l q
     where
-      go : (l : List Word) → p ≡ lineOf s l → endOf name n gs l ≡ circuit n gs
+      go : (l : List Word) → p ≡ lineOf s l → endOf v name n gs h l ≡ circuit v n gs h
       go [] q = refl
       go (w ∷ ws) q = absurd (omega arith)
 
-module _ (s : List ℕ) (room n : ℕ) (gs : List ℕ) where
-  pub room-short : room < length gs → Refused Room ≡ answerOf s room (circuit n gs)
+module _ (s : List ℕ) (room : ℕ) (v : Version) (n : ℕ) (gs : List ℕ) (g : ℕ) where
+  pub room-short : room < length gs → Refused Room ≡ answerOf s room (circuit v n gs g)
   room-short h = rw (lt-leb (length gs) room h)
 
-  pub room-long : {k : ℕ} → k ≡ length gs → k ≤ room → Read (record { qubits = n; couplers = 0; gates = k }) ≡ answerOf s room (circuit n gs)
-  room-long {k} e h = let j : length gs ≤ room = omega arith in rw (e, le-leb (length gs) room j)
+  pub room-long : {k p : ℕ} → k ≡ length gs → p ≡ g → k ≤ room → Read (record { version = v; qubits = n; gates = k; phase = p }) ≡ answerOf s room (circuit v n gs g)
+  room-long {k} e d h = let j : length gs ≤ room = omega arith in rw (e, d, le-leb (length gs) room j)
 
 -- ---- the whole text
 
@@ -107,38 +108,51 @@ reading-long s room h = rw (lt-leb (length s) mostBytes h)
 
 -- the answer by the tests: what was found, and whether the list is long enough
 answer-by : (s : List ℕ) (room : ℕ) (p : Parsed)
-    → pick (eqb (numberOf (andThen (judgedStatements s p) (judgedList p room))) 0) (Read (jobIn p)) (Refused (andThen (judgedStatements s p) (judgedList p room))) ≡ answerOf s room p
-answer-by s room (circuit n gs) = go (leb (length gs) room)
+    → pick (eqb (numberOf (andThen (judgedStatements s p) (judgedList p room))) 0) (Read (circuitIn p)) (Refused (andThen (judgedStatements s p) (judgedList p room))) ≡ answerOf s room p
+answer-by s room (circuit v n gs g) = go (leb (length gs) room)
   where
-    go : (t : Bool) → pick (eqb (numberOf (pick t Accepted Room)) 0) (Read (jobIn (circuit n gs))) (Refused (pick t Accepted Room)) ≡ pick t (Read (jobIn (circuit n gs))) (Refused Room)
+    go : (t : Bool) → pick (eqb (numberOf (pick t Accepted Room)) 0) (Read (circuitIn (circuit v n gs g))) (Refused (pick t Accepted Room)) ≡ pick t (Read (circuitIn (circuit v n gs g))) (Refused Room)
     go true = refl
     go false = refl
 answer-by s room (angle l) = refl
 answer-by s room (statement l) = refl
 answer-by s room early = refl
+answer-by s room unversioned = refl
 
 pub reading-is : (s : List ℕ) (room : ℕ) → length s ≤ mostBytes → readingOf s room ≡ answerOf s room (parsed s)
 unfolding readingOf judgedReading
 reading-is s room h = rw (le-leb (length s) mostBytes h) (answer-by s room (parsed s))
 
-module _ (ws : List Word) {U : Option (List Word)} (v : U ≡ versionOf (some ws)) where
-  pub parsed-first : U ≡ none → parsedWords ws ≡ headFault ws
+-- ---- what stands in front of the gates
+
+-- behind the version v
+module _ (v : Version) (t : List Word) {I : Option (List Word)} (i : I ≡ includeOf v (some t)) where
+  pub included-first : I ≡ none → included v (includeOf v (some t)) t ≡ headFault t
+  unfolding included
+  included-first h = ap (λ o. included v o t) (sym i ∙ h)
+
+  module _ (u : List Word) (h : I ≡ some u) {R : Got} (r : R ≡ registerOf v (some u)) where
+    pub included-second : R .rest ≡ none → included v (includeOf v (some t)) t ≡ headFault u
+    unfolding included registered
+    included-second k = ap (λ o. included v o t) (sym i ∙ h) ∙ ap (λ o. registered v (nameOf v (some u)) (registerOf v (some u) .value) o u) (sym (ap (λ g. g .rest) r) ∙ k)
+
+    pub included-body : (x : List Word) (name : List ℕ) → R .rest ≡ some x → name ≡ nameOf v (some u) → included v (includeOf v (some t)) t ≡ registered v name (R .value) (some x) []
+    unfolding included registered
+    included-body x name k q =
+        ap (λ o. included v o t) (sym i ∙ h) ∙ ap (λ o. registered v (nameOf v (some u)) (registerOf v (some u) .value) o u) (sym (ap (λ g. g .rest) r) ∙ k)
+        ∙ rw (q, r)
+
+-- the version
+module _ (ws : List Word) {U : Option (List Word)} (a : U ≡ versionOf Two (some ws)) where
+  pub parsed-two : (t : List Word) → U ≡ some t → parsedWords ws ≡ included Two (includeOf Two (some t)) t
   unfolding parsedWords versioned
-  parsed-first e = ap (λ o. versioned o ws) (sym v ∙ e)
+  parsed-two t e = ap (λ o. versioned o (versionOf Three (some ws))) (sym a ∙ e)
 
-  module _ (t : List Word) (e : U ≡ some t) {I : Option (List Word)} (i : I ≡ includeOf (some t)) where
-    pub parsed-second : I ≡ none → parsedWords ws ≡ headFault t
-    unfolding parsedWords versioned included
-    parsed-second h = ap (λ o. versioned o ws) (sym v ∙ e) ∙ ap (λ o. included o t) (sym i ∙ h)
+  module _ {W : Option (List Word)} (e : U ≡ none) (b : W ≡ versionOf Three (some ws)) where
+    pub parsed-three : (t : List Word) → W ≡ some t → parsedWords ws ≡ included Three (includeOf Three (some t)) t
+    unfolding parsedWords versioned
+    parsed-three t f = ap₂ versioned (sym a ∙ e) (sym b ∙ f)
 
-    module _ (u : List Word) (h : I ≡ some u) {R : Got} (r : R ≡ registerOf (some u)) where
-      pub parsed-third : R .rest ≡ none → parsedWords ws ≡ headFault u
-      unfolding parsedWords versioned included registered
-      parsed-third k =
-          ap (λ o. versioned o ws) (sym v ∙ e) ∙ ap (λ o. included o t) (sym i ∙ h) ∙ ap (λ o. registered (nameOf (some u)) (registerOf (some u) .value) o u) (sym (ap (λ g. g .rest) r) ∙ k)
-
-      pub parsed-body : (x : List Word) (name : List ℕ) → R .rest ≡ some x → name ≡ nameOf (some u) → parsedWords ws ≡ registered name (R .value) (some x) []
-      unfolding parsedWords versioned included registered
-      parsed-body x name k q =
-          ap (λ o. versioned o ws) (sym v ∙ e) ∙ ap (λ o. included o t) (sym i ∙ h) ∙ ap (λ o. registered (nameOf (some u)) (registerOf (some u) .value) o u) (sym (ap (λ g. g .rest) r) ∙ k)
-          ∙ rw (q, r)
+    pub parsed-neither : W ≡ none → parsedWords ws ≡ unversioned
+    unfolding parsedWords versioned
+    parsed-neither f = ap₂ versioned (sym a ∙ e) (sym b ∙ f)

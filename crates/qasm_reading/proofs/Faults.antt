@@ -1,32 +1,30 @@
 -- Where the first statement that cannot continue a circuit stands, there the reader stops. Assumes nothing.
-use mathlib.Core.Path.{_≡_, refl, sym, ap, _∙_}
+use mathlib.Core.Path.{_≡_, refl, sym, ap, ap₂, _∙_}
 use mathlib.Core.Logic.{_⊎_, inl, inr}
 use mathlib.Core.Bool.{Bool, true, false}
 use mathlib.Core.List.{List, [], _∷_, _++_, append-nil}
 use mathlib.Core.Option.{Option, none, some}
-use Prim.Native.Nat.{ℕ, suc, _≤_}
+use Prim.Native.Nat.{ℕ, _≤_}
 use native.Mathlib.Omega.{arith}
 use lib.ListN.{length, length-append}
 use Rattle.sets.specs.Pick.{pick}
 use Rattle.words.specs.Words.{Word, words, bodies}
+use Rattle.versions.specs.declared.Version.{Version}
+use Rattle.versions.specs.declared.Version.the-variants.{Two, Three}
 use Rattle.statements.specs.Statements.{versionOf, includeOf, nameOf, registerOf, gateOf, hasEnd, badAngle}
-use Rattle.statements.specs.Forms.{formWords, versionWords, includeWords, registerWords, Unended, recordsIn}
+use Rattle.statements.specs.Forms.{formWords, versionWords, includeWords, registerWords, Unended, recordsIn, phaseOfForms}
 use Rattle.statements.proofs.Words.{bodies-append}
 use Rattle.statements.proofs.Heads.{version-read, include-read, register-read}
 use Rattle.statements.proofs.OtherAngles.{ended-not, unended-no, bad-back, bad-forth}
-use Rattle.qasm_reading.specs.Parsing.{angle, statement, early, headFault, endOf, registered, included, versioned, parsedWords, parsed}
+use Rattle.qasm_reading.specs.Parsing.{angle, statement, early, unversioned, headFault, endOf, registered, included, versioned, parsedWords, parsed}
 use Rattle.qasm_reading.specs.Readings.{lineAt}
-use Rattle.qasm_reading.specs.Texts.{Seen, Early, nothing, versionLine, bothLines, Next, first, second, third, gate, Fault, faultLine, WrongAngle, WrongStatement, here, cut, short}
+use Rattle.qasm_reading.specs.Texts.{Unversioned, Seen, SeenAny, Early, versionLine, bothLines, Next, second, third, gate, Fault, faultLine, WrongAngle, WrongStatement, here, cut, short}
 use Rattle.qasm_reading.proofs.Runs.{form-long, gate-read}
 use Rattle.qasm_reading.proofs.Parsed.{after-version, after-include, after-seen}
 
 -- words that are spelt by st stand in front of t
 spelt-before : (ws t : List Word) {bs : List (List ℕ)} (front : List Word) → ws ≡ front ++ t → bodies front ≡ bs → bodies ws ≡ bs ++ bodies t
 spelt-before ws t front e s = ap (λ l. bodies l) e ∙ bodies-append front t ∙ ap (λ l. l ++ bodies t) s
-
-bodies-none : (ws : List Word) → bodies ws ≡ [] → ws ≡ []
-bodies-none [] e = refl
-bodies-none (w ∷ ws) e = let z : _≡_ {A = ℕ} (suc (length (bodies ws))) 0 = ap length e in absurd (omega arith)
 
 -- what is read as an option is none where it leads to nothing
 none-of : (o : Option (List Word)) → ((t : List Word) → o ≡ some t → ⊥) → o ≡ none
@@ -40,27 +38,25 @@ abbrev pub Stuck : List (List ℕ) → List Word → Type 0
 Stuck bs ws = (st rest : List (List ℕ)) → Next bs st → bodies ws ≡ st ++ rest → ⊥
 
 early-parsed : (front ws : List Word) → Early (bodies front) → Stuck (bodies front) ws → parsedWords (front ++ ws) ≡ headFault ws
-unfolding parsedWords versioned included registered
-early-parsed front ws (nothing e) stuck =
-    let o = none-of (versionOf (some ws)) (λ t q. let r = version-read ws t q in stuck versionWords (bodies t) (first e refl) (spelt-before ws t (r .words) (r .same) (r .spelt))) in
-    ap (λ l. parsedWords (l ++ ws)) (bodies-none front e) ∙ ap (λ o. versioned o ws) o
-early-parsed front ws (versionLine e) stuck =
-    let o = none-of (includeOf (some ws)) (λ t q. let r = include-read ws t q in stuck includeWords (bodies t) (second e refl) (spelt-before ws t (r .words) (r .same) (r .spelt))) in
-    after-version front ws e ∙ ap (λ o. included o ws) o
-early-parsed front ws (bothLines e) stuck =
-    let o = none-of (registerOf (some ws) .rest) (λ t q.
-    let d = register-read ws t q in
-    stuck (registerWords (nameOf (some ws)) (registerOf (some ws) .value)) (bodies t) (third (nameOf (some ws)) (registerOf (some ws) .value) e (d .named) (d .few) refl)
+unfolding included registered
+early-parsed front ws (versionLine v e) stuck =
+    let o = none-of (includeOf v (some ws)) (λ t q. let r = include-read v ws t q in stuck (includeWords v) (bodies t) (second v e refl) (spelt-before ws t (r .words) (r .same) (r .spelt))) in
+    after-version v front ws e ∙ ap (λ o. included v o ws) o
+early-parsed front ws (bothLines v e) stuck =
+    let o = none-of (registerOf v (some ws) .rest) (λ t q.
+    let d = register-read v ws t q in
+    stuck (registerWords v (nameOf v (some ws)) (registerOf v (some ws) .value)) (bodies t) (third v (nameOf v (some ws)) (registerOf v (some ws) .value) e (d .named) (d .few) refl)
     (spelt-before ws t (d .stood .words) (d .stood .same) (d .stood .spelt))) in
-    after-include front ws e ∙ ap (λ o. registered (nameOf (some ws)) (registerOf (some ws) .value) o ws) o
+    after-include v front ws e ∙ ap (λ o. registered v (nameOf v (some ws)) (registerOf v (some ws) .value) o ws) o
 
 -- ---- behind it
 
-seen-parsed : (name : List ℕ) (front ws : List Word) (s : Seen name (bodies front)) → Stuck (bodies front) ws → parsedWords (front ++ ws) ≡ endOf name (s .qubits) (recordsIn (s .forms)) ws
-seen-parsed name front ws s stuck =
-    after-seen name front ws s (none-of (gateOf name (some ws) .rest) (λ t q.
-    let g = gate-read name ws t q in
-    stuck (formWords name (g .form)) (bodies t) (gate name (g .form) s (g .good) refl) (spelt-before ws t (g .words) (g .same) (g .spelt))))
+seen-parsed : (v : Version) (name : List ℕ) (front ws : List Word) (s : Seen v name (bodies front)) → Stuck (bodies front) ws
+    → parsedWords (front ++ ws) ≡ endOf v name (s .qubits) (recordsIn (s .forms)) (phaseOfForms v (s .forms)) ws
+seen-parsed v name front ws s stuck =
+    after-seen v name front ws s (none-of (gateOf v name (some ws) .rest) (λ t q.
+    let g = gate-read v name ws t q in
+    stuck (formWords name (g .form)) (bodies t) (gate v name (g .form) s (g .good) refl) (spelt-before ws t (g .words) (g .same) (g .spelt))))
 
 -- ---- the same of a fault
 
@@ -69,18 +65,22 @@ module _ (s : List ℕ) (f : Fault s) where
   unfolding parsed
   fault-early e = ap parsedWords (f .split) ∙ early-parsed (f .before) (f .word ∷ f .behind) e (f .stuck)
 
-  pub fault-seen : (name : List ℕ) → Seen name (bodies (f .before)) → parsed s ≡ pick (badAngle name (some (f .word ∷ f .behind))) (angle (f .word .left)) (statement (f .word .left))
+  pub fault-seen : (v : Version) (name : List ℕ) → Seen v name (bodies (f .before)) → parsed s ≡ pick (badAngle v name (some (f .word ∷ f .behind))) (angle (f .word .left)) (statement (f .word .left))
   unfolding parsed endOf
-  fault-seen name n = ap parsedWords (f .split) ∙ seen-parsed name (f .before) (f .word ∷ f .behind) n (f .stuck)
+  fault-seen v name n = ap parsedWords (f .split) ∙ seen-parsed v name (f .before) (f .word ∷ f .behind) n (f .stuck)
 
 -- ---- a text that ends before the register
 
+register-long : (v : Version) (name : List ℕ) (n : ℕ) → length (registerWords v name n) ≡ 6
+unfolding registerWords
+register-long Two name n = refl
+register-long Three name n = refl
+
 next-long : (bs st : List (List ℕ)) → Next bs st → 1 ≤ length st
-unfolding versionWords includeWords registerWords
-next-long bs st (first b e) = let l = ap length e in omega arith
-next-long bs st (second b e) = let l = ap length e in omega arith
-next-long bs st (third name n b h k e) = let l = ap length e in omega arith
-next-long bs st (gate name f s h e) = let l = ap length e in omega (arith, form-long name f)
+unfolding versionWords includeWords
+next-long bs st (second v b e) = let l = ap length e in omega arith
+next-long bs st (third v name n b h k e) = let l = ap length e in omega (arith, register-long v name n)
+next-long bs st (gate v name f s h e) = let l = ap length e in omega (arith, form-long name f)
 
 no-words : (bs : List (List ℕ)) → Stuck bs []
 no-words bs st rest n e = let l = ap length e in omega (arith, next-long bs st n, length-append st rest)
@@ -91,20 +91,27 @@ short-parsed s e = ap parsedWords (sym (append-nil (words s))) ∙ early-parsed 
 
 -- ---- THEOREM: what is wrong with a text is found
 
+pub unversioned-parsed : (s : List ℕ) → Unversioned s → parsed s ≡ unversioned
+unfolding parsed parsedWords versioned
+unversioned-parsed s un = ap₂ versioned (missing Two) (missing Three)
+  where
+    missing : (v : Version) → versionOf v (some (words s)) ≡ none
+    missing v = none-of (versionOf v (some (words s))) (λ t q. let r = version-read v (words s) t q in un v (bodies t) (spelt-before (words s) t (r .words) (r .same) (r .spelt)))
+
 pub angle-parsed : (s : List ℕ) (k : ℕ) (w : WrongAngle s k) → (parsed s ≡ angle (w .fault .word .left)) × (k ≡ lineAt s (w .fault .word .left))
 angle-parsed s k w =
     let f = w .fault in
-    (fault-seen s f (w .name) (w .seen) ∙ rw (bad-forth (w .name) (f .word ∷ f .behind) (w .only)), w .place)
+    (fault-seen s f (w .version) (w .name) (w .seen) ∙ rw (bad-forth (w .version) (w .name) (f .word ∷ f .behind) (w .only)), w .place)
 
 -- a statement that is refused with 13, and its place
 abbrev pub Other : List ℕ → ℕ → Type 0
 Other s k = ((l : ℕ) × (parsed s ≡ statement l) × (k ≡ lineAt s l)) ⊎ ((parsed s ≡ early) × (k ≡ 0))
 
-seen-other : (s : List ℕ) (k : ℕ) (f : Fault s) (name : List ℕ) → Seen name (bodies (f .before)) → ((j : ℕ) → WrongAngle s j → ⊥) → k ≡ faultLine s f → Other s k
-seen-other s k f name n other place = go (badAngle name (some (f .word ∷ f .behind))) refl (fault-seen s f name n)
+seen-other : (s : List ℕ) (k : ℕ) (f : Fault s) → SeenAny (bodies (f .before)) → ((j : ℕ) → WrongAngle s j → ⊥) → k ≡ faultLine s f → Other s k
+seen-other s k f (v, name, n) other place = go (badAngle v name (some (f .word ∷ f .behind))) refl (fault-seen s f v name n)
   where
-    go : (t : Bool) → badAngle name (some (f .word ∷ f .behind)) ≡ t → parsed s ≡ pick t (angle (f .word .left)) (statement (f .word .left)) → Other s k
-    go true e p = absurd (other (faultLine s f) (record { fault = f; name = name; seen = n; only = bad-back name (f .word ∷ f .behind) e; place = refl }))
+    go : (t : Bool) → badAngle v name (some (f .word ∷ f .behind)) ≡ t → parsed s ≡ pick t (angle (f .word .left)) (statement (f .word .left)) → Other s k
+    go true e p = absurd (other (faultLine s f) (record { fault = f; version = v; name = name; seen = n; only = bad-back v name (f .word ∷ f .behind) e; place = refl }))
     go false e p = inl (f .word .left, p, place)
 
 ended-other : (s : List ℕ) (k : ℕ) (f : Fault s) → Early (bodies (f .before)) → (Unended (bodies (f .word ∷ f .behind)) → ⊥) → k ≡ faultLine s f → Other s k
@@ -117,11 +124,11 @@ ended-other s k f e ended place = go (hasEnd (f .word ∷ f .behind)) refl (faul
 
 pub statement-parsed : (s : List ℕ) (k : ℕ) → WrongStatement s k → Other s k
 unfolding headFault
-statement-parsed s k (here f (inl n) other place) = seen-other s k f (n .0) (n .1) other place
+statement-parsed s k (here f (inl n) other place) = seen-other s k f n other place
 statement-parsed s k (here f (inr ended) other place) = side (f .begun)
   where
-    side : Early (bodies (f .before)) ⊎ ((name : List ℕ) × Seen name (bodies (f .before))) → Other s k
-    side (inr n) = seen-other s k f (n .0) (n .1) other place
+    side : Early (bodies (f .before)) ⊎ SeenAny (bodies (f .before)) → Other s k
+    side (inr n) = seen-other s k f n other place
     side (inl e) = ended-other s k f e ended place
 statement-parsed s k (cut f e unended place) = inr (fault-early s f e ∙ rw (unended-no (f .word ∷ f .behind) unended), place)
 statement-parsed s k (short e place) = inr (short-parsed s e, place)

@@ -1,5 +1,5 @@
 -- What the reader finds is so: a circuit's text, or the first statement that cannot continue one. Assumes nothing.
-use mathlib.Core.Path.{_≡_, refl, sym, ap, _∙_, subst}
+use mathlib.Core.Path.{_≡_, refl, sym, ap, ap₂, _∙_, subst}
 use mathlib.Core.Logic.{inl, inr}
 use mathlib.Core.Bool.{Bool, true, false}
 use mathlib.Core.List.{List, [], _∷_, _++_, append-assoc, append-nil}
@@ -11,88 +11,110 @@ use Rattle.sets.specs.Pick.{pick}
 use Rattle.spots.proofs.Numbers.{never}
 use Rattle.words.specs.Words.{Word, words, bodies}
 use Rattle.words.specs.Taking.{Got}
-use Rattle.statements.specs.Statements.{versionOf, includeOf, nameOf, registerOf, gateOf, hasEnd, badAngle}
-use Rattle.statements.specs.Forms.{Form, formWords, formsWords, versionWords, includeWords, registerWords, headWords, recordsIn}
+use Rattle.versions.specs.declared.Version.{Version}
+use Rattle.versions.specs.declared.Version.the-variants.{Two, Three}
+use Rattle.statements.specs.Statements.{Said, versionOf, includeOf, nameOf, registerOf, gateOf, hasEnd, badAngle}
+use Rattle.statements.specs.Spelling.{numeral}
+use Rattle.statements.specs.Forms.{Form, formWords, formsWords, versionWords, includeWords, registerWords, headWords, recordsIn, phaseOfForms}
 use Rattle.statements.proofs.Words.{bodies-append, before, gate-on}
 use Rattle.statements.proofs.Heads.{version-read, include-read, register-read, version-on, include-on, register-on}
 use Rattle.statements.proofs.OtherAngles.{ended-not, unended-no, bad-back}
-use Rattle.qasm_reading.specs.Parsing.{Parsed, circuit, angle, statement, early, headFault, endOf, runOf, registered, included, versioned, parsedWords, parsed}
+use Rattle.qasm_reading.specs.Parsing.{Parsed, circuit, angle, statement, early, unversioned, headFault, endOf, runOf, registered, included, versioned, parsedWords, parsed}
 use Rattle.qasm_reading.specs.Readings.{lineAt}
-use Rattle.qasm_reading.specs.Texts.{CircuitText, Seen, Early, nothing, versionLine, bothLines, first, second, third, gate, Fault, WrongAngle, WrongStatement, here, cut, short}
+use Rattle.qasm_reading.specs.Texts.{CircuitText, Unversioned, Seen, Early, versionLine, bothLines, second, third, gate, Fault, WrongAngle, WrongStatement, here, cut, short}
 use Rattle.qasm_reading.proofs.Runs.{run-whole}
 use Rattle.qasm_reading.proofs.Faults.{Stuck, angle-parsed}
 
--- ---- how long a beginning is tells how far it goes
+-- ---- how long a beginning is tells how far it goes, and its second word its version
 
-version-long : length versionWords ≡ 3
+version-long : (v : Version) → length (versionWords v) ≡ 3
 unfolding versionWords
-version-long = refl
+version-long v = refl
 
-both-long : length (versionWords ++ includeWords) ≡ 6
+both-long : (v : Version) → length (versionWords v ++ includeWords v) ≡ 6
 unfolding versionWords includeWords
-both-long = refl
+both-long v = refl
 
-seen-long : (name : List ℕ) (bs : List (List ℕ)) → Seen name bs → 12 ≤ length bs
-unfolding headWords versionWords includeWords registerWords
-seen-long name bs s = omega (arith, ap length (s .spelt), length-append (headWords name (s .qubits)) (formsWords name (s .forms)))
+register-long : (v : Version) (name : List ℕ) (n : ℕ) → length (registerWords v name n) ≡ 6
+unfolding registerWords
+register-long Two name n = refl
+register-long Three name n = refl
+
+seen-long : (v : Version) (name : List ℕ) (bs : List (List ℕ)) → Seen v name bs → 12 ≤ length bs
+unfolding headWords versionWords includeWords
+seen-long v name bs s = omega (arith, ap length (s .spelt), length-append (headWords v name (s .qubits)) (formsWords name (s .forms)), register-long v name (s .qubits))
 
 abbrev nth : ℕ → List (List ℕ) → List ℕ
 nth k [] = []
 nth zero (b ∷ bs) = b
 nth (suc k) (b ∷ bs) = nth k bs
 
--- the eighth word is the register's name
-eighth : (name : List ℕ) (bs : List (List ℕ)) (s : Seen name bs) → nth 7 bs ≡ name
-unfolding headWords versionWords includeWords registerWords
-eighth name bs s = ap (λ l. nth 7 l) (s .spelt)
+-- no version's number is the other's
+one-version : (v w : Version) → numeral v ≡ numeral w → v ≡ w
+one-version Two Two e = refl
+one-version Two Three e = let z : _≡_ {A = ℕ} 50 51 = cc e in absurd (omega arith)
+one-version Three Two e = let z : _≡_ {A = ℕ} 51 50 = cc e in absurd (omega arith)
+one-version Three Three e = refl
 
-one-name : (name other : List ℕ) (bs : List (List ℕ)) → Seen name bs → Seen other bs → name ≡ other
-one-name name other bs a b = sym (eighth name bs a) ∙ eighth other bs b
+version-first : (v w : Version) → versionWords v ≡ versionWords w → v ≡ w
+unfolding versionWords
+version-first v w e = one-version v w (ap (nth 1) e)
+
+version-both : (v w : Version) → versionWords v ++ includeWords v ≡ versionWords w ++ includeWords w → v ≡ w
+unfolding versionWords
+version-both v w e = one-version v w (ap (nth 1) e)
+
+version-seen : (v : Version) (name : List ℕ) (bs : List (List ℕ)) → Seen v name bs → nth 1 bs ≡ numeral v
+unfolding headWords versionWords
+version-seen v name bs s = ap (nth 1) (s .spelt)
+
+-- where the register's name stands
+abbrev nameAt : Version → ℕ
+nameAt Two = 7
+nameAt Three = 10
+
+name-seen : (v : Version) (name : List ℕ) (bs : List (List ℕ)) → Seen v name bs → nth (nameAt v) bs ≡ name
+unfolding headWords versionWords includeWords registerWords
+name-seen Two name bs s = ap (nth 7) (s .spelt)
+name-seen Three name bs s = ap (nth 10) (s .spelt)
 
 -- ---- nothing that could stand there does
 
 module _ (bs : List (List ℕ)) (ws : List Word) where
-  stuck-first : bs ≡ [] → versionOf (some ws) ≡ none → Stuck bs ws
-  stuck-first z e st rest (first b q) p =
-      let f = before versionWords rest ws (p ∙ ap (λ l. l ++ rest) q) in
-      never (sym e ∙ ap (λ l. versionOf (some l)) (f .same) ∙ version-on (f .front) (f .back) (f .front-spelt))
-  stuck-first z e st rest (second b q) p = let h = ap length z in let k = ap length b in omega (arith, version-long)
-  stuck-first z e st rest (third name n b x y q) p = let h = ap length z in let k = ap length b in omega (arith, both-long)
-  stuck-first z e st rest (gate name f s x q) p = let h = ap length z in omega (arith, seen-long name bs s)
+  stuck-second : (v : Version) → bs ≡ versionWords v → includeOf v (some ws) ≡ none → Stuck bs ws
+  stuck-second v z e st rest (second w b q) p =
+      let f = before (includeWords w) rest ws (p ∙ ap (λ l. l ++ rest) q) in
+      let o : v ≡ w = version-first v w (sym z ∙ b) in
+      never (sym e ∙ ap (λ u. includeOf u (some ws)) o ∙ ap (λ l. includeOf w (some l)) (f .same) ∙ include-on (f .front) (f .back) w (f .front-spelt))
+  stuck-second v z e st rest (third w name n b x y q) p = let h = ap length z in let k = ap length b in omega (arith, version-long v, both-long w)
+  stuck-second v z e st rest (gate w name f s x q) p = let h = ap length z in omega (arith, version-long v, seen-long w name bs s)
 
-  stuck-second : bs ≡ versionWords → includeOf (some ws) ≡ none → Stuck bs ws
-  stuck-second z e st rest (first b q) p = let h = ap length z in let k = ap length b in omega (arith, version-long)
-  stuck-second z e st rest (second b q) p =
-      let f = before includeWords rest ws (p ∙ ap (λ l. l ++ rest) q) in
-      never (sym e ∙ ap (λ l. includeOf (some l)) (f .same) ∙ include-on (f .front) (f .back) (f .front-spelt))
-  stuck-second z e st rest (third name n b x y q) p = let h = ap length z in let k = ap length b in omega (arith, version-long, both-long)
-  stuck-second z e st rest (gate name f s x q) p = let h = ap length z in omega (arith, version-long, seen-long name bs s)
+  stuck-third : (v : Version) → bs ≡ versionWords v ++ includeWords v → registerOf v (some ws) .rest ≡ none → Stuck bs ws
+  stuck-third v z e st rest (second w b q) p = let h = ap length z in let k = ap length b in omega (arith, version-long w, both-long v)
+  stuck-third v z e st rest (third w name n b x y q) p =
+      let f = before (registerWords w name n) rest ws (p ∙ ap (λ l. l ++ rest) q) in
+      let o : v ≡ w = version-both v w (sym z ∙ b) in
+      never (sym e ∙ ap (λ u. registerOf u (some ws) .rest) o ∙ ap (λ l. registerOf w (some l) .rest) (f .same) ∙ ap (λ (g : Got). g .rest) (register-on (f .front) (f .back) w name n x y (f .front-spelt)))
+  stuck-third v z e st rest (gate w name f s x q) p = let h = ap length z in omega (arith, both-long v, seen-long w name bs s)
 
-  stuck-third : bs ≡ versionWords ++ includeWords → registerOf (some ws) .rest ≡ none → Stuck bs ws
-  stuck-third z e st rest (first b q) p = let h = ap length z in let k = ap length b in omega (arith, both-long)
-  stuck-third z e st rest (second b q) p = let h = ap length z in let k = ap length b in omega (arith, version-long, both-long)
-  stuck-third z e st rest (third name n b x y q) p =
-      let f = before (registerWords name n) rest ws (p ∙ ap (λ l. l ++ rest) q) in
-      never (sym e ∙ ap (λ l. registerOf (some l) .rest) (f .same) ∙ ap (λ (g : Got). g .rest) (register-on (f .front) (f .back) name n x y (f .front-spelt)))
-  stuck-third z e st rest (gate name f s x q) p = let h = ap length z in omega (arith, both-long, seen-long name bs s)
-
-  -- one register is seen under one name
-  stuck-gate : (name : List ℕ) → Seen name bs → gateOf name (some ws) .rest ≡ none → Stuck bs ws
-  stuck-gate name s e st rest (first b q) p = let k = ap length b in omega (arith, seen-long name bs s)
-  stuck-gate name s e st rest (second b q) p = let k = ap length b in omega (arith, version-long, seen-long name bs s)
-  stuck-gate name s e st rest (third other n b x y q) p = let k = ap length b in omega (arith, both-long, seen-long name bs s)
-  stuck-gate name s e st rest (gate other g o x q) p =
+  -- one register is seen, in one version and under one name
+  stuck-gate : (v : Version) (name : List ℕ) → Seen v name bs → gateOf v name (some ws) .rest ≡ none → Stuck bs ws
+  stuck-gate v name s e st rest (second w b q) p = let k = ap length b in omega (arith, version-long w, seen-long v name bs s)
+  stuck-gate v name s e st rest (third w other n b x y q) p = let k = ap length b in omega (arith, both-long w, seen-long v name bs s)
+  stuck-gate v name s e st rest (gate w other g o x q) p =
       let f = before (formWords other g) rest ws (p ∙ ap (λ l. l ++ rest) q) in
-      let n : other ≡ name = one-name other name bs o s in
-      never (sym e ∙ ap (λ m. gateOf m (some ws) .rest) (sym n) ∙ ap (λ l. gateOf other (some l) .rest) (f .same) ∙ ap (λ (r : Got). r .rest) (gate-on other g (f .front) (f .back) x (f .front-spelt)))
+      let u : v ≡ w = one-version v w (sym (version-seen v name bs s) ∙ version-seen w other bs o) in
+      let n : name ≡ other = sym (name-seen v name bs s) ∙ ap (λ y. nth (nameAt y) bs) u ∙ name-seen w other bs o in
+      never (sym e ∙ ap₂ (λ y m. gateOf y m (some ws) .rest) u n ∙ ap (λ l. gateOf w other (some l) .rest) (f .same) ∙ ap (λ (r : Said). r .rest) (gate-on w other g (f .front) (f .back) x (f .front-spelt)))
 
 -- ---- THEOREM: what is found is so
 
 abbrev pub Found : List ℕ → Parsed → Type 0
-Found s (circuit n gates) = CircuitText s n gates
+Found s (circuit v n gates g) = CircuitText s v n gates g
 Found s (angle l) = WrongAngle s (lineAt s l)
 Found s (statement l) = WrongStatement s (lineAt s l)
 Found s early = WrongStatement s 0
+Found s unversioned = Unversioned s
 
 -- where 13 is found, there is no other angle
 no-angle : (s : List ℕ) (l : ℕ) → parsed s ≡ statement l → (j : ℕ) → WrongAngle s j → ⊥
@@ -110,73 +132,89 @@ head-found s front (w ∷ ws) e b stuck p = go (hasEnd (w ∷ ws)) refl p
     go true q p = here f (inr (λ u. let z : _≡_ {A = ℕ} 0 1 = cc (sym (unended-no (w ∷ ws) u) ∙ q) in omega arith)) (no-angle s (w .left) p) refl
     go false q p = cut f b (ended-not (w ∷ ws) q) refl
 
-end-found : (s name : List ℕ) (n : ℕ) (gates : List ℕ) (front ws : List Word) (i : Seen name (bodies front)) → words s ≡ front ++ ws → n ≡ i .qubits → gates ≡ recordsIn (i .forms)
-    → gateOf name (some ws) .rest ≡ none → parsed s ≡ endOf name n gates ws → Found s (endOf name n gates ws)
+end-found : (s : List ℕ) (v : Version) (name : List ℕ) (n : ℕ) (gates : List ℕ) (g : ℕ) (front ws : List Word) (i : Seen v name (bodies front)) → words s ≡ front ++ ws
+    → n ≡ i .qubits → gates ≡ recordsIn (i .forms) → g ≡ phaseOfForms v (i .forms)
+    → gateOf v name (some ws) .rest ≡ none → parsed s ≡ endOf v name n gates g ws → Found s (endOf v name n gates g ws)
 unfolding endOf
-end-found s name n gates front [] i e q g h p = record {
+end-found s v name n gates g front [] i e q m o h p = record {
   name = name;
   forms = i .forms;
   named = i .named;
   few = omega (arith, i .few);
   good = i .good;
-  meant = g;
-  spelt = ap (λ l. bodies l) (e ∙ append-nil front) ∙ i .spelt ∙ ap (λ m. headWords name m ++ formsWords name (i .forms)) (sym q);
+  meant = m;
+  shifted = o;
+  spelt = ap (λ l. bodies l) (e ∙ append-nil front) ∙ i .spelt ∙ ap (λ k. headWords v name k ++ formsWords name (i .forms)) (sym q);
 }
-end-found s name n gates front (w ∷ ws) i e q g h p = go (badAngle name (some (w ∷ ws))) refl p
+end-found s v name n gates g front (w ∷ ws) i e q m o h p = go (badAngle v name (some (w ∷ ws))) refl p
   where
     f : Fault s
-    f = record { before = front; word = w; behind = ws; split = e; begun = inr (name, i); stuck = stuck-gate (bodies front) (w ∷ ws) name i h }
+    f = record { before = front; word = w; behind = ws; split = e; begun = inr (v, name, i); stuck = stuck-gate (bodies front) (w ∷ ws) v name i h }
 
-    go : (t : Bool) → badAngle name (some (w ∷ ws)) ≡ t → parsed s ≡ pick t (angle (w .left)) (statement (w .left)) → Found s (pick t (angle (w .left)) (statement (w .left)))
-    go true b p = record { fault = f; name = name; seen = i; only = bad-back name (w ∷ ws) b; place = refl }
-    go false b p = here f (inl (name, i)) (no-angle s (w .left) p) refl
+    go : (t : Bool) → badAngle v name (some (w ∷ ws)) ≡ t → parsed s ≡ pick t (angle (w .left)) (statement (w .left)) → Found s (pick t (angle (w .left)) (statement (w .left)))
+    go true b p = record { fault = f; version = v; name = name; seen = i; only = bad-back v name (w ∷ ws) b; place = refl }
+    go false b p = here f (inl (v, name, i)) (no-angle s (w .left) p) refl
 
-two-spelt : (v i : List Word) → bodies v ≡ versionWords → bodies i ≡ includeWords → bodies (v ++ i) ≡ versionWords ++ includeWords
-two-spelt v i a b = bodies-append v i ∙ rw (a, b)
+two-spelt : (v : Version) (a b : List Word) → bodies a ≡ versionWords v → bodies b ≡ includeWords v → bodies (a ++ b) ≡ versionWords v ++ includeWords v
+two-spelt v a b p q = bodies-append a b ∙ rw (p, q)
 
-whole-spelt : (v i r g : List Word) (name : List ℕ) (n : ℕ) (fs : List Form) → bodies v ≡ versionWords → bodies i ≡ includeWords → bodies r ≡ registerWords name n → bodies g ≡ formsWords name fs
-    → bodies ((v ++ i) ++ (r ++ g)) ≡ headWords name n ++ formsWords name fs
+whole-spelt : (v : Version) (a b r g : List Word) (name : List ℕ) (n : ℕ) (fs : List Form) → bodies a ≡ versionWords v → bodies b ≡ includeWords v → bodies r ≡ registerWords v name n
+    → bodies g ≡ formsWords name fs → bodies ((a ++ b) ++ (r ++ g)) ≡ headWords v name n ++ formsWords name fs
 unfolding headWords
-whole-spelt v i r g name n fs a b c d =
-    let e : bodies (r ++ g) ≡ registerWords name n ++ formsWords name fs = bodies-append r g ∙ rw (c, d) in
-    bodies-append (v ++ i) (r ++ g) ∙ rw (two-spelt v i a b, e) (simp append-assoc)
+whole-spelt v a b r g name n fs p q c d =
+    let e : bodies (r ++ g) ≡ registerWords v name n ++ formsWords name fs = bodies-append r g ∙ rw (c, d) in
+    bodies-append (a ++ b) (r ++ g) ∙ rw (two-spelt v a b p q, e) (simp append-assoc)
+
+module _ (s : List ℕ) (v : Version) where
+  from-third : (a b u : List Word) → words s ≡ a ++ (b ++ u) → bodies a ≡ versionWords v → bodies b ≡ includeWords v
+      → (o : Option (List Word)) → registerOf v (some u) .rest ≡ o → parsed s ≡ registered v (nameOf v (some u)) (registerOf v (some u) .value) o u
+      → Found s (registered v (nameOf v (some u)) (registerOf v (some u) .value) o u)
+  unfolding registered
+  from-third a b u e p q none k y =
+      head-found s (a ++ b) u (e ∙ sym (append-assoc a b u)) (bothLines v (two-spelt v a b p q)) (stuck-third (bodies (a ++ b)) u v (two-spelt v a b p q) k) y
+  from-third a b u e p q (some t) k y =
+      let name = nameOf v (some u) in
+      let d = register-read v u t k in
+      let r = run-whole v name t in
+      let front = (a ++ b) ++ (d .stood .words ++ r .words) in
+      let w : words s ≡ front ++ runOf v name t .left = e ∙ sym (append-assoc a b u) ∙ ap (λ l. (a ++ b) ++ l) (d .stood .same ∙ ap (λ l. d .stood .words ++ l) (r .same) ∙ sym (append-assoc (d .stood .words) (r .words) _)) ∙ sym (append-assoc (a ++ b) _ _) in
+      let n : Seen v name (bodies front) = record {
+        qubits = registerOf v (some u) .value;
+        forms = r .forms;
+        named = d .named;
+        few = d .few;
+        good = r .good;
+        spelt = whole-spelt v a b (d .stood .words) (r .words) name (registerOf v (some u) .value) (r .forms) p q (d .stood .spelt) (r .spelt);
+      } in
+      end-found s v name (registerOf v (some u) .value) (runOf v name t .records) (runOf v name t .phase) front (runOf v name t .left) n w refl (sym (r .meant)) (sym (r .shifted)) (r .stops) y
+
+  from-second : (a t : List Word) → words s ≡ a ++ t → bodies a ≡ versionWords v → (o : Option (List Word)) → includeOf v (some t) ≡ o → parsed s ≡ included v o t → Found s (included v o t)
+  unfolding included
+  from-second a t e p none q y = head-found s a t e (versionLine v p) (stuck-second (bodies a) t v p q) y
+  from-second a t e p (some u) q y =
+      let i = include-read v t u q in
+      from-third a (i .words) u (e ∙ ap (λ l. a ++ l) (i .same)) p (i .spelt) (registerOf v (some u) .rest) refl y
+
+  from-first : (t : List Word) → versionOf v (some (words s)) ≡ some t → parsed s ≡ included v (includeOf v (some t)) t → Found s (included v (includeOf v (some t)) t)
+  from-first t q y =
+      let a = version-read v (words s) t q in
+      from-second (a .words) t (a .same) (a .spelt) (includeOf v (some t)) refl y
+
+-- what is read as a version's statement stands there
+no-version : (s : List ℕ) (v : Version) (rest : List (List ℕ)) → versionOf v (some (words s)) ≡ none → bodies (words s) ≡ versionWords v ++ rest → ⊥
+no-version s v rest e p =
+    let f = before (versionWords v) rest (words s) p in
+    never (sym e ∙ ap (λ l. versionOf v (some l)) (f .same) ∙ version-on (f .front) (f .back) v (f .front-spelt))
 
 pub found : (s : List ℕ) → Found s (parsed s)
-unfolding parsed parsedWords versioned included registered
-found s = from-first (versionOf (some (words s))) refl refl
+unfolding parsed parsedWords versioned
+found s = go (versionOf Two (some (words s))) (versionOf Three (some (words s))) refl refl refl
   where
-    ws : List Word
-    ws = words s
-
-    from-third : (v i u : List Word) → ws ≡ v ++ (i ++ u) → bodies v ≡ versionWords → bodies i ≡ includeWords
-        → (o : Option (List Word)) → registerOf (some u) .rest ≡ o → parsed s ≡ registered (nameOf (some u)) (registerOf (some u) .value) o u
-        → Found s (registered (nameOf (some u)) (registerOf (some u) .value) o u)
-    from-third v i u e a b none q p =
-        head-found s (v ++ i) u (e ∙ sym (append-assoc v i u)) (bothLines (two-spelt v i a b)) (stuck-third (bodies (v ++ i)) u (two-spelt v i a b) q) p
-    from-third v i u e a b (some t) q p =
-        let name = nameOf (some u) in
-        let d = register-read u t q in
-        let r = run-whole name t in
-        let front = (v ++ i) ++ (d .stood .words ++ r .words) in
-        let w : ws ≡ front ++ runOf name t .left = e ∙ sym (append-assoc v i u) ∙ ap (λ l. (v ++ i) ++ l) (d .stood .same ∙ ap (λ l. d .stood .words ++ l) (r .same) ∙ sym (append-assoc (d .stood .words) (r .words) _)) ∙ sym (append-assoc (v ++ i) _ _) in
-        let n : Seen name (bodies front) = record {
-          qubits = registerOf (some u) .value;
-          forms = r .forms;
-          named = d .named;
-          few = d .few;
-          good = r .good;
-          spelt = whole-spelt v i (d .stood .words) (r .words) name (registerOf (some u) .value) (r .forms) a b (d .stood .spelt) (r .spelt);
-        } in
-        end-found s name (registerOf (some u) .value) (runOf name t .records) front (runOf name t .left) n w refl (sym (r .meant)) (r .stops) p
-
-    from-second : (v t : List Word) → ws ≡ v ++ t → bodies v ≡ versionWords → (o : Option (List Word)) → includeOf (some t) ≡ o → parsed s ≡ included o t → Found s (included o t)
-    from-second v t e a none q p = head-found s v t e (versionLine a) (stuck-second (bodies v) t a q) p
-    from-second v t e a (some u) q p =
-        let i = include-read t u q in
-        from-third v (i .words) u (e ∙ ap (λ l. v ++ l) (i .same)) a (i .spelt) (registerOf (some u) .rest) refl p
-
-    from-first : (o : Option (List Word)) → versionOf (some ws) ≡ o → parsed s ≡ versioned o ws → Found s (versioned o ws)
-    from-first none q p = head-found s [] ws refl (nothing refl) (stuck-first [] ws refl q) p
-    from-first (some t) q p =
-        let v = version-read ws t q in
-        from-second (v .words) t (v .same) (v .spelt) (includeOf (some t)) refl p
+    go : (a b : Option (List Word)) → versionOf Two (some (words s)) ≡ a → versionOf Three (some (words s)) ≡ b → parsed s ≡ versioned a b → Found s (versioned a b)
+    go (some t) b p q y = from-first s Two t p y
+    go none (some t) p q y = from-first s Three t q y
+    go none none p q y = missing
+      where
+        missing : Unversioned s
+        missing Two rest = no-version s Two rest p
+        missing Three rest = no-version s Three rest q

@@ -9,3 +9,5 @@ pub mod Enough
 pub mod Standing
 pub mod Examples
 pub mod Exactly
+pub mod Said
+pub mod TwoReadings

@@ -1,4 +1,4 @@
--- Loops over gates, which are counted and filled in. Assumes nothing.
+-- Loops over statements, whose gates are counted and filled in, and whose phases are put together. Assumes nothing.
 use mathlib.Core.Path.{_≡_, refl, sym, ap, _∙_}
 use mathlib.Core.Bool.{Bool, true, false}
 use mathlib.Core.List.{List, [], _∷_, _++_, append-assoc, append-nil}
@@ -14,9 +14,13 @@ use Rattle.lines.specs.Lent.{onto}
 use Rattle.words.specs.Bytes.{blank, goesOn, slashes}
 use Rattle.words.specs.Words.{Word, Mode, gap, note, run, lex, words}
 use Rattle.words.proofs.Steps.{gap-is, note-is, run-is}
+use Rattle.circuit.specs.Phase.{phases}
+use Rattle.circuit.proofs.Phases.{phases-none, phases-over}
+use Rattle.versions.specs.declared.Version.{Version}
 use Rattle.statements.specs.Statements.{gateOf}
+use Rattle.statements.specs.Forms.{Form, cnot, turn, xgate, hadamard, common, formRecord}
 use Rattle.qasm_reading.specs.Parsing.{runOf}
-use Rattle.qasm_reading.proofs.Runs.{gate-short, run-none, run-some}
+use Rattle.qasm_reading.proofs.Runs.{gate-read, gate-short, run-none, run-some, run-small}
 
 -- ---- no more words than bytes
 
@@ -52,62 +56,113 @@ lex-length (x ∷ s) (run f w) = rw run-is (go (goesOn f x) (slashes f x) (blank
 pub words-length : (s : List ℕ) → length (words s) ≤ length s
 words-length s = omega (arith, lex-length s gap)
 
--- ---- gates
+-- ---- statements
 
--- n gates have been counted, and l is left
-pub record Counting (name : List ℕ) (from : List Word) (n : ℕ) (l : List Word) : Type 0 where
-  pub sum : n + length (runOf name l .records) ≡ length (runOf name from .records)
-  pub same : runOf name l .left ≡ runOf name from .left
-  pub room : n + length l ≤ length from
+-- a statement has one gate at most
+record-few : (f : Form) → length (formRecord f) ≤ 1
+unfolding formRecord
+record-few (cnot a b) = omega arith
+record-few (turn r m t o a) = omega arith
+record-few (xgate a) = omega arith
+record-few (hadamard a) = omega arith
+record-few (common m t o) = omega arith
 
-pub count-start : (name : List ℕ) (l : List Word) → Counting name l 0 l
-count-start name l = record { sum = omega arith; same = refl; room = omega arith }
+module _ (v : Version) (name : List ℕ) (from : List Word) where
+  -- n gates have been counted, their phases come to g, and l is left
+  pub record Counting (n g : ℕ) (l : List Word) : Type 0 where
+    pub sum : n + length (runOf v name l .records) ≡ length (runOf v name from .records)
+    pub phase : phases g (runOf v name l .phase) ≡ runOf v name from .phase
+    pub same : runOf v name l .left ≡ runOf v name from .left
+    pub room : n + length l ≤ length from
+    pub small : g < 131072
 
-pub count-step : (name : List ℕ) (from : List Word) (n : ℕ) (l t : List Word) → Counting name from n l → gateOf name (some l) .rest ≡ some t → Counting name from (n + 1) t
-count-step name from n l t c e =
-    let r = run-some name l t e in
-    record {
-      sum = omega (arith, ap (λ x. length (x .records)) r, c .sum);
-      same = sym (ap (λ x. x .left) r) ∙ c .same;
-      room = omega (arith, gate-short name l t e);
-    }
+  pub count-start : Counting 0 0 from
+  count-start = record { sum = omega arith; phase = phases-none (runOf v name from .phase) (run-small v name from); same = refl; room = omega arith; small = omega arith }
 
-pub count-done : (name : List ℕ) (from : List Word) (n : ℕ) (l : List Word) → Counting name from n l → gateOf name (some l) .rest ≡ none
-    → (n ≡ length (runOf name from .records)) × (l ≡ runOf name from .left)
-count-done name from n l c e =
-    let r = run-none name l e in
-    (omega (arith, ap (λ x. length (x .records)) r, c .sum), sym (ap (λ x. x .left) r) ∙ c .same)
+  module _ (n g : ℕ) (l : List Word) (c : Counting n g l) where
+    pub count-room : (t : List Word) → gateOf v name (some l) .rest ≡ some t → n + length (gateOf v name (some l) .records) + length t ≤ length from
+    count-room t e =
+        let q = gate-read v name l t e in
+        omega (arith, gate-short v name l t e, record-few (q .form), ap length (q .value), c .room)
+
+    pub count-step : (t : List Word) → gateOf v name (some l) .rest ≡ some t → {m h : ℕ} → m ≡ n + length (gateOf v name (some l) .records) → h ≡ phases g (gateOf v name (some l) .phase) → Counting m h t
+    unfolding phases
+    count-step t e {m} {h} a b =
+        let r = run-some v name l t e in
+        record {
+          sum = omega (arith, ap (λ x. length (x .records)) r, length-append (gateOf v name (some l) .records) (runOf v name t .records), c .sum);
+          phase = ap (λ x. phases x (runOf v name t .phase)) b ∙ phases-over g (gateOf v name (some l) .phase) (runOf v name t .phase) ∙ ap (phases g) (sym (ap (λ x. x .phase) r)) ∙ c .phase;
+          same = sym (ap (λ x. x .left) r) ∙ c .same;
+          room = omega (arith, count-room t e, a);
+          small = omega (arith, b);
+        }
+
+    pub count-done : gateOf v name (some l) .rest ≡ none → (n ≡ length (runOf v name from .records)) × (g ≡ runOf v name from .phase) × (l ≡ runOf v name from .left)
+    unfolding phases
+    count-done e =
+        let r = run-none v name l e in
+        (omega (arith, ap (λ x. length (x .records)) r, c .sum), omega (arith, ap (λ x. x .phase) r, c .phase, c .small), sym (ap (λ x. x .left) r) ∙ c .same)
+
+-- the code's flag says whether there is one
+pub flag-few : (gate : Bool) (x : ℕ) {rs : List ℕ} → pick gate (x ∷ []) [] ≡ rs → pick gate 1 0 ≡ length rs
+flag-few true x e = ap length e
+flag-few false x e = ap length e
+
+pub fill-next : (gate : Bool) (n : ℕ) {k : ℕ} → pick gate (n + 1) 0 ≤ k → n ≤ k → n + pick gate 1 0 ≤ k
+fill-next true n h l = h
+fill-next false n h l = omega arith
 
 -- n records stand at the front of out, and l is left
-pub record Filling (name : List ℕ) (from : List Word) (old out : List ℕ) (n : ℕ) (l : List Word) : Type 0 where
-  pub put : take n out ++ runOf name l .records ≡ runOf name from .records
+pub record Filling (v : Version) (name : List ℕ) (from : List Word) (old out : List ℕ) (n : ℕ) (l : List Word) : Type 0 where
+  pub put : take n out ++ runOf v name l .records ≡ runOf v name from .records
   pub kept : drop n out ≡ drop n old
   pub size : length out ≡ length old
   pub reach : n ≤ length out
 
-module _ (name : List ℕ) (from : List Word) (old : List ℕ) where
-  pub fill-start : Filling name from old old 0 from
+module _ (v : Version) (name : List ℕ) (from : List Word) (old : List ℕ) where
+  pub fill-start : Filling v name from old old 0 from
   fill-start = record { put = refl; kept = refl; size = refl; reach = omega arith }
 
-  module _ (out : List ℕ) (n : ℕ) (l : List Word) (c : Filling name from old out n l) where
-    pub fill-room : (t : List Word) → gateOf name (some l) .rest ≡ some t → length (runOf name from .records) ≤ length old → n < length out
-    fill-room t e h =
-        omega (arith, length-append (take n out) (runOf name l .records), length-take-le n out (c .reach), ap length (c .put), ap (λ x. length (x .records)) (run-some name l t e), c .size)
+  module _ (out : List ℕ) (n : ℕ) (l : List Word) (c : Filling v name from old out n l) (t : List Word) (e : gateOf v name (some l) .rest ≡ some t) where
+    -- a statement that is no gate
+    fill-over : gateOf v name (some l) .records ≡ [] → Filling v name from old out n t
+    fill-over q =
+        let r : runOf v name l .records ≡ runOf v name t .records = ap (λ x. x .records) (run-some v name l t e) ∙ ap (λ y. y ++ runOf v name t .records) q in
+        record { put = ap (λ x. take n out ++ x) (sym r) ∙ c .put; kept = c .kept; size = c .size; reach = c .reach }
 
-    pub fill-step : (t : List Word) → gateOf name (some l) .rest ≡ some t → n < length out → {v : ℕ} → v ≡ gateOf name (some l) .value → Filling name from old (set out n v) (n + 1) t
-    fill-step t e h {v} q =
-        let r : runOf name l .records ≡ v ∷ runOf name t .records = ap (λ x. x .records) (run-some name l t e) ∙ ap (λ y. y ∷ runOf name t .records) (sym q) in
-        let k : drop 1 (drop n out) ≡ drop 1 (drop n old) = ap (drop 1) (c .kept) in
-        record {
-          put = rw (add-one, take-suc-set out n v, append-assoc) (ap (λ x. take n out ++ x) (sym r) ∙ c .put);
-          kept = drop-set-lt (n + 1) out n v (omega arith) ∙ sym (drop-drop 1 n out) ∙ k ∙ drop-drop 1 n old;
-          size = length-set out n v ∙ c .size;
-          reach = simp length-set (omega arith);
-        }
+    -- one that is
+    module _ (x : ℕ) (q : gateOf v name (some l) .records ≡ x ∷ []) where
+      led : runOf v name l .records ≡ x ∷ runOf v name t .records
+      led = ap (λ y. y .records) (run-some v name l t e) ∙ ap (λ y. y ++ runOf v name t .records) q
 
-    pub fill-done : gateOf name (some l) .rest ≡ none → out ≡ onto (runOf name from .records) old
+      one-room : length (runOf v name from .records) ≤ length old → n < length out
+      one-room h =
+          omega (arith, length-append (take n out) (runOf v name l .records), length-take-le n out (c .reach), ap length (c .put), ap length led, c .size)
+
+      one-step : n < length out → Filling v name from old (set out n x) (n + 1) t
+      one-step h =
+          let k : drop 1 (drop n out) ≡ drop 1 (drop n old) = ap (drop 1) (c .kept) in
+          record {
+            put = rw (add-one, take-suc-set out n x, append-assoc) (ap (λ y. take n out ++ y) (sym led) ∙ c .put);
+            kept = drop-set-lt (n + 1) out n x (omega arith) ∙ sym (drop-drop 1 n out) ∙ k ∙ drop-drop 1 n old;
+            size = length-set out n x ∙ c .size;
+            reach = simp length-set (omega arith);
+          }
+
+    -- either, by the flag
+    pub fill-room : (gate : Bool) (x : ℕ) → pick gate (x ∷ []) [] ≡ gateOf v name (some l) .records → length (runOf v name from .records) ≤ length old → pick gate (n + 1) 0 ≤ length out
+    fill-room true x q h = omega (arith, one-room x (sym q) h)
+    fill-room false x q h = omega arith
+
+    pub fill-step : (gate : Bool) (x : ℕ) → pick gate (x ∷ []) [] ≡ gateOf v name (some l) .records → length (runOf v name from .records) ≤ length old
+        → {new : List ℕ} {m : ℕ} → new ≡ pick gate (set out n x) out → m ≡ n + pick gate 1 0 → Filling v name from old new m t
+    fill-step true x q h d e = rw (d, e) (one-step x (sym q) (one-room x (sym q) h))
+    fill-step false x q h d e = let z : n + 0 ≡ n = omega arith in rw (d, e, z) (fill-over (sym q))
+
+  module _ (out : List ℕ) (n : ℕ) (l : List Word) (c : Filling v name from old out n l) where
+    pub fill-done : gateOf v name (some l) .rest ≡ none → out ≡ onto (runOf v name from .records) old
     fill-done e =
-        let r : runOf name l .records ≡ [] = ap (λ x. x .records) (run-none name l e) in
-        let p : take n out ≡ runOf name from .records = sym (append-nil (take n out)) ∙ ap (λ x. take n out ++ x) (sym r) ∙ c .put in
-        let m : n ≡ length (runOf name from .records) = sym (length-take-le n out (c .reach)) ∙ ap length p in
-        sym (take-append-drop n out) ∙ ap (λ x. x ++ drop n out) p ∙ ap (λ x. runOf name from .records ++ x) (c .kept) ∙ ap (λ k. runOf name from .records ++ drop k old) m
+        let r : runOf v name l .records ≡ [] = ap (λ x. x .records) (run-none v name l e) in
+        let p : take n out ≡ runOf v name from .records = sym (append-nil (take n out)) ∙ ap (λ x. take n out ++ x) (sym r) ∙ c .put in
+        let m : n ≡ length (runOf v name from .records) = sym (length-take-le n out (c .reach)) ∙ ap length p in
+        sym (take-append-drop n out) ∙ ap (λ x. x ++ drop n out) p ∙ ap (λ x. runOf v name from .records ++ x) (c .kept) ∙ ap (λ k. runOf v name from .records ++ drop k old) m

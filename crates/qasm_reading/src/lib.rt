@@ -1,3 +1,3 @@
-// A circuit's text in OpenQASM 2.0, read.
+// A circuit's text in OpenQASM 2.0 or 3.0, read.
 pub mod read;
 mod run;

@@ -1,20 +1,34 @@
 // The reader of a circuit's text. It judges form only, and writes nothing before the whole text is judged.
 use crate::run;
-use gates::job::Job;
 use reading::read::MOST_BYTES;
-use reading::read::Reading;
 use spots::spot::Spot;
 use statements::gate;
 use statements::head;
 use verdicts::verdict::Verdict;
+use versions::Version;
 use words::byte;
 use words::word;
 ghost use mathlib.Core.Path.{_≡_};
+ghost use mathlib.Core.List.{[]};
+ghost use mathlib.Core.Option.{some};
 ghost use lib.ListN.{length, drop};
-ghost use Rattle.reading.specs.Readings.{listAfter};
 ghost use Rattle.words.specs.Words.{words};
-ghost use Rattle.qasm_reading.specs.Parsing.{headFault, parsed};
-ghost use Rattle.qasm_reading.specs.Readings.{readingOf, gatesIn, answerOf, lineOf, BodyRead};
+ghost use Rattle.statements.specs.Statements.{includeOf};
+ghost use Rattle.qasm_reading.specs.Parsing.{headFault, registered, included, parsed};
+ghost use Rattle.qasm_reading.specs.Readings.{readingOf, listAfter, gatesIn, answerOf, lineOf, FoundRead};
+
+// What a circuit's text holds beside the records of its gates: how many they are, and the common phase in half units.
+pub struct Circuit {
+    pub version: Version,
+    pub qubits: usize,
+    pub gates: usize,
+    pub phase: u32,
+}
+
+pub enum Reading {
+    Read { circuit: Circuit },
+    Refused { verdict: Verdict },
+}
 
 // The line on which the first word at `at` or behind starts; 0 where there is none.
 fn line_of(text: &[u8], at: usize) -> usize
@@ -28,7 +42,7 @@ fn line_of(text: &[u8], at: usize) -> usize
     0
 }
 
-// One of the first three statements does not stand at `at`.
+// The include line or the register does not stand at `at`.
 fn head_fault(text: &[u8], at: usize) -> Reading
     ensures { λ r. ⌜ r ≡ answerOf (now (text .entry)) 0 (headFault (words (drop at (now (text .entry))))) ⌝ }
 {
@@ -43,14 +57,14 @@ fn head_fault(text: &[u8], at: usize) -> Reading
 }
 
 // The gates, behind the register.
-fn body(text: &[u8], name: &[u8], n: u32, at: usize, gates: &mut [u32]) -> Reading
-    ensures { λ r. ⌜ BodyRead (now (text .entry)) (now (name .entry)) n at (now (gates .entry)) r (now (gates .exit)) ⌝ }
+fn body(text: &[u8], version: Version, name: &[u8], n: u32, at: usize, gates: &mut [u32]) -> Reading
+    ensures { λ r. ⌜ FoundRead (now (text .entry)) (registered version (now (name .entry)) n (some (words (drop at (now (text .entry))))) []) (now (gates .entry)) r (now (gates .exit)) ⌝ }
 {
-    let g = run::count(text, name, at);
+    let g = run::count(text, version, name, at);
     let next = g.next;
     let place = line_of(text, next);
     if 0 < place {
-        if gate::bad_angle(text, name, next) {
+        if gate::bad_angle(text, version, name, next) {
             return Reading::Refused {
                 verdict: Verdict::Angle(place),
             };
@@ -64,13 +78,34 @@ fn body(text: &[u8], name: &[u8], n: u32, at: usize, gates: &mut [u32]) -> Readi
             verdict: Verdict::Room,
         };
     }
-    run::fill(text, name, at, &mut *gates);
+    run::fill(text, version, name, at, &mut *gates);
     Reading::Read {
-        job: Job {
+        circuit: Circuit {
+            version,
             qubits: n as usize,
-            couplers: 0,
             gates: g.count,
+            phase: g.phase,
         },
+    }
+}
+
+// Behind the version, which ends at `at`.
+fn behind_version(text: &[u8], version: Version, at: usize, gates: &mut [u32]) -> Reading
+    ensures { λ r. ⌜ FoundRead (now (text .entry)) (included version (includeOf version (some (words (drop at (now (text .entry)))))) (words (drop at (now (text .entry))))) (now (gates .entry)) r (now (gates .exit)) ⌝ }
+{
+    let i = head::include(text, Spot::At(at), version);
+    match i {
+        Spot::Lost => head_fault(text, at),
+        Spot::At(p) => {
+            let r = head::register(text, i, version);
+            let from = r.from;
+            let to = r.to;
+            let r_next = r.next;
+            match r_next {
+                Spot::Lost => head_fault(text, p),
+                Spot::At(q) => body(text, version, &text[from..to], r.size, q, &mut *gates),
+            }
+        }
     }
 }
 
@@ -82,23 +117,16 @@ pub fn read(text: &[u8], gates: &mut [u32]) -> Reading
             verdict: Verdict::LongText,
         };
     }
-    let v = head::version(text, Spot::At(0));
-    match v {
-        Spot::Lost => head_fault(text, 0),
-        Spot::At(p1) => {
-            let i = head::include(text, v);
-            match i {
-                Spot::Lost => head_fault(text, p1),
-                Spot::At(p2) => {
-                    let r = head::register(text, i);
-                    let from = r.from;
-                    let to = r.to;
-                    let r_next = r.next;
-                    match r_next {
-                        Spot::Lost => head_fault(text, p2),
-                        Spot::At(p3) => body(text, &text[from..to], r.size, p3, &mut *gates),
-                    }
-                }
+    let two = head::version(text, Spot::At(0), Version::Two);
+    match two {
+        Spot::At(p) => behind_version(text, Version::Two, p, &mut *gates),
+        Spot::Lost => {
+            let three = head::version(text, Spot::At(0), Version::Three);
+            match three {
+                Spot::At(p) => behind_version(text, Version::Three, p, &mut *gates),
+                Spot::Lost => Reading::Refused {
+                    verdict: Verdict::Unversioned,
+                },
             }
         }
     }

@@ -14,52 +14,53 @@ use Rattle.verdicts.proofs.Judged.{then-on, then-stop, then-zero}
 use Rattle.text.specs.declared.write.Writing.the-variants.{Written, Refused}
 use Rattle.text.specs.Writings.{judgedRoom}
 use Rattle.text.proofs.Judging.{room-zero}
+use Rattle.versions.specs.declared.Version.{Version}
 use Rattle.qasm_lines.specs.Spelling.{circuitText}
 use Rattle.qasm_text.specs.Writings.{judgedCircuit, writingOf}
 
-module _ (n : ℕ) (gs : List ℕ) (room : ℕ) where
-  pub judged-qubits : (numberOf (judgedQubits n) ≡ 0 → ⊥) → judgedQubits n ≡ judgedCircuit n gs room
+module _ (v : Version) (n : ℕ) (gs : List ℕ) (g room : ℕ) where
+  pub judged-qubits : (numberOf (judgedQubits n) ≡ 0 → ⊥) → judgedQubits n ≡ judgedCircuit v n gs g room
   unfolding judgedCircuit
   judged-qubits a = then-stop (judgedQubits n) _ a
 
   module _ (a : numberOf (judgedQubits n) ≡ 0) where
-    pub judged-drawn : (numberOf (judgedDrawn n gs) ≡ 0 → ⊥) → judgedDrawn n gs ≡ judgedCircuit n gs room
+    pub judged-drawn : (numberOf (judgedDrawn n gs) ≡ 0 → ⊥) → judgedDrawn n gs ≡ judgedCircuit v n gs g room
     unfolding judgedCircuit
     judged-drawn b = then-stop (judgedDrawn n gs) _ b ∙ then-on (judgedQubits n) _ a
 
-    pub judged-room : numberOf (judgedDrawn n gs) ≡ 0 → judgedRoom (length (circuitText n gs)) room ≡ judgedCircuit n gs room
+    pub judged-room : numberOf (judgedDrawn n gs) ≡ 0 → judgedRoom (length (circuitText v n gs g)) room ≡ judgedCircuit v n gs g room
     unfolding judgedCircuit
     judged-room b = then-on (judgedDrawn n gs) _ b ∙ then-on (judgedQubits n) _ a
 
 -- what the writer accepts
-pub record Accepts (n : ℕ) (gs : List ℕ) (room : ℕ) : Type 0 where
+pub record Accepts (v : Version) (n : ℕ) (gs : List ℕ) (g room : ℕ) : Type 0 where
   pub qubits : numberOf (judgedQubits n) ≡ 0
   pub gates : numberOf (judgedDrawn n gs) ≡ 0
-  pub fits : length (circuitText n gs) ≤ room
+  pub fits : length (circuitText v n gs g) ≤ room
 
-module _ (n : ℕ) (gs : List ℕ) (room : ℕ) where
-  pub accepts : numberOf (judgedCircuit n gs room) ≡ 0 → Accepts n gs room
+module _ (v : Version) (n : ℕ) (gs : List ℕ) (g room : ℕ) where
+  pub accepts : numberOf (judgedCircuit v n gs g room) ≡ 0 → Accepts v n gs g room
   unfolding judgedCircuit
   accepts e =
-      let r = judgedRoom (length (circuitText n gs)) room in
+      let r = judgedRoom (length (circuitText v n gs g)) room in
       let a = then-zero (judgedQubits n) (andThen (judgedDrawn n gs) r) e in
       let b = then-zero (judgedDrawn n gs) r (a .1) in
-      record { qubits = a .0; gates = b .0; fits = room-zero (length (circuitText n gs)) room (b .1) }
+      record { qubits = a .0; gates = b .0; fits = room-zero (length (circuitText v n gs g)) room (b .1) }
 
-  pub writing-yes : numberOf (judgedCircuit n gs room) ≡ 0 → Written (length (circuitText n gs)) ≡ writingOf n gs room
+  pub writing-yes : numberOf (judgedCircuit v n gs g room) ≡ 0 → Written (length (circuitText v n gs g)) ≡ writingOf v n gs g room
   unfolding writingOf
-  writing-yes e = rw (eq-eqb (numberOf (judgedCircuit n gs room)) 0 e)
+  writing-yes e = rw (eq-eqb (numberOf (judgedCircuit v n gs g room)) 0 e)
 
-  pub writing-no : (numberOf (judgedCircuit n gs room) ≡ 0 → ⊥) → Refused (judgedCircuit n gs room) ≡ writingOf n gs room
+  pub writing-no : (numberOf (judgedCircuit v n gs g room) ≡ 0 → ⊥) → Refused (judgedCircuit v n gs g room) ≡ writingOf v n gs g room
   unfolding writingOf
-  writing-no e = rw (ne-eqb (numberOf (judgedCircuit n gs room)) 0 e)
+  writing-no e = rw (ne-eqb (numberOf (judgedCircuit v n gs g room)) 0 e)
 
   -- the writer accepts where it writes, and then it writes the whole text
-  pub written : (bytes : ℕ) → writingOf n gs room ≡ Written bytes → (bytes ≡ length (circuitText n gs)) × Accepts n gs room
+  pub written : (bytes : ℕ) → writingOf v n gs g room ≡ Written bytes → (bytes ≡ length (circuitText v n gs g)) × Accepts v n gs g room
   unfolding writingOf
-  written bytes e = go (eqb (numberOf (judgedCircuit n gs room)) 0) refl e
+  written bytes e = go (eqb (numberOf (judgedCircuit v n gs g room)) 0) refl e
     where
-      go : (t : Bool) → eqb (numberOf (judgedCircuit n gs room)) 0 ≡ t → pick t (Written (length (circuitText n gs))) (Refused (judgedCircuit n gs room)) ≡ Written bytes
-          → (bytes ≡ length (circuitText n gs)) × Accepts n gs room
-      go true q e = (cc e, accepts (eqb-true (numberOf (judgedCircuit n gs room)) 0 q))
+      go : (t : Bool) → eqb (numberOf (judgedCircuit v n gs g room)) 0 ≡ t → pick t (Written (length (circuitText v n gs g))) (Refused (judgedCircuit v n gs g room)) ≡ Written bytes
+          → (bytes ≡ length (circuitText v n gs g)) × Accepts v n gs g room
+      go true q e = (cc e, accepts (eqb-true (numberOf (judgedCircuit v n gs g room)) 0 q))
       go false q e = let z : _≡_ {A = ℕ} 0 1 = cc e in absurd (omega arith)

@@ -13,20 +13,21 @@ use Rattle.verdicts.specs.Rows.{Row, Nowhere, Passes1, PassesDrawn}
 use Rattle.verdicts.proofs.Rows.{Tests, row-fails, row-passes, row-then, row-first, Beyond, beyond-not, beyond-test, beyond-then, tests-1, tests-drawn}
 use Rattle.text.specs.Writings.{writeVerdict, judgedRoom}
 use Rattle.text.proofs.Rows.{room-tests}
+use Rattle.versions.specs.declared.Version.{Version}
 use Rattle.qasm_lines.specs.Spelling.{circuitText}
 use Rattle.qasm_text.specs.Writings.{judgedCircuit, writingOf}
 use Rattle.qasm_text.specs.Rows.{WritingRows}
 use Rattle.qasm_text.proofs.Values.{writing-verdict}
 
-module _ (n : ℕ) (gates : List ℕ) (room : ℕ) where
+module _ (v : Version) (n : ℕ) (gates : List ℕ) (g room : ℕ) where
   abbrev judgedFit : Verdict
-  judgedFit = judgedRoom (length (circuitText n gates)) room
+  judgedFit = judgedRoom (length (circuitText v n gates g)) room
 
   abbrev behind1 : Verdict
   behind1 = andThen (judgedDrawn n gates) judgedFit
 
-  tests-8 : Tests judgedFit 8 (length (circuitText n gates) ≤ room) (room < length (circuitText n gates)) Nowhere
-  tests-8 = room-tests (length (circuitText n gates)) room Room (omega arith) refl
+  tests-8 : Tests judgedFit 8 (length (circuitText v n gates g) ≤ room) (room < length (circuitText v n gates g)) Nowhere
+  tests-8 = room-tests (length (circuitText v n gates g)) room Room (omega arith) refl
 
   beyond5 : Beyond 5 judgedFit
   beyond5 = beyond-test tests-8 5 (omega arith)
@@ -40,7 +41,7 @@ module _ (n : ℕ) (gates : List ℕ) (room : ℕ) where
   past5 : (j : ℕ) {When : Type 0} {At : ℕ → Type 0} → j ≢ 1 → j ≢ 5 → Row judgedFit j When At → Row (andThen (judgedQubits n) behind1) j (Passes1 n × (PassesDrawn n gates × When)) At
   past5 j a b r = past1 j a (row-then (tests-drawn n gates) judgedFit j b (λ p. r))
 
-  judged-rows : WritingRows n gates room (judgedCircuit n gates room)
+  judged-rows : WritingRows v n gates g room (judgedCircuit v n gates g room)
   unfolding judgedCircuit
   judged-rows = record {
     row-0 = past5 0 (λ e. omega (arith, e)) (λ e. omega (arith, e)) (row-passes tests-8);
@@ -49,5 +50,5 @@ module _ (n : ℕ) (gates : List ℕ) (room : ℕ) where
     row-8 = past5 8 (λ e. omega (arith, e)) (λ e. omega (arith, e)) (row-fails tests-8);
   }
 
-  pub writing-rows : WritingRows n gates room (writeVerdict (writingOf n gates room))
-  writing-rows = subst (WritingRows n gates room) (sym (writing-verdict n gates room)) judged-rows
+  pub writing-rows : WritingRows v n gates g room (writeVerdict (writingOf v n gates g room))
+  writing-rows = subst (WritingRows v n gates g room) (sym (writing-verdict v n gates g room)) judged-rows

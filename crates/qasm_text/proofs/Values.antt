@@ -12,22 +12,23 @@ use Rattle.verdicts.specs.Verdicts.{numberOf}
 use Rattle.verdicts.proofs.Judged.{zero-accepted}
 use Rattle.text.specs.declared.write.Writing.the-variants.{Written, Refused}
 use Rattle.text.specs.Writings.{writeVerdict, writeBytes}
+use Rattle.versions.specs.declared.Version.{Version}
 use Rattle.qasm_lines.specs.Spelling.{circuitText}
 use Rattle.qasm_text.specs.Writings.{judgedCircuit, writingOf}
 
-module _ (n : ℕ) (gates : List ℕ) (room : ℕ) where
-  pub writing-verdict : writeVerdict (writingOf n gates room) ≡ judgedCircuit n gates room
+module _ (v : Version) (n : ℕ) (gates : List ℕ) (g room : ℕ) where
+  pub writing-verdict : writeVerdict (writingOf v n gates g room) ≡ judgedCircuit v n gates g room
   unfolding writingOf
-  writing-verdict = go (judgedCircuit n gates room) (eqb (numberOf (judgedCircuit n gates room)) 0) refl
+  writing-verdict = go (judgedCircuit v n gates g room) (eqb (numberOf (judgedCircuit v n gates g room)) 0) refl
     where
-      go : (v : Verdict) (t : Bool) → eqb (numberOf v) 0 ≡ t → writeVerdict (pick t (Written (length (circuitText n gates))) (Refused v)) ≡ v
-      go v true e = sym (zero-accepted v (eqb-true (numberOf v) 0 e))
-      go v false e = refl
+      go : (w : Verdict) (t : Bool) → eqb (numberOf w) 0 ≡ t → writeVerdict (pick t (Written (length (circuitText v n gates g))) (Refused w)) ≡ w
+      go w true e = sym (zero-accepted w (eqb-true (numberOf w) 0 e))
+      go w false e = refl
 
-  pub writing-values : writeBytes (writingOf n gates room) ≡ pick (eqb (numberOf (judgedCircuit n gates room)) 0) (length (circuitText n gates)) 0
+  pub writing-values : writeBytes (writingOf v n gates g room) ≡ pick (eqb (numberOf (judgedCircuit v n gates g room)) 0) (length (circuitText v n gates g)) 0
   unfolding writingOf
-  writing-values = go (judgedCircuit n gates room) (eqb (numberOf (judgedCircuit n gates room)) 0)
+  writing-values = go (judgedCircuit v n gates g room) (eqb (numberOf (judgedCircuit v n gates g room)) 0)
     where
-      go : (v : Verdict) (t : Bool) → writeBytes (pick t (Written (length (circuitText n gates))) (Refused v)) ≡ pick t (length (circuitText n gates)) 0
-      go v true = refl
-      go v false = refl
+      go : (w : Verdict) (t : Bool) → writeBytes (pick t (Written (length (circuitText v n gates g))) (Refused w)) ≡ pick t (length (circuitText v n gates g)) 0
+      go w true = refl
+      go w false = refl

@@ -2,7 +2,7 @@
 use mathlib.Core.Path.{_≡_, refl, sym, ap, _∙_}
 use mathlib.Core.Logic.{_⊎_, inl, inr}
 use mathlib.Core.Bool.{Bool, true, false}
-use mathlib.Core.List.{List, [], _∷_, _++_, append-assoc}
+use mathlib.Core.List.{List, [], _∷_, _++_, append-assoc, append-nil}
 use Prim.Native.Nat.{ℕ, zero, suc, _+_, _/_, _%_, _≤_, _<_}
 use native.Mathlib.Omega.{arith}
 use lib.Dec.{eqb, ltb}
@@ -12,21 +12,26 @@ use Rattle.sets.specs.Pick.{both, either}
 use Rattle.gates.specs.Layout.{packed, kindIn, aIn, bIn}
 use Rattle.gates.proofs.Records.{packed-back}
 use Rattle.verdicts.specs.Rows.{BadDrawn, PassesDrawn}
+use Rattle.circuit.specs.Phase.{phases}
 use Rattle.lines.specs.Lines.{digitsIn, digits}
 use Rattle.lines.proofs.Digits.{digits-small, digits-big}
 use Rattle.lines.proofs.Layouts.{b-lt}
+use Rattle.angles.specs.declared.Scale.the-variants.{Halves}
 use Rattle.angles.specs.Units.{isOver}
-use Rattle.angles.proofs.Laws.{units-written}
+use Rattle.angles.proofs.Laws.{count-written, units-written}
 use Rattle.words.specs.Bytes.{blank, small, inName, inWord, goesOn, slashes, AllOn}
-use Rattle.words.specs.Words.{run, after, ended, lex, words, bodies}
+use Rattle.words.specs.Words.{note, run, after, ended, lex, words, bodies}
 use Rattle.words.specs.Taking.{isName, allInName}
-use Rattle.words.proofs.Steps.{Stops, run-stop}
+use Rattle.words.proofs.Steps.{Stops, note-is, run-stop}
 use Rattle.words.proofs.Forth.{word-forth}
-use Rattle.statements.specs.Spelling.{openqasm, two, include, qelib, qreg, mark}
-use Rattle.statements.specs.Forms.{Form, cnot, turn, xgate, hadamard, many, over, GoodForm, GoodTimes, GoodOver, AllGood, timesWords, overWords, minusWords, qubitWords, formWords, formsWords, versionWords, includeWords, registerWords, headWords, timesIn, overIn, recordIn, recordsIn}
+use Rattle.versions.specs.declared.Version.{Version}
+use Rattle.versions.specs.declared.Version.the-variants.{Two, Three}
+use Rattle.statements.specs.Spelling.{openqasm, numeral, include, library, qreg, qubit, gphase, mark}
+use Rattle.statements.specs.Forms.{Rotor, asU1, asP, Form, cnot, turn, xgate, hadamard, common, many, over, Newer, Carried, GoodForm, GoodTimes, GoodOver, AllGood, timesWords, overWords, minusWords, qubitWords, rotorWord, formWords, formsWords, versionWords, includeWords, registerWords, headWords, timesIn, overIn, formRecord, recordsIn, formPhase, phaseOfForms}
 use Rattle.qasm_reading.specs.Texts.{CircuitText}
-use Rattle.qasm_lines.specs.Spelling.{gateText, gatesText, headText, circuitText}
-use Rattle.qasm_lines.proofs.Spelt.{gate-cnot, gate-turn, gate-x, gate-hadamard, head-spelt}
+use Rattle.qasm_lines.specs.Spelling.{gateText, gatesText, headText, phaseText, circuitText}
+use Rattle.qasm_lines.proofs.Spelt.{turnFront, headFront, phaseFront, phase-none, gate-cnot, gate-turn, gate-x, gate-hadamard, head-spelt, phase-spelt}
+use Rattle.qasm_text.specs.Writings.{readPhase}
 use Rattle.qasm_text.proofs.Sizes.{first-within, second-within}
 
 -- ---- numbers
@@ -100,13 +105,49 @@ mark-digits x v t a b c =
     let n = number v in
     rw (n .same) (ap (λ l. bodies l) (run-stop x (mark x) (((48 + n .first) ∷ n .others) ++ t) (record { stop = λ _. rw (a, b); clear = λ _. rw c })))
 
+-- a comment goes on over what goes on a word, as a number's digits
+on-lf : (f : ℕ) → goesOn f 10 ≡ false
+unfolding goesOn inWord inName small
+on-lf f = go (either (inWord f) (eqb f 34)) (eqb f 34)
+  where
+    go : (a b : Bool) → either (both a false) (both b false) ≡ false
+    go true true = refl
+    go true false = refl
+    go false true = refl
+    go false false = refl
+
+note-all : (f : ℕ) (xs t : List ℕ) → AllOn f xs → lex note (xs ++ t) ≡ lex note t
+note-all f [] t h = refl
+note-all f (x ∷ xs) t h = note-is x (xs ++ t) ∙ rw (ne-eqb x 10 no-lf) (note-all f xs t (h .1))
+  where
+    no-lf : x ≡ 10 → ⊥
+    no-lf e =
+        let q : true ≡ false = sym (h .0) ∙ ap (goesOn f) e ∙ on-lf f in
+        let z : _≡_ {A = ℕ} 0 1 = cc q in absurd (omega arith)
+
+note-digits : (v : ℕ) (t : List ℕ) → lex note (digits v ++ t) ≡ lex note t
+note-digits v t =
+    let n = number v in
+    rw (n .same) (note-is (48 + n .first) (n .others ++ t) ∙ rw (ne-eqb (48 + n .first) 10 (λ (e : 48 + n .first ≡ 10). omega arith)) (note-all (48 + n .first) (n .others) t (n .on)))
+
 -- ---- the bytes between numbers
 
+-- how we write a rotation
+abbrev rotorOf : Version → Rotor
+rotorOf Two = asU1
+rotorOf Three = asP
+
+-- what stands before the `[` of the register
+abbrev registerFront : Version → List (List ℕ)
+registerFront Two = qreg ∷ mark 113 ∷ []
+registerFront Three = qubit ∷ []
+
 module _ (r : List ℕ) where
-  head-front : bodies (words (79 ∷ 80 ∷ 69 ∷ 78 ∷ 81 ∷ 65 ∷ 83 ∷ 77 ∷ 32 ∷ 50 ∷ 46 ∷ 48 ∷ 59 ∷ 10 ∷ 105 ∷ 110 ∷ 99 ∷ 108 ∷ 117 ∷ 100 ∷ 101 ∷ 32 ∷ 34 ∷ 113 ∷ 101 ∷ 108 ∷ 105 ∷ 98 ∷ 49 ∷ 46 ∷ 105 ∷ 110 ∷ 99 ∷ 34 ∷ 59 ∷ 10 ∷ 113 ∷ 114 ∷ 101 ∷ 103 ∷ 32 ∷ 113 ∷ 91 ∷ r))
-      ≡ openqasm ∷ two ∷ mark 59 ∷ include ∷ qelib ∷ mark 59 ∷ qreg ∷ mark 113 ∷ bodies (lex (run 91 (mark 91)) r)
+  head-front : (v : Version)
+      → bodies (words (headFront v ++ r)) ≡ openqasm ∷ numeral v ∷ mark 59 ∷ include ∷ library v ∷ mark 59 ∷ (registerFront v ++ bodies (lex (run 91 (mark 91)) r))
   unfolding lex after ended blank goesOn inWord inName small slashes
-  head-front = refl
+  head-front Two = refl
+  head-front Three = refl
 
   cnot-front : bodies (words (99 ∷ 120 ∷ 32 ∷ 113 ∷ 91 ∷ r)) ≡ (99 ∷ 120 ∷ []) ∷ mark 113 ∷ bodies (lex (run 91 (mark 91)) r)
   unfolding lex after ended blank goesOn inWord inName small slashes
@@ -116,9 +157,10 @@ module _ (r : List ℕ) where
   unfolding lex after ended blank goesOn inWord inName small slashes
   cnot-middle = refl
 
-  turn-front : bodies (words (117 ∷ 49 ∷ 40 ∷ r)) ≡ (117 ∷ 49 ∷ []) ∷ bodies (lex (run 40 (mark 40)) r)
+  turn-front : (v : Version) → bodies (words (turnFront v ++ r)) ≡ rotorWord (rotorOf v) ∷ bodies (lex (run 40 (mark 40)) r)
   unfolding lex after ended blank goesOn inWord inName small slashes
-  turn-front = refl
+  turn-front Two = refl
+  turn-front Three = refl
 
   turn-middle : bodies (words (42 ∷ 112 ∷ 105 ∷ 47 ∷ 51 ∷ 50 ∷ 55 ∷ 54 ∷ 56 ∷ 41 ∷ 32 ∷ 113 ∷ 91 ∷ r))
       ≡ mark 42 ∷ (112 ∷ 105 ∷ []) ∷ mark 47 ∷ digits 32768 ∷ mark 41 ∷ mark 113 ∷ bodies (lex (run 91 (mark 91)) r)
@@ -137,50 +179,96 @@ module _ (r : List ℕ) where
   unfolding lex after ended blank goesOn inWord inName small slashes
   ending = refl
 
+  -- `] q;`
+  name-ending : bodies (words (93 ∷ 32 ∷ 113 ∷ 59 ∷ 10 ∷ r)) ≡ mark 93 ∷ mark 113 ∷ mark 59 ∷ bodies (words r)
+  unfolding lex after ended blank goesOn inWord inName small slashes
+  name-ending = refl
+
+  -- a comment opens
+  comment-front : words (phaseFront Two ++ r) ≡ lex note r
+  unfolding lex after ended blank goesOn inWord inName small slashes
+  comment-front = refl
+
+  phase-front : bodies (words (phaseFront Three ++ r)) ≡ gphase ∷ bodies (lex (run 40 (mark 40)) r)
+  unfolding lex after ended blank goesOn inWord inName small slashes
+  phase-front = refl
+
+comment-ending : lex note (42 ∷ 112 ∷ 105 ∷ 47 ∷ 54 ∷ 53 ∷ 53 ∷ 51 ∷ 54 ∷ 10 ∷ []) ≡ []
+unfolding lex after
+comment-ending = refl
+
+phase-ending : bodies (words (42 ∷ 112 ∷ 105 ∷ 47 ∷ 54 ∷ 53 ∷ 53 ∷ 51 ∷ 54 ∷ 41 ∷ 59 ∷ 10 ∷ [])) ≡ mark 42 ∷ (112 ∷ 105 ∷ []) ∷ mark 47 ∷ digits 65536 ∷ mark 41 ∷ mark 59 ∷ []
+unfolding lex after ended blank goesOn inWord inName small slashes digits digitsIn
+phase-ending = refl
+
 bracket-digits : (v y : ℕ) (t : List ℕ) → inWord y ≡ false → bodies (lex (run 91 (mark 91)) (digits v ++ (y ∷ t))) ≡ mark 91 ∷ digits v ∷ bodies (words (y ∷ t))
 unfolding inWord inName small
 bracket-digits v y t h = mark-digits 91 v (y ∷ t) refl refl refl ∙ ap (λ l. mark 91 ∷ l) (digits-word v y t h)
 
 -- ---- a statement, and what stands behind it
 
-module _ (x : ℕ) (t : List ℕ) where
-  cnot-words : kindIn x ≡ 1 → bodies (words (gateText x ++ t)) ≡ formWords (mark 113) (cnot (aIn x) (bIn x)) ++ bodies (words t)
+module _ (v : Version) (x : ℕ) (t : List ℕ) where
+  cnot-words : kindIn x ≡ 1 → bodies (words (gateText v x ++ t)) ≡ formWords (mark 113) (cnot (aIn x) (bIn x)) ++ bodies (words t)
   unfolding formWords qubitWords inWord inName small
   cnot-words k =
-      rw (gate-cnot x k, append-assoc (digits (aIn x)), append-assoc (digits (bIn x))) (cnot-front _ ∙ rw (bracket-digits (aIn x) 93 _ refl, cnot-middle, bracket-digits (bIn x) 93 _ refl, ending))
+      rw (gate-cnot v x k, append-assoc (digits (aIn x)), append-assoc (digits (bIn x))) (cnot-front _ ∙ rw (bracket-digits (aIn x) 93 _ refl, cnot-middle, bracket-digits (bIn x) 93 _ refl, ending))
 
-  turn-words : kindIn x ≡ 2 → bodies (words (gateText x ++ t)) ≡ formWords (mark 113) (turn false (many (bIn x)) (over 32768) (aIn x)) ++ bodies (words t)
+  turn-words : kindIn x ≡ 2 → bodies (words (gateText v x ++ t)) ≡ formWords (mark 113) (turn (rotorOf v) false (many (bIn x)) (over 32768) (aIn x)) ++ bodies (words t)
   unfolding formWords minusWords timesWords overWords qubitWords inWord inName small
   turn-words k =
-      rw (gate-turn x k, append-assoc (digits (bIn x)), append-assoc (digits (aIn x)))
-      (turn-front _ ∙ rw (mark-digits 40 (bIn x) _ refl refl refl, digits-word (bIn x) 42 _ refl, turn-middle, bracket-digits (aIn x) 93 _ refl, ending))
+      rw (gate-turn v x k, append-assoc (turnFront v), append-assoc (digits (bIn x)), append-assoc (digits (aIn x)))
+      (turn-front _ v ∙ rw (mark-digits 40 (bIn x) _ refl refl refl, digits-word (bIn x) 42 _ refl, turn-middle, bracket-digits (aIn x) 93 _ refl, ending))
 
-  x-words : kindIn x ≡ 3 → bodies (words (gateText x ++ t)) ≡ formWords (mark 113) (xgate (aIn x)) ++ bodies (words t)
+  x-words : kindIn x ≡ 3 → bodies (words (gateText v x ++ t)) ≡ formWords (mark 113) (xgate (aIn x)) ++ bodies (words t)
   unfolding formWords qubitWords inWord inName small
-  x-words k = rw (gate-x x k, append-assoc (digits (aIn x))) (x-front _ ∙ rw (bracket-digits (aIn x) 93 _ refl, ending))
+  x-words k = rw (gate-x v x k, append-assoc (digits (aIn x))) (x-front _ ∙ rw (bracket-digits (aIn x) 93 _ refl, ending))
 
-  hadamard-words : kindIn x ≡ 4 → bodies (words (gateText x ++ t)) ≡ formWords (mark 113) (hadamard (aIn x)) ++ bodies (words t)
+  hadamard-words : kindIn x ≡ 4 → bodies (words (gateText v x ++ t)) ≡ formWords (mark 113) (hadamard (aIn x)) ++ bodies (words t)
   unfolding formWords qubitWords inWord inName small
-  hadamard-words k = rw (gate-hadamard x k, append-assoc (digits (aIn x))) (hadamard-front _ ∙ rw (bracket-digits (aIn x) 93 _ refl, ending))
+  hadamard-words k = rw (gate-hadamard v x k, append-assoc (digits (aIn x))) (hadamard-front _ ∙ rw (bracket-digits (aIn x) 93 _ refl, ending))
 
-head-words : (n : ℕ) (t : List ℕ) → bodies (words (headText n ++ t)) ≡ headWords (mark 113) n ++ bodies (words t)
+head-words : (v : Version) (n : ℕ) (t : List ℕ) → bodies (words (headText v n ++ t)) ≡ headWords v (mark 113) n ++ bodies (words t)
 unfolding headWords versionWords includeWords registerWords inWord inName small
-head-words n t = rw (head-spelt n, append-assoc (digits n)) (head-front _ ∙ rw (bracket-digits n 93 _ refl, ending))
+head-words Two n t = rw (head-spelt Two n, append-assoc (digits n)) (head-front _ Two ∙ rw (bracket-digits n 93 _ refl, ending))
+head-words Three n t = rw (head-spelt Three n, append-assoc (digits n)) (head-front _ Three ∙ rw (bracket-digits n 93 _ refl, name-ending))
+
+-- ---- the common phase, last
+
+module _ (g : ℕ) (h : g % 131072 ≡ 0 → ⊥) where
+  -- a comment is no word
+  comment-words : bodies (words (phaseText Two g)) ≡ []
+  comment-words = rw (phase-spelt Two g h) (ap (λ l. bodies l) (comment-front _ ∙ note-digits (g % 131072) _ ∙ comment-ending))
+
+  phase-words : bodies (words (phaseText Three g)) ≡ formWords (mark 113) (common false (many (g % 131072)) (over 65536))
+  unfolding formWords minusWords timesWords overWords inWord inName small
+  phase-words = rw (phase-spelt Three g h) (phase-front _ ∙ rw (mark-digits 40 (g % 131072) _ refl refl refl, digits-word (g % 131072) 42 _ refl, phase-ending))
 
 -- ---- the text of a circuit
 
 -- the form in which we write a record
-record Spelt (x : ℕ) : Type 0 where
+record Spelt (v : Version) (x : ℕ) : Type 0 where
   form : Form
-  good : GoodForm form
-  meant : recordIn form ≡ x
-  spelt : (t : List ℕ) → bodies (words (gateText x ++ t)) ≡ formWords (mark 113) form ++ bodies (words t)
+  good : GoodForm v form
+  meant : formRecord form ≡ x ∷ []
+  still : formPhase v form ≡ 0
+  spelt : (t : List ℕ) → bodies (words (gateText v x ++ t)) ≡ formWords (mark 113) form ++ bodies (words t)
 
 -- a record is that of its kind and its two numbers
-again : (x k b : ℕ) → kindIn x ≡ k → bIn x ≡ b → packed k (aIn x) b ≡ x
-again x k b e f = rw (← e, ← f) (packed-back x)
+again : (x k b : ℕ) → kindIn x ≡ k → bIn x ≡ b → packed k (aIn x) b ∷ [] ≡ x ∷ []
+again x k b e f = rw (← e, ← f) (ap (λ y. y ∷ []) (packed-back x))
 
-module _ (n x : ℕ) (few : n ≤ 255) (fine : BadDrawn n x → ⊥) where
+-- a rotation as we write it
+carried : (v : Version) → Carried v (rotorOf v)
+unfolding Carried Newer
+carried Two = tt
+carried Three = tt
+
+turn-still : (v : Version) (k d a : ℕ) → formPhase v (turn (rotorOf v) false (many k) (over d) a) ≡ 0
+unfolding formPhase
+turn-still Two k d a = refl
+turn-still Three k d a = refl
+
+module _ (v : Version) (n x : ℕ) (few : n ≤ 255) (fine : BadDrawn n x → ⊥) where
   low : aIn x ≤ 255
   low = omega (arith, first-within n x fine)
 
@@ -192,61 +280,105 @@ module _ (n x : ℕ) (few : n ≤ 255) (fine : BadDrawn n x → ⊥) where
       go true e = eqb-true (bIn x) 0 e
       go false e = absurd (fine (inr (inr (inr (k, eqb-false (bIn x) 0 e)))))
 
-  spelt-cnot : kindIn x ≡ 1 → Spelt x
-  unfolding GoodForm recordIn
-  spelt-cnot k = record { form = cnot (aIn x) (bIn x); good = (low, omega (arith, second-within n x fine k)); meant = again x 1 (bIn x) k refl; spelt = λ t. cnot-words x t k }
-
-  spelt-turn : kindIn x ≡ 2 → Spelt x
-  unfolding GoodForm GoodTimes GoodOver recordIn timesIn overIn isOver
-  spelt-turn k = record {
-    form = turn false (many (bIn x)) (over 32768) (aIn x);
-    good = (omega (arith, b-lt x), refl, low);
-    meant = ap (packed 2 (aIn x)) (units-written (bIn x) (b-lt x)) ∙ again x 2 (bIn x) k refl;
-    spelt = λ t. turn-words x t k;
+  spelt-cnot : kindIn x ≡ 1 → Spelt v x
+  unfolding GoodForm formRecord formPhase
+  spelt-cnot k = record {
+    form = cnot (aIn x) (bIn x);
+    good = (low, omega (arith, second-within n x fine k));
+    meant = again x 1 (bIn x) k refl;
+    still = refl;
+    spelt = λ t. cnot-words v x t k;
   }
 
-  spelt-x : kindIn x ≡ 3 → Spelt x
-  unfolding GoodForm recordIn
-  spelt-x k = record { form = xgate (aIn x); good = low; meant = again x 3 0 k (no-angle (inl k)); spelt = λ t. x-words x t k }
+  spelt-turn : kindIn x ≡ 2 → Spelt v x
+  unfolding GoodForm GoodTimes GoodOver formRecord timesIn overIn isOver
+  spelt-turn k = record {
+    form = turn (rotorOf v) false (many (bIn x)) (over 32768) (aIn x);
+    good = (carried v, omega (arith, b-lt x), refl, low);
+    meant = ap (λ u. packed 2 (aIn x) u ∷ []) (units-written (bIn x) (b-lt x)) ∙ again x 2 (bIn x) k refl;
+    still = turn-still v (bIn x) 32768 (aIn x);
+    spelt = λ t. turn-words v x t k;
+  }
 
-  spelt-hadamard : kindIn x ≡ 4 → Spelt x
-  unfolding GoodForm recordIn
-  spelt-hadamard k = record { form = hadamard (aIn x); good = low; meant = again x 4 0 k (no-angle (inr k)); spelt = λ t. hadamard-words x t k }
+  spelt-x : kindIn x ≡ 3 → Spelt v x
+  unfolding GoodForm formRecord formPhase
+  spelt-x k = record { form = xgate (aIn x); good = low; meant = again x 3 0 k (no-angle (inl k)); still = refl; spelt = λ t. x-words v x t k }
 
-  spelt-record : Spelt x
+  spelt-hadamard : kindIn x ≡ 4 → Spelt v x
+  unfolding GoodForm formRecord formPhase
+  spelt-hadamard k = record { form = hadamard (aIn x); good = low; meant = again x 4 0 k (no-angle (inr k)); still = refl; spelt = λ t. hadamard-words v x t k }
+
+  spelt-record : Spelt v x
   spelt-record = go (eqb (kindIn x) 1) (eqb (kindIn x) 2) (eqb (kindIn x) 3) (eqb (kindIn x) 4) refl refl refl refl
     where
-      go : (a b c d : Bool) → eqb (kindIn x) 1 ≡ a → eqb (kindIn x) 2 ≡ b → eqb (kindIn x) 3 ≡ c → eqb (kindIn x) 4 ≡ d → Spelt x
+      go : (a b c d : Bool) → eqb (kindIn x) 1 ≡ a → eqb (kindIn x) 2 ≡ b → eqb (kindIn x) 3 ≡ c → eqb (kindIn x) 4 ≡ d → Spelt v x
       go true b c d p q r s = spelt-cnot (eqb-true (kindIn x) 1 p)
       go false true c d p q r s = spelt-turn (eqb-true (kindIn x) 2 q)
       go false false true d p q r s = spelt-x (eqb-true (kindIn x) 3 r)
       go false false false true p q r s = spelt-hadamard (eqb-true (kindIn x) 4 s)
       go false false false false p q r s = absurd (fine (inl (eqb-false (kindIn x) 1 p, eqb-false (kindIn x) 2 q, eqb-false (kindIn x) 3 r, eqb-false (kindIn x) 4 s)))
 
-record AllSpelt (xs : List ℕ) : Type 0 where
+-- the forms in which we write records and a common phase
+record AllSpelt (v : Version) (xs : List ℕ) (g : ℕ) : Type 0 where
   forms : List Form
-  good : AllGood forms
+  good : AllGood v forms
   meant : recordsIn forms ≡ xs
-  spelt : bodies (words (gatesText xs)) ≡ formsWords (mark 113) forms
+  shifted : phaseOfForms v forms ≡ readPhase v g
+  spelt : bodies (words (gatesText v xs ++ phaseText v g)) ≡ formsWords (mark 113) forms
 
-all-spelt : (n : ℕ) (xs : List ℕ) → n ≤ 255 → PassesDrawn n xs → AllSpelt xs
-unfolding gatesText formsWords AllGood recordsIn lex
-all-spelt n [] few fine = record { forms = []; good = tt; meant = refl; spelt = refl }
-all-spelt n (x ∷ xs) few fine =
-    let a = spelt-record n x few (fine 0 (omega arith)) in
-    let b = all-spelt n xs few (λ k (l : k < length xs). fine (suc k) (omega arith)) in
+-- none of them, where the common phase has no word
+none-spelt : (v : Version) (g : ℕ) → readPhase v g ≡ 0 → bodies (words (phaseText v g)) ≡ [] → AllSpelt v [] g
+unfolding gatesText formsWords AllGood recordsIn phaseOfForms
+none-spelt v g e s = record { forms = []; good = tt; meant = refl; shifted = sym e; spelt = s }
+
+no-words : (v : Version) (g : ℕ) → g % 131072 ≡ 0 → bodies (words (phaseText v g)) ≡ []
+unfolding lex
+no-words v g e = rw (phase-none v g e)
+
+-- the common phase alone
+last-spelt : (v : Version) (g : ℕ) → AllSpelt v [] g
+unfolding readPhase gatesText formsWords GoodForm GoodTimes GoodOver Newer AllGood formRecord recordsIn formPhase timesIn overIn phaseOfForms phases isOver
+last-spelt Two g = go (eqb (g % 131072) 0) refl
+  where
+    go : (t : Bool) → eqb (g % 131072) 0 ≡ t → AllSpelt Two [] g
+    go true e = none-spelt Two g refl (no-words Two g (eqb-true (g % 131072) 0 e))
+    go false e = none-spelt Two g refl (comment-words g (eqb-false (g % 131072) 0 e))
+last-spelt Three g = go (eqb (g % 131072) 0) refl
+  where
+    go : (t : Bool) → eqb (g % 131072) 0 ≡ t → AllSpelt Three [] g
+    go true e = none-spelt Three g (eqb-true (g % 131072) 0 e) (no-words Three g (eqb-true (g % 131072) 0 e))
+    go false e = record {
+      forms = common false (many (g % 131072)) (over 65536) ∷ [];
+      good = ((tt, omega arith, refl), tt);
+      meant = refl;
+      shifted = omega (arith, count-written Halves (g % 131072) (omega arith));
+      spelt = phase-words g (eqb-false (g % 131072) 0 e) ∙ sym (append-nil _);
+    }
+
+read-lt : (v : Version) (g : ℕ) → readPhase v g < 131072
+unfolding readPhase
+read-lt Two g = omega arith
+read-lt Three g = omega arith
+
+all-spelt : (v : Version) (n : ℕ) (xs : List ℕ) (g : ℕ) → n ≤ 255 → PassesDrawn n xs → AllSpelt v xs g
+unfolding gatesText formsWords AllGood recordsIn phaseOfForms phases
+all-spelt v n [] g few fine = last-spelt v g
+all-spelt v n (x ∷ xs) g few fine =
+    let a = spelt-record v n x few (fine 0 (omega arith)) in
+    let b = all-spelt v n xs g few (λ k (l : k < length xs). fine (suc k) (omega arith)) in
     record {
       forms = a .form ∷ b .forms;
       good = (a .good, b .good);
-      meant = ap (λ y. y ∷ recordsIn (b .forms)) (a .meant) ∙ ap (λ l. x ∷ l) (b .meant);
-      spelt = a .spelt (gatesText xs) ∙ ap (λ l. formWords (mark 113) (a .form) ++ l) (b .spelt);
+      meant = ap (λ l. l ++ recordsIn (b .forms)) (a .meant) ∙ ap (λ l. x ∷ l) (b .meant);
+      shifted = omega (arith, a .still, b .shifted, read-lt v g);
+      spelt = ap (λ l. bodies (words l)) (append-assoc (gateText v x) (gatesText v xs) (phaseText v g)) ∙ a .spelt (gatesText v xs ++ phaseText v g) ∙ ap (λ l. formWords (mark 113) (a .form) ++ l) (b .spelt);
     }
 
--- THEOREM: what we write for n and gates is their text
-pub text-circuit : (n : ℕ) (gates : List ℕ) → n ≤ 255 → PassesDrawn n gates → CircuitText (circuitText n gates) n gates
+-- THEOREM: what we write for n, gates and a common phase is their text
+pub text-circuit : (v : Version) (n : ℕ) (gates : List ℕ) (g : ℕ) → n ≤ 255 → PassesDrawn n gates → CircuitText (circuitText v n gates g) v n gates (readPhase v g)
 unfolding circuitText isName allInName small inName
-text-circuit n gates few fine =
-    let a = all-spelt n gates few fine in
+text-circuit v n gates g few fine =
+    let a = all-spelt v n gates g few fine in
     record {
       name = mark 113;
       forms = a .forms;
@@ -254,5 +386,6 @@ text-circuit n gates few fine =
       few = few;
       good = a .good;
       meant = sym (a .meant);
-      spelt = head-words n (gatesText gates) ∙ ap (λ l. headWords (mark 113) n ++ l) (a .spelt);
+      shifted = sym (a .shifted);
+      spelt = head-words v n (gatesText v gates ++ phaseText v g) ∙ ap (λ l. headWords v (mark 113) n ++ l) (a .spelt);
     }

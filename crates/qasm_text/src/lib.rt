@@ -1,2 +1,2 @@
-// A circuit's text in OpenQASM 2.0, written.
+// A circuit's text in OpenQASM 2.0 or 3.0, written.
 pub mod write;

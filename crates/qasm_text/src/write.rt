@@ -5,6 +5,7 @@ use qasm_lines::room;
 use text::write::Writing;
 use verdicts::verdict;
 use verdicts::verdict::Verdict;
+use versions::Version;
 ghost use mathlib.Core.Path.{_≡_};
 ghost use Prim.Native.Nat.{_≤_, _+_};
 ghost use lib.Dec.{leb};
@@ -14,19 +15,21 @@ ghost use Rattle.text.specs.Writings.{textAfter};
 ghost use Rattle.qasm_lines.specs.Spelling.{circuitText};
 ghost use Rattle.qasm_text.specs.Writings.{judgedCircuit, writingOf};
 
-fn put_circuit(n: usize, gates: &[u32], text: &mut [u8]) -> usize
-    requires { ⌜ length (circuitText n (now gates)) ≤ length (now text) ⌝ }
-    ensures { λ r. ⌜ (r ≡ 0 + length (circuitText n (now (gates .entry)))) × (now (text .exit) ≡ sets (now (text .entry)) 0 (circuitText n (now (gates .entry)))) ⌝ }
+fn put_circuit(version: Version, n: usize, gates: &[u32], phase: u32, text: &mut [u8]) -> usize
+    requires { ⌜ length (circuitText version n (now gates) phase) ≤ length (now text) ⌝ }
+    ensures { λ r. ⌜ (r ≡ 0 + length (circuitText version n (now (gates .entry)) phase)) × (now (text .exit) ≡ sets (now (text .entry)) 0 (circuitText version n (now (gates .entry)) phase)) ⌝ }
 {
-    let p = put::put_head(&mut *text, n);
-    put::put_gates(text, p, gates)
+    let p = put::put_head(&mut *text, version, n);
+    let q = put::put_gates(&mut *text, p, version, gates);
+    put::put_phase(text, q, version, phase)
 }
 
-fn fits(n: usize, gates: &[u32], room: usize) -> bool
-    ensures { λ r. ⌜ r ≡ leb (length (circuitText n (now (gates .entry)))) room ⌝ }
+fn fits(version: Version, n: usize, gates: &[u32], phase: u32, room: usize) -> bool
+    ensures { λ r. ⌜ r ≡ leb (length (circuitText version n (now (gates .entry)) phase)) room ⌝ }
 {
-    let first = room::after_head(Room::Left(room), n);
-    let left = room::after_gates(first, gates);
+    let first = room::after_head(Room::Left(room), version, n);
+    let second = room::after_gates(first, version, gates);
+    let left = room::after_phase(second, version, phase);
     match left {
         Room::Over => false,
         Room::Left(_) => true,
@@ -34,8 +37,8 @@ fn fits(n: usize, gates: &[u32], room: usize) -> bool
 }
 
 // Tests 1, 5 and 8; 5 is that of a job.
-fn judge(n: usize, gates: &[u32], room: usize) -> Verdict
-    ensures { λ r. ⌜ r ≡ judgedCircuit n (now (gates .entry)) room ⌝ }
+fn judge(version: Version, n: usize, gates: &[u32], phase: u32, room: usize) -> Verdict
+    ensures { λ r. ⌜ r ≡ judgedCircuit version n (now (gates .entry)) phase room ⌝ }
 {
     let v1 = verdict::judge_qubits(n);
     if verdict::number(v1) != 0 {
@@ -45,19 +48,20 @@ fn judge(n: usize, gates: &[u32], room: usize) -> Verdict
     if verdict::number(v2) != 0 {
         return v2;
     }
-    if fits(n, gates, room) {
+    if fits(version, n, gates, phase, room) {
         return Verdict::Accepted;
     }
     Verdict::Room
 }
 
-pub fn write(n: usize, gates: &[u32], text: &mut [u8]) -> Writing
-    ensures { λ r. ⌜ (r ≡ writingOf n (now (gates .entry)) (length (now (text .entry)))) × (now (text .exit) ≡ textAfter r (circuitText n (now (gates .entry))) (now (text .entry))) ⌝ }
+// The common phase is in half units, modulo 131,072.
+pub fn write(version: Version, n: usize, gates: &[u32], phase: u32, text: &mut [u8]) -> Writing
+    ensures { λ r. ⌜ (r ≡ writingOf version n (now (gates .entry)) phase (length (now (text .entry)))) × (now (text .exit) ≡ textAfter r (circuitText version n (now (gates .entry)) phase) (now (text .entry))) ⌝ }
 {
     let room = text.len();
-    let v = judge(n, gates, room);
+    let v = judge(version, n, gates, phase, room);
     if verdict::number(v) == 0 {
-        let bytes = put_circuit(n, gates, &mut *text);
+        let bytes = put_circuit(version, n, gates, phase, &mut *text);
         return Writing::Written { bytes };
     }
     Writing::Refused { verdict: v }

@@ -1,6 +1,6 @@
 // The stored circuits: for each pair of texts of the bundle on standard input, a couplers' and a circuit's, what `qasm` prints. Then too little is lent: what reading
-// the circuit's text answers and, where it accepts, what writing the circuit answers, an `x` line each. An acceptance is number 0 at place 0.
-// `qasm` does not print the common phase that an acceptance returns, which is the sum over the stretches: where it is not 0, a `p` line with it follows.
+// the circuit's text answers and, where it accepts, what writing the circuit answers, an `x` line each. An acceptance is number 0 at place 0. Between them stands, where it
+// is not 0, the common phase that was read, a `p` line.
 use circuit::wires;
 use console::COUPLER_LINES;
 use console::GATE_LINES;
@@ -12,11 +12,12 @@ use lines::put;
 use qasm_console::OUTPUT;
 use qasm_console::printing;
 use qasm_reading::read;
+use qasm_reading::read::Reading;
 use qasm_text::write;
-use reading::read::Reading;
 use text::write::Writing;
 use verdicts::verdict;
 use verdicts::verdict::Verdict;
+use versions::Version;
 ghost use Prim.Native.Nat.{_≤_};
 ghost use lib.ListN.{length};
 
@@ -91,8 +92,8 @@ fn copy(text: &[u8], input: &mut [u8]) {
     }
 }
 
-// What `qasm` prints; the sum of the phases that laying returns for the parts.
-fn lay(listing: &[u8], text: &[u8]) -> u32 {
+// What `qasm` prints.
+fn lay(listing: &[u8], text: &[u8]) {
     let mut first = [0u8; INPUT];
     copy(listing, &mut first);
     let mut second = [0u8; INPUT];
@@ -112,18 +113,21 @@ fn lay(listing: &[u8], text: &[u8]) -> u32 {
     let k = begun.bytes;
     io::write_all(STDOUT_FILENO, &out[..k]);
     let job = begun.job;
+    let q = job.qubits;
     let c = job.couplers;
     let g = job.gates;
+    let version = begun.version;
+    let mut phase = begun.phase;
     let mut from = begun.from;
-    let mut phase = 0;
     while from <= g {
-        let part = printing::lay_part(job.qubits, &couplers[..c], &gates[..g], from, &mut out);
+        let part = printing::lay_part(version, q, &couplers[..c], &gates[..g], from, &mut out);
         let k = part.bytes;
         io::write_all(STDOUT_FILENO, &out[..k]);
         phase = wires::together(phase, part.phase);
         from = part.next;
     }
-    phase
+    let k = printing::end(version, phase, &mut out);
+    io::write_all(STDOUT_FILENO, &out[..k]);
 }
 
 fn say(v: Verdict) {
@@ -142,9 +146,9 @@ fn say_phase(phase: u32) {
     io::write_all(STDOUT_FILENO, &out[..k]);
 }
 
-fn write_scant(n: usize, gates: &[u32]) {
+fn write_scant(version: Version, n: usize, gates: &[u32], phase: u32) {
     let mut text = [0u8; ROOM];
-    match write::write(n, gates, &mut text) {
+    match write::write(version, n, gates, phase, &mut text) {
         Writing::Written { bytes: _ } => say(Verdict::Accepted),
         Writing::Refused { verdict } => say(verdict),
     }
@@ -153,19 +157,20 @@ fn write_scant(n: usize, gates: &[u32]) {
 fn read_scant(text: &[u8]) {
     let mut gates = [0u32; GATES];
     match read::read(text, &mut gates) {
-        Reading::Read { job } => {
+        Reading::Read { circuit } => {
             say(Verdict::Accepted);
-            let g = job.gates;
-            write_scant(job.qubits, &gates[..g]);
+            say_phase(circuit.phase);
+            let version = circuit.version;
+            let g = circuit.gates;
+            write_scant(version, circuit.qubits, &gates[..g], circuit.phase);
         }
         Reading::Refused { verdict } => say(verdict),
     }
 }
 
 fn answer(listing: &[u8], text: &[u8]) {
-    let phase = lay(listing, text);
+    lay(listing, text);
     read_scant(text);
-    say_phase(phase);
 }
 
 // Prints for a pair whose second text is closed; what stays for the next turn.

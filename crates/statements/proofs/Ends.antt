@@ -10,7 +10,7 @@ use Rattle.words.specs.Bytes.{same}
 use Rattle.words.specs.Words.{Word}
 use Rattle.words.specs.Taking.{Got, taken}
 use Rattle.statements.specs.Spelling.{mark}
-use Rattle.statements.specs.Statements.{tailOf, openingOf, hasEnd, endsIn, endsAt, badAngle}
+use Rattle.statements.specs.Statements.{tailOf, openingOf, hasEnd, followOf, endsIn, endsAt}
 
 not-semi : (w : Word) (ts : List Word) → taken (mark 59) (some (w ∷ ts)) ≡ none → same (w .bytes) (mark 59) ≡ false
 unfolding taken
@@ -32,9 +32,9 @@ pub end-none : (ws : List Word) → ws ≡ [] → false ≡ hasEnd ws
 unfolding hasEnd
 end-none ws e = rw e
 
-pub ends-none : (name : List ℕ) (ws : List Word) → ws ≡ [] → false ≡ endsIn name ws
+pub ends-none : (alone : Bool) (name : List ℕ) (ws : List Word) → ws ≡ [] → false ≡ endsIn alone name ws
 unfolding endsIn
-ends-none name ws e = rw e
+ends-none alone name ws e = rw e
 
 module _ (ws ts : List Word) (w : Word) (e : ws ≡ w ∷ ts) where
   at : {P : Option (List Word)} {q : Option (List Word)} → P ≡ taken (mark 59) (some ws) → P ≡ q → taken (mark 59) (some (w ∷ ts)) ≡ q
@@ -48,27 +48,38 @@ module _ (ws ts : List Word) (w : Word) (e : ws ≡ w ∷ ts) where
   unfolding hasEnd
   end-on p h = rw (e, not-semi w ts (at p h))
 
-  module _ (name : List ℕ) {P : Option (List Word)} (p : P ≡ taken (mark 59) (some ws)) where
-    pub ends-semi : {t : List Word} → P ≡ some t → false ≡ endsIn name ws
+  module _ (alone : Bool) (name : List ℕ) {P : Option (List Word)} (p : P ≡ taken (mark 59) (some ws)) where
+    pub ends-semi : {t : List Word} → P ≡ some t → false ≡ endsIn alone name ws
     unfolding endsIn
     ends-semi h = rw (e, is-semi w ts (at p h))
 
-    pub ends-hit : {T : Got} {t : List Word} → P ≡ none → T ≡ tailOf name (some ws) → T .rest ≡ some t → true ≡ endsIn name ws
+    pub ends-hit : {F : Option (List Word)} {t : List Word} → P ≡ none → F ≡ followOf alone name (some ws) → F ≡ some t → true ≡ endsIn alone name ws
     unfolding endsIn
     ends-hit h a b =
-        let r : tailOf name (some (w ∷ ts)) .rest ≡ some _ = ap (λ l. tailOf name (some l) .rest) (sym e) ∙ sym (ap (λ g. g .rest) a) ∙ b in
+        let r : followOf alone name (some (w ∷ ts)) ≡ some _ = ap (λ l. followOf alone name (some l)) (sym e) ∙ sym a ∙ b in
         rw (e, not-semi w ts (at p h), r)
 
-    pub ends-on : {T : Got} → P ≡ none → T ≡ tailOf name (some ws) → T .rest ≡ none → endsIn name ts ≡ endsIn name ws
+    pub ends-on : {F : Option (List Word)} → P ≡ none → F ≡ followOf alone name (some ws) → F ≡ none → endsIn alone name ts ≡ endsIn alone name ws
     unfolding endsIn
     ends-on h a b =
-        let r : tailOf name (some (w ∷ ts)) .rest ≡ none = ap (λ l. tailOf name (some l) .rest) (sym e) ∙ sym (ap (λ g. g .rest) a) ∙ b in
+        let r : followOf alone name (some (w ∷ ts)) ≡ none = ap (λ l. followOf alone name (some l)) (sym e) ∙ sym a ∙ b in
         rw (e, not-semi w ts (at p h), r)
 
-pub bad-there : (name : List ℕ) (o : Option (List Word)) {P : Option (List Word)} {t : List Word} {b : Bool} → P ≡ openingOf o → P ≡ some t → b ≡ endsIn name t → b ≡ badAngle name o
-unfolding badAngle endsAt
-bad-there name o p e h = h ∙ ap (endsAt name) (sym e ∙ p)
+module _ (name : List ℕ) where
+  module _ (alone : Bool) (o : Option (List Word)) where
+    pub follow-alone : {P Q : Option (List Word)} → alone ≡ true → P ≡ taken (mark 41) o → Q ≡ taken (mark 59) P → Q ≡ followOf alone name o
+    unfolding followOf
+    follow-alone h p q = rw (h, q, p)
 
-pub bad-not : (name : List ℕ) (o : Option (List Word)) {P : Option (List Word)} → P ≡ openingOf o → P ≡ none → false ≡ badAngle name o
-unfolding badAngle endsAt
-bad-not name o p e = ap (endsAt name) (sym e ∙ p)
+    pub follow-qubit : {T : Got} → alone ≡ false → T ≡ tailOf name o → T .rest ≡ followOf alone name o
+    unfolding followOf
+    follow-qubit h t = rw (h, t)
+
+  module _ (alone : Bool) (word : List ℕ) (o : Option (List Word)) {P : Option (List Word)} (p : P ≡ openingOf word o) where
+    pub bad-there : {t : List Word} {b : Bool} → P ≡ some t → b ≡ endsIn alone name t → b ≡ endsAt alone name (openingOf word o)
+    unfolding endsAt
+    bad-there e h = h ∙ ap (endsAt alone name) (sym e ∙ p)
+
+    pub bad-not : P ≡ none → false ≡ endsAt alone name (openingOf word o)
+    unfolding endsAt
+    bad-not e = ap (endsAt alone name) (sym e ∙ p)

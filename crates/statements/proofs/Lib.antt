@@ -6,3 +6,4 @@ pub mod Ends
 pub mod Words
 pub mod Heads
 pub mod OtherAngles
+pub mod TwoReadings

@@ -1,7 +1,7 @@
 -- Whether a statement ends, and whether only its angle is wrong: what the tests say, said of the words. Assumes nothing.
 use mathlib.Core.Path.{_≡_, refl, sym, ap, _∙_}
 use mathlib.Core.Bool.{Bool, true, false}
-use mathlib.Core.List.{List, [], _∷_, _++_}
+use mathlib.Core.List.{List, [], _∷_, _++_, append-assoc}
 use mathlib.Core.Option.{Option, none, some}
 use Prim.Native.Nat.{ℕ, suc, _≤_}
 use native.Mathlib.Omega.{arith}
@@ -10,10 +10,12 @@ use Rattle.sets.specs.Pick.{pick, either}
 use Rattle.words.specs.Bytes.{same}
 use Rattle.words.specs.Words.{Word, bodies}
 use Rattle.words.specs.Taking.{Got, taken}
-use Rattle.statements.specs.Spelling.{mark, u1}
-use Rattle.statements.specs.Statements.{qubitOf, tailOf, openingOf, hasEnd, isThere, endsIn, endsAt, badAngle}
-use Rattle.statements.specs.Forms.{qubitWords, Unended, OnlyAngle}
-use Rattle.statements.proofs.Taken.{same-self, same-is, taken-back}
+use Rattle.versions.specs.declared.Version.{Version}
+use Rattle.versions.specs.declared.Version.the-variants.{Two, Three}
+use Rattle.statements.specs.Spelling.{mark, u1, rz, gphase}
+use Rattle.statements.specs.Statements.{qubitOf, tailOf, openingOf, hasEnd, isThere, followOf, endsIn, endsAt, badNewer, badAngle}
+use Rattle.statements.specs.Forms.{Rotor, asU1, asRz, asP, Newer, Carried, qubitWords, rotorWord, Unended, Frame, gate, alone, OnlyAngle}
+use Rattle.statements.proofs.Taken.{Leads, same-self, same-is, taken-back, taken-forth}
 use Rattle.statements.proofs.Forth.{tag, tag-bodies, tail-forth}
 use Rattle.statements.proofs.Back.{qubit-back, qubit-most}
 use Rattle.statements.proofs.Words.{bodies-append, placesOf, before}
@@ -28,9 +30,13 @@ same-not b c n = go (same b c) refl
     go true e = absurd (n (same-is b c e))
     go false e = refl
 
-either-true : (t : Bool) → either t true ≡ true
-either-true true = refl
-either-true false = refl
+either-first : (t u : Bool) → t ≡ true → either t u ≡ true
+either-first true u e = refl
+either-first false u e = no-true e
+
+either-second : (t u : Bool) → u ≡ true → either t u ≡ true
+either-second true u e = refl
+either-second false u e = e
 
 -- ---- whether it ends
 
@@ -50,114 +56,188 @@ unended-no (w ∷ ws) u = rw (same-not (w .bytes) (mark 59) (u .0)) (unended-no 
 
 -- ---- whether only the angle is wrong
 
+-- what can follow an angle, and whether it does so alone
+data Closes (name : List ℕ) (closing : List (List ℕ)) : Bool → Type 0 where
+  onQubit : (a : ℕ) → a ≤ 255 → closing ≡ mark 41 ∷ (qubitWords name a ++ (mark 59 ∷ [])) → Closes name closing false
+  without : closing ≡ mark 41 ∷ mark 59 ∷ [] → Closes name closing true
+
 -- behind `(`: anything, and what can follow an angle
-record Follows (name : List ℕ) (bs : List (List ℕ)) : Type 0 where
+record Follows (by : Bool) (name : List ℕ) (bs : List (List ℕ)) : Type 0 where
   angle : List (List ℕ)
   unended : Unended angle
-  qubit : ℕ
-  few : qubit ≤ 255
+  closing : List (List ℕ)
+  closes : Closes name closing by
   rest : List (List ℕ)
-  spelt : bs ≡ angle ++ (mark 41 ∷ (qubitWords name qubit ++ (mark 59 ∷ rest)))
+  spelt : bs ≡ angle ++ (closing ++ rest)
 
-tail-append : (name : List ℕ) (a : ℕ) (bs : List (List ℕ)) → (mark 41 ∷ (qubitWords name a ++ (mark 59 ∷ []))) ++ bs ≡ mark 41 ∷ (qubitWords name a ++ (mark 59 ∷ bs))
-unfolding qubitWords
-tail-append name a bs = refl
+-- words that stand in front of t, as bytes
+leads-spelt : (ws t : List Word) (bs : List (List ℕ)) → Leads (some ws) bs t → bodies ws ≡ bs ++ bodies t
+leads-spelt ws t bs l =
+    let w : ws ≡ l .words ++ t = cc (l .same) in
+    ap (λ x. bodies x) w ∙ bodies-append (l .words) t ∙ ap (λ x. x ++ bodies t) (l .spelt)
 
-tail-there : (name : List ℕ) (ws : List Word) → isThere (tailOf name (some ws) .rest) ≡ true → Follows name (bodies ws)
-unfolding tailOf Unended
-tail-there name ws e = go (tailOf name (some ws) .rest) refl e
-  where
-    go : (o : Option (List Word)) → tailOf name (some ws) .rest ≡ o → isThere o ≡ true → Follows name (bodies ws)
-    go none q e = no-true e
-    go (some t) q e =
-        let p = taken (mark 41) (some ws) in
-        let l = taken-back (mark 41) (some ws) (qubit-back name p (taken-back (mark 59) _ (record { words = []; same = q; spelt = refl }))) in
-        let w : ws ≡ l .words ++ t = cc (l .same) in
-        let b : (mark 41 ∷ (qubitWords name (qubitOf name p .value) ++ (mark 59 ∷ []))) ++ bodies t ≡ mark 41 ∷ (qubitWords name (qubitOf name p .value) ++ (mark 59 ∷ bodies t)) = tail-append name (qubitOf name p .value) (bodies t) in
-        record {
-          angle = [];
-          unended = tt;
-          qubit = qubitOf name p .value;
-          few = qubit-most name p;
-          rest = bodies t;
-          spelt = ap (λ x. bodies x) w ∙ bodies-append (l .words) t ∙ ap (λ x. x ++ bodies t) (l .spelt) ∙ b;
-        }
+follow-there : (by : Bool) (name : List ℕ) (ws t : List Word) → followOf by name (some ws) ≡ some t → Follows by name (bodies ws)
+unfolding followOf tailOf Unended
+follow-there true name ws t q =
+    let l = taken-back (mark 41) (some ws) (taken-back (mark 59) _ (record { words = []; same = q; spelt = refl })) in
+    record { angle = []; unended = tt; closing = mark 41 ∷ mark 59 ∷ []; closes = without refl; rest = bodies t; spelt = leads-spelt ws t _ l }
+follow-there false name ws t q =
+    let p = taken (mark 41) (some ws) in
+    let a = qubitOf name p .value in
+    let l = taken-back (mark 41) (some ws) (qubit-back name p (taken-back (mark 59) _ (record { words = []; same = q; spelt = refl }))) in
+    record {
+      angle = [];
+      unended = tt;
+      closing = mark 41 ∷ (qubitWords name a ++ (mark 59 ∷ []));
+      closes = onQubit a (qubit-most name p) refl;
+      rest = bodies t;
+      spelt = leads-spelt ws t _ l;
+    }
 
-ends-back : (name : List ℕ) (ws : List Word) → endsIn name ws ≡ true → Follows name (bodies ws)
+ends-back : (by : Bool) (name : List ℕ) (ws : List Word) → endsIn by name ws ≡ true → Follows by name (bodies ws)
 unfolding endsIn Unended
-ends-back name [] e = no-true e
-ends-back name (w ∷ ws) e = go (same (w .bytes) (mark 59)) (isThere (tailOf name (some (w ∷ ws)) .rest)) refl refl e (ends-back name ws)
+ends-back by name [] e = no-true e
+ends-back by name (w ∷ ws) e = go (same (w .bytes) (mark 59)) (followOf by name (some (w ∷ ws))) refl refl e (ends-back by name ws)
   where
-    go : (t u : Bool) → same (w .bytes) (mark 59) ≡ t → isThere (tailOf name (some (w ∷ ws)) .rest) ≡ u → pick t false (either u (endsIn name ws)) ≡ true
-        → (endsIn name ws ≡ true → Follows name (bodies ws)) → Follows name (bodies (w ∷ ws))
-    go true u p q e ih = no-true e
-    go false true p q e ih = tail-there name (w ∷ ws) q
-    go false false p q e ih =
+    go : (t : Bool) (o : Option (List Word)) → same (w .bytes) (mark 59) ≡ t → followOf by name (some (w ∷ ws)) ≡ o → pick t false (either (isThere o) (endsIn by name ws)) ≡ true
+        → (endsIn by name ws ≡ true → Follows by name (bodies ws)) → Follows by name (bodies (w ∷ ws))
+    go true o p q e ih = no-true e
+    go false (some t) p q e ih = follow-there by name (w ∷ ws) t q
+    go false none p q e ih =
         let f = ih e in
         record {
           angle = w .bytes ∷ f .angle;
           unended = ((λ h. no-true (sym p ∙ ap (λ b. same b (mark 59)) h ∙ same-self (mark 59))), f .unended);
-          qubit = f .qubit;
-          few = f .few;
+          closing = f .closing;
+          closes = f .closes;
           rest = f .rest;
           spelt = ap (λ l. w .bytes ∷ l) (f .spelt);
         }
 
-pub bad-back : (name : List ℕ) (ws : List Word) → badAngle name (some ws) ≡ true → OnlyAngle name (bodies ws)
-unfolding badAngle endsAt openingOf
-bad-back name ws e = go (openingOf (some ws)) refl e
+bad-at : (v : Version) (by : Bool) (name word : List ℕ) (ws : List Word) → ((closing : List (List ℕ)) → Closes name closing by → Frame v name (word ∷ mark 40 ∷ []) closing)
+    → endsAt by name (openingOf word (some ws)) ≡ true → OnlyAngle v name (bodies ws)
+unfolding endsAt openingOf
+bad-at v by name word ws frame e = go (openingOf word (some ws)) refl e
   where
-    go : (o : Option (List Word)) → openingOf (some ws) ≡ o → endsAt name o ≡ true → OnlyAngle name (bodies ws)
+    go : (o : Option (List Word)) → openingOf word (some ws) ≡ o → endsAt by name o ≡ true → OnlyAngle v name (bodies ws)
     go none q e = no-true e
     go (some t) q e =
-        let f = ends-back name t e in
-        let l = taken-back u1 (some ws) (taken-back (mark 40) _ (record { words = []; same = q; spelt = refl })) in
-        let w : ws ≡ l .words ++ t = cc (l .same) in
+        let f = ends-back by name t e in
+        let l = taken-back word (some ws) (taken-back (mark 40) _ (record { words = []; same = q; spelt = refl })) in
         record {
+          opening = word ∷ mark 40 ∷ [];
           angle = f .angle;
+          closing = f .closing;
+          frame = frame (f .closing) (f .closes);
           unended = f .unended;
-          qubit = f .qubit;
-          few = f .few;
           rest = f .rest;
-          spelt = ap (λ x. bodies x) w ∙ bodies-append (l .words) t ∙ ap (λ x. x ++ bodies t) (l .spelt) ∙ ap (λ x. u1 ∷ mark 40 ∷ x) (f .spelt);
+          spelt = leads-spelt ws t _ l ∙ ap (λ x. word ∷ mark 40 ∷ x) (f .spelt);
         }
+
+gate-frame : (v : Version) (name : List ℕ) (r : Rotor) → Carried v r → (closing : List (List ℕ)) → Closes name closing false → Frame v name (rotorWord r ∷ mark 40 ∷ []) closing
+gate-frame v name r c closing (onQubit a h e) = gate r a c h refl e
+
+alone-frame : (v : Version) (name : List ℕ) → Newer v → (closing : List (List ℕ)) → Closes name closing true → Frame v name (gphase ∷ mark 40 ∷ []) closing
+alone-frame v name n closing (without e) = alone n refl e
+
+newer-bad : (v : Version) (name : List ℕ) (ws : List Word) → badNewer v name (some ws) ≡ true → OnlyAngle v name (bodies ws)
+unfolding badNewer Carried Newer
+newer-bad Two name ws e = no-true e
+newer-bad Three name ws e = go (endsAt false name (openingOf (mark 112) (some ws))) refl e
+  where
+    go : (t : Bool) → endsAt false name (openingOf (mark 112) (some ws)) ≡ t → either t (endsAt true name (openingOf gphase (some ws))) ≡ true → OnlyAngle Three name (bodies ws)
+    go true p e = bad-at Three false name (mark 112) ws (gate-frame Three name asP tt) p
+    go false p e = bad-at Three true name gphase ws (alone-frame Three name tt) e
+
+pub bad-back : (v : Version) (name : List ℕ) (ws : List Word) → badAngle v name (some ws) ≡ true → OnlyAngle v name (bodies ws)
+unfolding badAngle Carried
+bad-back v name ws e = go (endsAt false name (openingOf u1 (some ws))) (endsAt false name (openingOf rz (some ws))) refl refl e
+  where
+    go : (t u : Bool) → endsAt false name (openingOf u1 (some ws)) ≡ t → endsAt false name (openingOf rz (some ws)) ≡ u → either t (either u (badNewer v name (some ws))) ≡ true → OnlyAngle v name (bodies ws)
+    go true u p q e = bad-at v false name u1 ws (gate-frame v name asU1 tt) p
+    go false true p q e = bad-at v false name rz ws (gate-frame v name asRz tt) q
+    go false false p q e = newer-bad v name ws e
 
 no-mark : mark 41 ≡ mark 59 → ⊥
 no-mark e = let z : _≡_ {A = ℕ} 41 59 = cc e in omega arith
 
-ends-here : (name : List ℕ) (ws : List Word) (a : ℕ) (rest : List (List ℕ)) → a ≤ 255 → bodies ws ≡ mark 41 ∷ (qubitWords name a ++ (mark 59 ∷ rest)) → endsIn name ws ≡ true
+-- what follows begins with `)`
+closes-first : (by : Bool) (name : List ℕ) (closing rest : List (List ℕ)) (b : List ℕ) (bs : List (List ℕ)) → Closes name closing by → b ∷ bs ≡ closing ++ rest → b ≡ mark 41
+closes-first false name closing rest b bs (onQubit a h q) e = let z : b ∷ bs ≡ (mark 41 ∷ (qubitWords name a ++ (mark 59 ∷ []))) ++ rest = e ∙ ap (λ l. l ++ rest) q in cc z
+closes-first true name closing rest b bs (without q) e = let z : b ∷ bs ≡ (mark 41 ∷ mark 59 ∷ []) ++ rest = e ∙ ap (λ l. l ++ rest) q in cc z
+
+closes-there : (by : Bool) (name : List ℕ) (closing rest : List (List ℕ)) (f : ℕ → ℕ) → Closes name closing by → isThere (followOf by name (some (tag f (closing ++ rest)))) ≡ true
+unfolding followOf
+closes-there false name closing rest f (onQubit a h q) =
+    let z : closing ++ rest ≡ mark 41 ∷ (qubitWords name a ++ (mark 59 ∷ rest)) = ap (λ l. l ++ rest) q ∙ ap (λ l. mark 41 ∷ l) (append-assoc (qubitWords name a) (mark 59 ∷ []) rest) in
+    ap (λ l. isThere (tailOf name (some (tag f l)) .rest)) z ∙ ap (λ (g : Got). isThere (g .rest)) (tail-forth name a f rest h)
+closes-there true name closing rest f (without q) = ap (λ l. isThere (taken (mark 59) (taken (mark 41) (some (tag f (l ++ rest)))))) q ∙ rw (taken-forth, taken-forth)
+
+ends-here : (by : Bool) (name : List ℕ) (ws : List Word) (closing rest : List (List ℕ)) → Closes name closing by → bodies ws ≡ closing ++ rest → endsIn by name ws ≡ true
 unfolding endsIn
-ends-here name [] a rest h e = let z : _≡_ {A = ℕ} 0 (suc (length (qubitWords name a ++ (mark 59 ∷ rest)))) = ap length e in absurd (omega arith)
-ends-here name (w ∷ ws) a rest h e =
+ends-here false name [] closing rest (onQubit a h q) e = let z : _≡_ {A = ℕ} 0 (suc (length ((qubitWords name a ++ (mark 59 ∷ [])) ++ rest))) = ap length (e ∙ ap (λ l. l ++ rest) q) in absurd (omega arith)
+ends-here true name [] closing rest (without q) e = let z : _≡_ {A = ℕ} 0 (suc (length (mark 59 ∷ rest))) = ap length (e ∙ ap (λ l. l ++ rest) q) in absurd (omega arith)
+ends-here by name (w ∷ ws) closing rest c e =
     let f = placesOf (w ∷ ws) in
-    let q : w ∷ ws ≡ tag f (mark 41 ∷ (qubitWords name a ++ (mark 59 ∷ rest))) = tag-bodies (w ∷ ws) ∙ ap (λ l. tag f l) e in
-    let t : isThere (tailOf name (some (w ∷ ws)) .rest) ≡ true = ap (λ l. isThere (tailOf name (some l) .rest)) q ∙ ap (λ (g : Got). isThere (g .rest)) (tail-forth name a f rest h) in
-    let b : w .bytes ≡ mark 41 = cc e in
-    rw (t, same-not (w .bytes) (mark 59) (λ k. no-mark (sym b ∙ k)))
+    let q : w ∷ ws ≡ tag f (closing ++ rest) = tag-bodies (w ∷ ws) ∙ ap (λ l. tag f l) e in
+    let t : isThere (followOf by name (some (w ∷ ws))) ≡ true = ap (λ l. isThere (followOf by name (some l))) q ∙ closes-there by name closing rest f c in
+    rw (t, same-not (w .bytes) (mark 59) (λ k. no-mark (sym (closes-first by name closing rest (w .bytes) (bodies ws) c e) ∙ k)))
 
-ends-forth : (name : List ℕ) (angle : List (List ℕ)) (ws : List Word) (a : ℕ) (rest : List (List ℕ)) → Unended angle → a ≤ 255
-    → bodies ws ≡ angle ++ (mark 41 ∷ (qubitWords name a ++ (mark 59 ∷ rest))) → endsIn name ws ≡ true
+ends-forth : (by : Bool) (name : List ℕ) (angle : List (List ℕ)) (ws : List Word) (closing rest : List (List ℕ)) → Unended angle → Closes name closing by
+    → bodies ws ≡ angle ++ (closing ++ rest) → endsIn by name ws ≡ true
 unfolding endsIn Unended
-ends-forth name [] ws a rest u h e = ends-here name ws a rest h e
-ends-forth name (b ∷ bs) [] a rest u h e = let z : _≡_ {A = ℕ} 0 (suc (length (bs ++ (mark 41 ∷ (qubitWords name a ++ (mark 59 ∷ rest)))))) = ap length e in absurd (omega arith)
-ends-forth name (b ∷ bs) (w ∷ ws) a rest u h e =
+ends-forth by name [] ws closing rest u c e = ends-here by name ws closing rest c e
+ends-forth by name (b ∷ bs) [] closing rest u c e = let z : _≡_ {A = ℕ} 0 (suc (length (bs ++ (closing ++ rest)))) = ap length e in absurd (omega arith)
+ends-forth by name (b ∷ bs) (w ∷ ws) closing rest u c e =
     let p : w .bytes ≡ b = cc e in
-    let q : bodies ws ≡ bs ++ (mark 41 ∷ (qubitWords name a ++ (mark 59 ∷ rest))) = cc e in
-    rw (same-not (w .bytes) (mark 59) (λ k. u .0 (sym p ∙ k)), ends-forth name bs ws a rest (u .1) h q) (either-true (isThere (tailOf name (some (w ∷ ws)) .rest)))
+    let q : bodies ws ≡ bs ++ (closing ++ rest) = cc e in
+    rw (same-not (w .bytes) (mark 59) (λ k. u .0 (sym p ∙ k))) (either-second (isThere (followOf by name (some (w ∷ ws)))) (endsIn by name ws) (ends-forth by name bs ws closing rest (u .1) c q))
 
-opening-on : (ws t : List Word) → bodies ws ≡ u1 ∷ mark 40 ∷ [] → openingOf (some (ws ++ t)) ≡ some t
+opening-on : (word : List ℕ) (ws t : List Word) → bodies ws ≡ word ∷ mark 40 ∷ [] → openingOf word (some (ws ++ t)) ≡ some t
 unfolding openingOf taken
-opening-on [] t e = let z : _≡_ {A = ℕ} 0 2 = ap length e in absurd (omega arith)
-opening-on (a ∷ []) t e = let z : _≡_ {A = ℕ} 1 2 = ap length e in absurd (omega arith)
-opening-on (a ∷ b ∷ []) t e =
-    let p : a .bytes ≡ u1 = cc e in
+opening-on word [] t e = let z : _≡_ {A = ℕ} 0 2 = ap length e in absurd (omega arith)
+opening-on word (a ∷ []) t e = let z : _≡_ {A = ℕ} 1 2 = ap length e in absurd (omega arith)
+opening-on word (a ∷ b ∷ []) t e =
+    let p : a .bytes ≡ word = cc e in
     let q : b .bytes ≡ mark 40 = cc e in
-    rw (p, same-self u1, q, same-self (mark 40))
-opening-on (a ∷ b ∷ c ∷ ws) t e = let z : _≡_ {A = ℕ} (suc (suc (suc (length (bodies ws))))) 2 = ap length e in absurd (omega arith)
+    rw (p, same-self word, q, same-self (mark 40))
+opening-on word (a ∷ b ∷ c ∷ ws) t e = let z : _≡_ {A = ℕ} (suc (suc (suc (length (bodies ws))))) 2 = ap length e in absurd (omega arith)
 
-pub bad-forth : (name : List ℕ) (ws : List Word) → OnlyAngle name (bodies ws) → badAngle name (some ws) ≡ true
-unfolding badAngle endsAt openingOf taken same
-bad-forth name ws o =
-    let b = before (u1 ∷ mark 40 ∷ []) (o .angle ++ (mark 41 ∷ (qubitWords name (o .qubit) ++ (mark 59 ∷ o .rest)))) ws (o .spelt) in
-    let g : openingOf (some (b .front ++ b .back)) ≡ some (b .back) = opening-on (b .front) (b .back) (b .front-spelt) in
-    ap (λ l. endsAt name (openingOf (some l))) (b .same) ∙ ap (endsAt name) g ∙ ends-forth name (o .angle) (b .back) (o .qubit) (o .rest) (o .unended) (o .few) (b .back-spelt)
+bad-here : (by : Bool) (name word : List ℕ) (ws : List Word) (angle closing rest : List (List ℕ)) → Unended angle → Closes name closing by → bodies ws ≡ (word ∷ mark 40 ∷ []) ++ (angle ++ (closing ++ rest))
+    → endsAt by name (openingOf word (some ws)) ≡ true
+unfolding endsAt
+bad-here by name word ws angle closing rest u c e =
+    let b = before (word ∷ mark 40 ∷ []) (angle ++ (closing ++ rest)) ws e in
+    let g : openingOf word (some (b .front ++ b .back)) ≡ some (b .back) = opening-on word (b .front) (b .back) (b .front-spelt) in
+    ap (λ l. endsAt by name (openingOf word (some l))) (b .same) ∙ ap (endsAt by name) g ∙ ends-forth by name angle (b .back) closing rest u c (b .back-spelt)
+
+-- what each of the tests says makes the whole test say so
+module _ (v : Version) (name : List ℕ) (ws : List Word) where
+  abbrev bad-u1 : Bool
+  bad-u1 = endsAt false name (openingOf u1 (some ws))
+
+  abbrev bad-rz : Bool
+  bad-rz = endsAt false name (openingOf rz (some ws))
+
+  newer-in : badNewer v name (some ws) ≡ true → badAngle v name (some ws) ≡ true
+  unfolding badAngle
+  newer-in e = either-second bad-u1 _ (either-second bad-rz _ e)
+
+rotor-bad : (v : Version) (r : Rotor) (name : List ℕ) (ws : List Word) → Carried v r → endsAt false name (openingOf (rotorWord r) (some ws)) ≡ true → badAngle v name (some ws) ≡ true
+unfolding badAngle badNewer Carried Newer
+rotor-bad v asU1 name ws c e = either-first _ _ e
+rotor-bad v asRz name ws c e = either-second (bad-u1 v name ws) _ (either-first _ (badNewer v name (some ws)) e)
+rotor-bad Two asP name ws c e = absurd c
+rotor-bad Three asP name ws c e = newer-in Three name ws (either-first _ (endsAt true name (openingOf gphase (some ws))) e)
+
+alone-bad : (v : Version) (name : List ℕ) (ws : List Word) → Newer v → endsAt true name (openingOf gphase (some ws)) ≡ true → badAngle v name (some ws) ≡ true
+unfolding badNewer Newer
+alone-bad Two name ws n e = absurd n
+alone-bad Three name ws n e = newer-in Three name ws (either-second (endsAt false name (openingOf (mark 112) (some ws))) _ e)
+
+frame-bad : (v : Version) (name : List ℕ) (ws : List Word) (opening angle closing rest : List (List ℕ)) → Frame v name opening closing → Unended angle → bodies ws ≡ opening ++ (angle ++ (closing ++ rest)) → badAngle v name (some ws) ≡ true
+frame-bad v name ws opening angle closing rest (gate r a c h p q) u e = rotor-bad v r name ws c (bad-here false name (rotorWord r) ws angle closing rest u (onQubit a h q) (e ∙ ap (λ l. l ++ (angle ++ (closing ++ rest))) p))
+frame-bad v name ws opening angle closing rest (alone n p q) u e = alone-bad v name ws n (bad-here true name gphase ws angle closing rest u (without q) (e ∙ ap (λ l. l ++ (angle ++ (closing ++ rest))) p))
+
+pub bad-forth : (v : Version) (name : List ℕ) (ws : List Word) → OnlyAngle v name (bodies ws) → badAngle v name (some ws) ≡ true
+bad-forth v name ws o = frame-bad v name ws (o .opening) (o .angle) (o .closing) (o .rest) (o .frame) (o .unended) (o .spelt)

@@ -75,10 +75,6 @@ module _ (l : ℕ) (ws : List Word) where
   unfolding taken
   taken-forth b = rw (same-self b)
 
-  pub taken-digits : (v x : ℕ) (b : List ℕ) → digitOf x ≡ 10 → taken (x ∷ b) (some (record { bytes = digits v; left = l } ∷ ws)) ≡ none
-  unfolding taken
-  taken-digits v x b h = rw (digits-other v x b h)
-
   pub number-word : (most v : ℕ) → v ≤ most → numbered most (some (record { bytes = digits v; left = l } ∷ ws)) ≡ record { value = v; rest = some ws }
   unfolding numbered digitOf
   number-word most v h =

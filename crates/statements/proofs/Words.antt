@@ -6,8 +6,9 @@ use Prim.Native.Nat.{ℕ, suc}
 use native.Mathlib.Omega.{arith}
 use lib.ListN.{length, getD, length-append}
 use Rattle.words.specs.Words.{Word, bodies}
+use Rattle.versions.specs.declared.Version.{Version}
 use Rattle.statements.specs.Statements.{gateOf}
-use Rattle.statements.specs.Forms.{Form, GoodForm, formWords, recordIn}
+use Rattle.statements.specs.Forms.{Form, GoodForm, formWords, formRecord, formPhase}
 use Rattle.statements.proofs.Forth.{tag, tag-bodies, afterForm, gate-forth}
 use Rattle.statements.proofs.Back.{gate-back}
 
@@ -54,12 +55,13 @@ placesOf ws i = getD (map (λ w. w .left) ws) i 0
 pub tagged : (ws t : List Word) (bs : List (List ℕ)) → bodies ws ≡ bs → ws ++ t ≡ tag (placesOf (ws ++ t)) (bs ++ bodies t)
 tagged ws t bs e = tag-bodies (ws ++ t) ∙ ap (λ l. tag (placesOf (ws ++ t)) l) (bodies-append ws t ∙ ap (λ l. l ++ bodies t) e)
 
--- THEOREM: where a gate's form stands, that gate is read, and the words behind it are left
-pub gate-on : (name : List ℕ) (f : Form) (ws t : List Word) → GoodForm f → bodies ws ≡ formWords name f → gateOf name (some (ws ++ t)) ≡ record { value = recordIn f; rest = some t }
-gate-on name f ws t h e =
+-- THEOREM: where a form stands, what it says is read, and the words behind it are left
+pub gate-on : (v : Version) (name : List ℕ) (f : Form) (ws t : List Word) → GoodForm v f → bodies ws ≡ formWords name f
+    → gateOf v name (some (ws ++ t)) ≡ record { records = formRecord f; phase = formPhase v f; rest = some t }
+gate-on v name f ws t h e =
     let u = tag (afterForm f (placesOf (ws ++ t))) (bodies t) in
-    let g : gateOf name (some (ws ++ t)) ≡ record { value = recordIn f; rest = some u } = ap (λ l. gateOf name (some l)) (tagged ws t (formWords name f) e) ∙ gate-forth name f (placesOf (ws ++ t)) (bodies t) h in
-    let b = gate-back name (some (ws ++ t)) {bs = []} {t = u} (record { words = []; same = ap (λ x. x .rest) g; spelt = refl }) in
+    let g : gateOf v name (some (ws ++ t)) ≡ record { records = formRecord f; phase = formPhase v f; rest = some u } = ap (λ l. gateOf v name (some l)) (tagged ws t (formWords name f) e) ∙ gate-forth v name f (placesOf (ws ++ t)) (bodies t) h in
+    let b = gate-back v name (some (ws ++ t)) {bs = []} {t = u} (record { words = []; same = ap (λ x. x .rest) g; spelt = refl }) in
     let s : ws ++ t ≡ b .leads .words ++ u = cc (b .leads .same) in
     let l : length t ≡ length u = sym (tag-length _ (bodies t) ∙ bodies-length t) in
-    g ∙ ap (λ x. record { value = recordIn f; rest = some x }) (sym (same-behind ws (b .leads .words) t u s l))
+    g ∙ ap (λ x. record { records = formRecord f; phase = formPhase v f; rest = some x }) (sym (same-behind ws (b .leads .words) t u s l))

@@ -1,5 +1,5 @@
 pub mod Limits
 pub mod Spelling
-pub mod Statements
 pub mod Forms
+pub mod Statements
 pub mod Places

@@ -1,6 +1,7 @@
 // Angles as they are read.
 use crate::mark;
 use angles::Multiple;
+use angles::Scale;
 use spots::spot::Part;
 use spots::spot::Spot;
 use words::take;
@@ -8,13 +9,11 @@ ghost use mathlib.Core.Path.{_≡_};
 ghost use Rattle.words.specs.Places.{leftAt, gotAt};
 ghost use Rattle.statements.specs.Statements.{manyOf, timesOf, dividedOf, overOf, multipleOf, angleOf};
 
-const MOST_TIMES: u32 = 65535;
-
 // `k*pi`
-fn many(text: &[u8], from: Spot) -> Part
-    ensures { λ r. ⌜ gotAt (now (text .entry)) r ≡ manyOf (leftAt (now (text .entry)) from) ⌝ }
+fn many(text: &[u8], from: Spot, scale: Scale) -> Part
+    ensures { λ r. ⌜ gotAt (now (text .entry)) r ≡ manyOf scale (leftAt (now (text .entry)) from) ⌝ }
 {
-    let k = take::number(text, from, MOST_TIMES);
+    let k = take::number(text, from, angles::most_times(scale));
     let k_next = k.next;
     let star = mark::mark(text, k_next, b'*');
     let end = mark::pi(text, star);
@@ -25,8 +24,8 @@ fn many(text: &[u8], from: Spot) -> Part
 }
 
 // `0`, `pi` or `k*pi`
-fn times(text: &[u8], from: Spot) -> Part
-    ensures { λ r. ⌜ gotAt (now (text .entry)) r ≡ timesOf (leftAt (now (text .entry)) from) ⌝ }
+fn times(text: &[u8], from: Spot, scale: Scale) -> Part
+    ensures { λ r. ⌜ gotAt (now (text .entry)) r ≡ timesOf scale (leftAt (now (text .entry)) from) ⌝ }
 {
     let once = mark::pi(text, from);
     match once {
@@ -35,7 +34,7 @@ fn times(text: &[u8], from: Spot) -> Part
             next: once,
         },
         Spot::Lost => {
-            let m = many(text, from);
+            let m = many(text, from, scale);
             let m_next = m.next;
             match m_next {
                 Spot::At(_) => m,
@@ -52,12 +51,12 @@ fn times(text: &[u8], from: Spot) -> Part
 }
 
 // `/` and a power of two
-fn divided(text: &[u8], from: Spot) -> Part
-    ensures { λ r. ⌜ gotAt (now (text .entry)) r ≡ dividedOf (leftAt (now (text .entry)) from) ⌝ }
+fn divided(text: &[u8], from: Spot, scale: Scale) -> Part
+    ensures { λ r. ⌜ gotAt (now (text .entry)) r ≡ dividedOf scale (leftAt (now (text .entry)) from) ⌝ }
 {
     let slash = mark::mark(text, from, b'/');
-    let d = take::number(text, slash, MOST_TIMES);
-    if angles::is_over(d.value) {
+    let d = take::number(text, slash, angles::most_times(scale));
+    if angles::is_over(scale, d.value) {
         return d;
     }
     Part {
@@ -66,10 +65,10 @@ fn divided(text: &[u8], from: Spot) -> Part
     }
 }
 
-fn over(text: &[u8], from: Spot) -> Part
-    ensures { λ r. ⌜ gotAt (now (text .entry)) r ≡ overOf (leftAt (now (text .entry)) from) ⌝ }
+fn over(text: &[u8], from: Spot, scale: Scale) -> Part
+    ensures { λ r. ⌜ gotAt (now (text .entry)) r ≡ overOf scale (leftAt (now (text .entry)) from) ⌝ }
 {
-    let d = divided(text, from);
+    let d = divided(text, from, scale);
     let d_next = d.next;
     match d_next {
         Spot::At(_) => d,
@@ -80,31 +79,31 @@ fn over(text: &[u8], from: Spot) -> Part
     }
 }
 
-fn multiple(text: &[u8], from: Spot, minus: bool) -> Part
-    ensures { λ r. ⌜ gotAt (now (text .entry)) r ≡ multipleOf minus (leftAt (now (text .entry)) from) ⌝ }
+fn multiple(text: &[u8], from: Spot, scale: Scale, minus: bool) -> Part
+    ensures { λ r. ⌜ gotAt (now (text .entry)) r ≡ multipleOf scale minus (leftAt (now (text .entry)) from) ⌝ }
 {
-    let k = times(text, from);
+    let k = times(text, from, scale);
     let k_next = k.next;
-    let d = over(text, k_next);
+    let d = over(text, k_next, scale);
     let d_next = d.next;
     let m = Multiple {
         minus,
         k: k.value,
         over: d.value,
     };
-    let units = m.units();
+    let count = m.count(scale);
     Part {
-        value: units,
+        value: count,
         next: d_next,
     }
 }
 
-pub(crate) fn angle(text: &[u8], from: Spot) -> Part
-    ensures { λ r. ⌜ gotAt (now (text .entry)) r ≡ angleOf (leftAt (now (text .entry)) from) ⌝ }
+pub(crate) fn angle(text: &[u8], from: Spot, scale: Scale) -> Part
+    ensures { λ r. ⌜ gotAt (now (text .entry)) r ≡ angleOf scale (leftAt (now (text .entry)) from) ⌝ }
 {
     let minus = mark::mark(text, from, b'-');
     match minus {
-        Spot::At(_) => multiple(text, minus, true),
-        Spot::Lost => multiple(text, from, false),
+        Spot::At(_) => multiple(text, minus, scale, true),
+        Spot::Lost => multiple(text, from, scale, false),
     }
 }

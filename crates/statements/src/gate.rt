@@ -1,19 +1,39 @@
-// Gates as they are read, on the register of the name.
+// Statements behind the register as they are read, on the register of the name.
 use crate::angle;
 use crate::mark;
+use angles::Scale;
 use spots::spot::Part;
 use spots::spot::Spot;
+use versions::Version;
 use words::take;
 use words::word;
 ghost use mathlib.Core.Path.{_≡_};
+ghost use mathlib.Core.List.{List};
 ghost use mathlib.Core.Option.{some};
-ghost use Prim.Native.Nat.{_≤_};
+ghost use Prim.Native.Nat.{ℕ, _≤_};
 ghost use lib.ListN.{drop};
 ghost use Rattle.words.specs.Words.{words};
 ghost use Rattle.words.specs.Places.{leftAt, gotAt};
-ghost use Rattle.statements.specs.Statements.{qubitOf, cnotOf, tailOf, openingOf, turnOf, singleOf, otherOf, gateOf, endsIn, badAngle};
+ghost use Rattle.statements.specs.Forms.{halfTaken};
+ghost use Rattle.statements.specs.Statements.{qubitOf, cnotOf, tailOf, openingOf, turnOf, rotated, commonOf, newerOf, rotationOf, singleOf, plainOf, gateOf, followOf, endsIn, endsAt, badNewer, badAngle};
+ghost use Rattle.statements.specs.Places.{turnedAt, saidAt};
 
 pub(crate) const MOST_QUBIT: u32 = 255;
+
+// What a statement says: a gate's record, or none; what it adds to the common phase; and the place behind it.
+pub struct Stated {
+    pub gate: bool,
+    pub record: u32,
+    pub phase: u32,
+    pub next: Spot,
+}
+
+// A rotation's qubit and angle, modulo two turns, and the place behind it.
+struct Turning {
+    qubit: u32,
+    angle: u32,
+    next: Spot,
+}
 
 // `NAME[a]`
 fn qubit(text: &[u8], name: &[u8], from: Spot) -> Part
@@ -61,26 +81,109 @@ fn tail(text: &[u8], name: &[u8], from: Spot) -> Part
     }
 }
 
-// `u1(`
-fn opening(text: &[u8], from: Spot) -> Spot
-    ensures { λ r. ⌜ leftAt (now (text .entry)) r ≡ openingOf (leftAt (now (text .entry)) from) ⌝ }
+// `u1(`, or with another word
+fn opening(text: &[u8], from: Spot, word: &[u8]) -> Spot
+    ensures { λ r. ⌜ leftAt (now (text .entry)) r ≡ openingOf (now (word .entry)) (leftAt (now (text .entry)) from) ⌝ }
 {
-    let p0 = take::take(text, from, b"u1");
+    let p0 = take::take(text, from, word);
     mark::mark(text, p0, b'(')
 }
 
-// `u1(ANGLE) NAME[a];`
-fn turn(text: &[u8], name: &[u8], from: Spot) -> Part
-    ensures { λ r. ⌜ gotAt (now (text .entry)) r ≡ turnOf (now (name .entry)) (leftAt (now (text .entry)) from) ⌝ }
+// `u1(ANGLE) NAME[a];`, or with another word
+fn turn(text: &[u8], name: &[u8], from: Spot, word: &[u8]) -> Turning
+    ensures { λ r. ⌜ turnedAt (now (text .entry)) r ≡ turnOf (now (word .entry)) (now (name .entry)) (leftAt (now (text .entry)) from) ⌝ }
 {
-    let p0 = opening(text, from);
-    let k = angle::angle(text, p0);
+    let p0 = opening(text, from, word);
+    let k = angle::angle(text, p0, Scale::Units);
     let k_next = k.next;
     let a = tail(text, name, k_next);
     let a_next = a.next;
-    Part {
-        value: 33554432 + a.value * 65536 + k.value,
+    Turning {
+        qubit: a.value,
+        angle: k.value,
         next: a_next,
+    }
+}
+
+// Minus half the angle of an `rz`, modulo one turn: half of a units are a half units.
+fn half_taken(version: Version, angle: u32) -> u32
+    ensures { λ r. ⌜ r ≡ halfTaken version angle ⌝ }
+{
+    match version {
+        Version::Two => 0,
+        Version::Three => (131072 - angle % 131072) % 131072,
+    }
+}
+
+// The rotation's record has its angle modulo one turn.
+fn rotated(turn: Turning, phase: u32) -> Stated
+    requires { ⌜ turn .qubit ≤ 255 ⌝ }
+    ensures { λ r. ⌜ ((s : List ℕ) → saidAt s r ≡ rotated phase (turnedAt s turn)) ⌝ }
+{
+    let next = turn.next;
+    Stated {
+        gate: true,
+        record: 33554432 + turn.qubit * 65536 + turn.angle % 65536,
+        phase,
+        next,
+    }
+}
+
+// `gphase(ANGLE);`
+fn common(text: &[u8], from: Spot) -> Stated
+    ensures { λ r. ⌜ saidAt (now (text .entry)) r ≡ commonOf (leftAt (now (text .entry)) from) ⌝ }
+{
+    let p0 = opening(text, from, b"gphase");
+    let k = angle::angle(text, p0, Scale::Halves);
+    let k_next = k.next;
+    let p1 = mark::mark(text, k_next, b')');
+    let end = mark::mark(text, p1, b';');
+    Stated {
+        gate: false,
+        record: 0,
+        phase: k.value,
+        next: end,
+    }
+}
+
+// What OpenQASM 3.0 alone has: `p` and `gphase`.
+fn newer(text: &[u8], version: Version, name: &[u8], from: Spot) -> Stated
+    ensures { λ r. ⌜ saidAt (now (text .entry)) r ≡ newerOf version (now (name .entry)) (leftAt (now (text .entry)) from) ⌝ }
+{
+    match version {
+        Version::Two => Stated {
+            gate: false,
+            record: 0,
+            phase: 0,
+            next: Spot::Lost,
+        },
+        Version::Three => {
+            let p = turn(text, name, from, b"p");
+            let p_next = p.next;
+            match p_next {
+                Spot::At(_) => rotated(p, 0),
+                Spot::Lost => common(text, from),
+            }
+        }
+    }
+}
+
+// `u1`, `rz`, or what 3.0 alone has.
+fn rotation(text: &[u8], version: Version, name: &[u8], from: Spot) -> Stated
+    ensures { λ r. ⌜ saidAt (now (text .entry)) r ≡ rotationOf version (now (name .entry)) (leftAt (now (text .entry)) from) ⌝ }
+{
+    let u = turn(text, name, from, b"u1");
+    let u_next = u.next;
+    match u_next {
+        Spot::At(_) => rotated(u, 0),
+        Spot::Lost => {
+            let z = turn(text, name, from, b"rz");
+            let z_next = z.next;
+            match z_next {
+                Spot::At(_) => rotated(z, half_taken(version, z.angle)),
+                Spot::Lost => newer(text, version, name, from),
+            }
+        }
     }
 }
 
@@ -99,14 +202,14 @@ fn single(text: &[u8], name: &[u8], from: Spot, byte: u8, kind: u32) -> Part
     }
 }
 
-// A rotation, an X or a Hadamard.
-fn other(text: &[u8], name: &[u8], from: Spot) -> Part
-    ensures { λ r. ⌜ gotAt (now (text .entry)) r ≡ otherOf (now (name .entry)) (leftAt (now (text .entry)) from) ⌝ }
+// A CNOT, an X or a Hadamard.
+fn plain(text: &[u8], name: &[u8], from: Spot) -> Part
+    ensures { λ r. ⌜ gotAt (now (text .entry)) r ≡ plainOf (now (name .entry)) (leftAt (now (text .entry)) from) ⌝ }
 {
-    let r = turn(text, name, from);
-    let r_next = r.next;
-    match r_next {
-        Spot::At(_) => r,
+    let c = cnot(text, name, from);
+    let c_next = c.next;
+    match c_next {
+        Spot::At(_) => c,
         Spot::Lost => {
             let x = single(text, name, from, b'x', 3);
             let x_next = x.next;
@@ -118,21 +221,38 @@ fn other(text: &[u8], name: &[u8], from: Spot) -> Part
     }
 }
 
-// The gate at `at`, whose statement uses the register of the name.
-pub fn gate(text: &[u8], name: &[u8], at: usize) -> Part
-    ensures { λ r. ⌜ gotAt (now (text .entry)) r ≡ gateOf (now (name .entry)) (some (words (drop at (now (text .entry))))) ⌝ }
+// The statement at `at`, behind the register of the name.
+pub fn gate(text: &[u8], version: Version, name: &[u8], at: usize) -> Stated
+    ensures { λ r. ⌜ saidAt (now (text .entry)) r ≡ gateOf version (now (name .entry)) (some (words (drop at (now (text .entry))))) ⌝ }
 {
-    let c = cnot(text, name, Spot::At(at));
-    let c_next = c.next;
-    match c_next {
-        Spot::At(_) => c,
-        Spot::Lost => other(text, name, Spot::At(at)),
+    let g = plain(text, name, Spot::At(at));
+    let g_next = g.next;
+    match g_next {
+        Spot::At(_) => Stated {
+            gate: true,
+            record: g.value,
+            phase: 0,
+            next: g_next,
+        },
+        Spot::Lost => rotation(text, version, name, Spot::At(at)),
     }
 }
 
+// What can follow an angle: `) NAME[a];`, or `);` alone.
+fn follow(text: &[u8], name: &[u8], from: Spot, alone: bool) -> Spot
+    ensures { λ r. ⌜ leftAt (now (text .entry)) r ≡ followOf alone (now (name .entry)) (leftAt (now (text .entry)) from) ⌝ }
+{
+    if alone {
+        let p0 = mark::mark(text, from, b')');
+        return mark::mark(text, p0, b';');
+    }
+    let t = tail(text, name, from);
+    t.next
+}
+
 // Whether the statement that goes on at `from` holds what can follow an angle.
-fn ends_in(text: &[u8], name: &[u8], from: usize) -> bool
-    ensures { λ r. ⌜ r ≡ endsIn (now (name .entry)) (words (drop from (now (text .entry)))) ⌝ }
+fn ends_in(text: &[u8], name: &[u8], from: usize, alone: bool) -> bool
+    ensures { λ r. ⌜ r ≡ endsIn alone (now (name .entry)) (words (drop from (now (text .entry)))) ⌝ }
 {
     let mut at = from;
     loop {
@@ -148,9 +268,8 @@ fn ends_in(text: &[u8], name: &[u8], from: usize) -> bool
                 return false;
             }
             Spot::Lost => {
-                let t = tail(text, name, Spot::At(at));
-                let t_next = t.next;
-                match t_next {
+                let next = follow(text, name, Spot::At(at), alone);
+                match next {
                     Spot::At(_) => {
                         return true;
                     }
@@ -163,13 +282,40 @@ fn ends_in(text: &[u8], name: &[u8], from: usize) -> bool
     }
 }
 
-// Whether only the angle of the statement is wrong.
-pub fn bad_angle(text: &[u8], name: &[u8], at: usize) -> bool
-    ensures { λ r. ⌜ r ≡ badAngle (now (name .entry)) (some (words (drop at (now (text .entry))))) ⌝ }
+// Whether the statement begins with the word and `(`, and holds what can follow an angle.
+fn bad_in(text: &[u8], name: &[u8], at: usize, word: &[u8], alone: bool) -> bool
+    ensures { λ r. ⌜ r ≡ endsAt alone (now (name .entry)) (openingOf (now (word .entry)) (some (words (drop at (now (text .entry)))))) ⌝ }
 {
-    let p = opening(text, Spot::At(at));
+    let p = opening(text, Spot::At(at), word);
     match p {
-        Spot::At(q) => ends_in(text, name, q),
+        Spot::At(q) => ends_in(text, name, q, alone),
         Spot::Lost => false,
     }
+}
+
+fn bad_newer(text: &[u8], version: Version, name: &[u8], at: usize) -> bool
+    ensures { λ r. ⌜ r ≡ badNewer version (now (name .entry)) (some (words (drop at (now (text .entry))))) ⌝ }
+{
+    match version {
+        Version::Two => false,
+        Version::Three => {
+            if bad_in(text, name, at, b"p", false) {
+                return true;
+            }
+            bad_in(text, name, at, b"gphase", true)
+        }
+    }
+}
+
+// Whether only the angle of the statement is wrong.
+pub fn bad_angle(text: &[u8], version: Version, name: &[u8], at: usize) -> bool
+    ensures { λ r. ⌜ r ≡ badAngle version (now (name .entry)) (some (words (drop at (now (text .entry))))) ⌝ }
+{
+    if bad_in(text, name, at, b"u1", false) {
+        return true;
+    }
+    if bad_in(text, name, at, b"rz", false) {
+        return true;
+    }
+    bad_newer(text, version, name, at)
 }

@@ -1,29 +1,38 @@
 // The first three statements.
 use crate::gate::MOST_QUBIT;
 use crate::mark;
+use spots::spot::Part;
 use spots::spot::Spot;
+use versions::Version;
 use words::take;
 use words::word;
 ghost use mathlib.Core.Path.{_≡_};
 ghost use lib.ListN.{drop};
 ghost use Rattle.words.specs.Words.{words};
-ghost use Rattle.words.specs.Places.{leftAt};
-ghost use Rattle.statements.specs.Statements.{versionOf, includeOf, hasEnd};
+ghost use Rattle.words.specs.Places.{leftAt, gotAt};
+ghost use Rattle.statements.specs.Statements.{versionOf, includeOf, sizeOf, hasEnd};
 ghost use Rattle.statements.specs.Places.{RegisterAt};
+ghost use Rattle.versions.specs.declared.Version.the-variants.{Two, Three};
 
-pub fn version(text: &[u8], from: Spot) -> Spot
-    ensures { λ r. ⌜ leftAt (now (text .entry)) r ≡ versionOf (leftAt (now (text .entry)) from) ⌝ }
+pub fn version(text: &[u8], from: Spot, version: Version) -> Spot
+    ensures { λ r. ⌜ leftAt (now (text .entry)) r ≡ versionOf version (leftAt (now (text .entry)) from) ⌝ }
 {
     let p0 = take::take(text, from, b"OPENQASM");
-    let p1 = take::take(text, p0, b"2.0");
+    let p1 = match version {
+        Version::Two => take::take(text, p0, b"2.0"),
+        Version::Three => take::take(text, p0, b"3.0"),
+    };
     mark::mark(text, p1, b';')
 }
 
-pub fn include(text: &[u8], from: Spot) -> Spot
-    ensures { λ r. ⌜ leftAt (now (text .entry)) r ≡ includeOf (leftAt (now (text .entry)) from) ⌝ }
+pub fn include(text: &[u8], from: Spot, version: Version) -> Spot
+    ensures { λ r. ⌜ leftAt (now (text .entry)) r ≡ includeOf version (leftAt (now (text .entry)) from) ⌝ }
 {
     let p0 = take::take(text, from, b"include");
-    let p1 = take::take(text, p0, b"\"qelib1.inc\"");
+    let p1 = match version {
+        Version::Two => take::take(text, p0, b"\"qelib1.inc\""),
+        Version::Three => take::take(text, p0, b"\"stdgates.inc\""),
+    };
     mark::mark(text, p1, b';')
 }
 
@@ -35,22 +44,62 @@ pub struct Declared {
     pub next: Spot,
 }
 
-pub fn register(text: &[u8], from: Spot) -> Declared
-    ensures { λ r. ⌜ RegisterAt (now (text .entry)) from r ⌝ }
+// `[n]`
+fn size(text: &[u8], from: Spot) -> Part
+    ensures { λ r. ⌜ gotAt (now (text .entry)) r ≡ sizeOf (leftAt (now (text .entry)) from) ⌝ }
+{
+    let p0 = mark::mark(text, from, b'[');
+    let n = take::number(text, p0, MOST_QUBIT);
+    let n_next = n.next;
+    let end = mark::mark(text, n_next, b']');
+    Part {
+        value: n.value,
+        next: end,
+    }
+}
+
+// `qreg NAME[n];`
+fn classic(text: &[u8], from: Spot) -> Declared
+    ensures { λ r. ⌜ RegisterAt Two (now (text .entry)) from r ⌝ }
 {
     let p0 = take::take(text, from, b"qreg");
     let name = take::name(text, p0);
     let name_next = name.next;
-    let p1 = mark::mark(text, name_next, b'[');
-    let n = take::number(text, p1, MOST_QUBIT);
+    let n = size(text, name_next);
     let n_next = n.next;
-    let p2 = mark::mark(text, n_next, b']');
-    let end = mark::mark(text, p2, b';');
+    let end = mark::mark(text, n_next, b';');
     Declared {
         from: name.from,
         to: name.to,
         size: n.value,
         next: end,
+    }
+}
+
+// `qubit[n] NAME;`
+fn sized(text: &[u8], from: Spot) -> Declared
+    ensures { λ r. ⌜ RegisterAt Three (now (text .entry)) from r ⌝ }
+{
+    let p0 = take::take(text, from, b"qubit");
+    let n = size(text, p0);
+    let n_next = n.next;
+    let name = take::name(text, n_next);
+    let name_next = name.next;
+    let end = mark::mark(text, name_next, b';');
+    Declared {
+        from: name.from,
+        to: name.to,
+        size: n.value,
+        next: end,
+    }
+}
+
+pub fn register(text: &[u8], from: Spot, version: Version) -> Declared
+    ensures { λ r. ⌜ RegisterAt version (now (text .entry)) from r ⌝ }
+{
+    match version {
+        Version::Two => classic(text, from),
+        Version::Three => sized(text, from),
     }
 }
 

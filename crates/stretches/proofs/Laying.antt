@@ -62,10 +62,10 @@ module _ (n : ℕ) (couplers xs : List ℕ) where
     pub size : length out ≡ length out₀
     pub place : at + length (later k) ≡ length J
     pub memory : sets out at (later k) ≡ sets out₀ 0 J
-    pub small : phase < 65536
+    pub small : phase < 131072
     pub due : phases phase (phasesOf n (restFrom n xs k)) ≡ jobPhase n xs
 
-  pub phases-small : (ss : List (List ℕ)) → phasesOf n ss < 65536
+  pub phases-small : (ss : List (List ℕ)) → phasesOf n ss < 131072
   unfolding phasesOf phases
   phases-small [] = omega arith
   phases-small (s ∷ ss) = omega arith
@@ -79,7 +79,7 @@ module _ (n : ℕ) (couplers xs : List ℕ) where
     place = omega (arith, ap length (parts-all n couplers xs));
     memory = ap (sets out 0) (parts-all n couplers xs);
     small = omega arith;
-    due = ap (λ (ss : List (List ℕ)). (0 + phasesOf n ss) % 65536) (rest-start n xs) ∙ omega (arith, phases-small (stretchesOf n xs));
+    due = ap (λ (ss : List (List ℕ)). (0 + phasesOf n ss) % 131072) (rest-start n xs) ∙ omega (arith, phases-small (stretchesOf n xs));
   }
 
   pub laying-end : (out₀ : List ℕ) (k : ℕ) (out : List ℕ) (at phase : ℕ) → length xs < k → Laying out₀ k out at phase
@@ -134,7 +134,7 @@ module _ (n : ℕ) (couplers xs : List ℕ) where
           assoc : (x y z : ℕ) → phases (phases x y) z ≡ phases x (phases y z)
           assoc x y z = unfold phases in omega arith
 
-      phase-small : phase′ < 65536
+      phase-small : phase′ < 131072
       unfolding phases
       phase-small = omega (arith, d)
 

@@ -50,7 +50,7 @@ module _ (n : ℕ) (couplers s : List ℕ) (room : ℕ) (z : numberOf (verdictOf
   stretch-between = records-between n (circuitOf n couplers s) stretch-few (demand-2 n couplers s room z .good)
 
   -- the phase returned for it is its own
-  stretch-share : phaseIn (answered n couplers s room) ≡ phaseOf (gatesOf n s)
+  pub stretch-share : phaseIn (answered n couplers s room) ≡ phaseOf (gatesOf n s)
   unfolding answered countsOf
   stretch-share = ap (λ (b : Bool). phaseIn (pick b (countsOf (circuitOf n couplers s) (phaseOf (gatesOf n s))) (Refused (verdictOf n couplers s room)))) (eq-eqb (numberOf (verdictOf n couplers s room)) 0 z)
 

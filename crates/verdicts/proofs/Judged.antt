@@ -8,7 +8,7 @@ use lib.Dec.{eqb}
 use borrow.Author.Tests.{eqb-true, eq-eqb, ne-eqb}
 use Rattle.sets.specs.Pick.{pick}
 use Rattle.verdicts.specs.declared.verdict.Verdict.{Verdict}
-use Rattle.verdicts.specs.declared.verdict.Verdict.the-variants.{Accepted, Qubits, ManyCouplers, WrongCoupler, ManyGates, BadGate, ManyParities, Unreachable, Room, Line, LongText, Angle, Statement}
+use Rattle.verdicts.specs.declared.verdict.Verdict.the-variants.{Accepted, Qubits, ManyCouplers, WrongCoupler, ManyGates, BadGate, ManyParities, Unreachable, Room, Line, LongText, Angle, Statement, Unversioned}
 use Rattle.verdicts.specs.Verdicts.{numberOf}
 use Rattle.verdicts.specs.InOrder.{andThen}
 
@@ -27,6 +27,7 @@ zero-accepted (Line k) e = let z : _≡_ {A = ℕ} 10 0 = e in absurd (omega ari
 zero-accepted LongText e = let z : _≡_ {A = ℕ} 11 0 = e in absurd (omega arith)
 zero-accepted (Angle k) e = let z : _≡_ {A = ℕ} 12 0 = e in absurd (omega arith)
 zero-accepted (Statement k) e = let z : _≡_ {A = ℕ} 13 0 = e in absurd (omega arith)
+zero-accepted Unversioned e = let z : _≡_ {A = ℕ} 14 0 = e in absurd (omega arith)
 
 -- no answer has the number 9
 pub no-nine : (v : Verdict) → numberOf v ≢ 9
@@ -43,6 +44,7 @@ no-nine (Line k) e = let z : _≡_ {A = ℕ} 10 9 = e in omega arith
 no-nine LongText e = let z : _≡_ {A = ℕ} 11 9 = e in omega arith
 no-nine (Angle k) e = let z : _≡_ {A = ℕ} 12 9 = e in omega arith
 no-nine (Statement k) e = let z : _≡_ {A = ℕ} 13 9 = e in omega arith
+no-nine Unversioned e = let z : _≡_ {A = ℕ} 14 9 = e in omega arith
 
 -- v stands for the verdict w of a test, and k for v's number
 module _ {v w : Verdict} {k : ℕ} (e : v ≡ w) (f : k ≡ numberOf v) where

@@ -10,7 +10,7 @@ use Rattle.gates.specs.Limits.{mostQubits, mostCouplers}
 use Rattle.gates.specs.Layout.{gateOf, isBad, couplerOf, isWrong}
 use Rattle.gates.specs.Hadamards.{isHadamard}
 use Rattle.verdicts.specs.declared.verdict.Verdict.{Verdict}
-use Rattle.verdicts.specs.declared.verdict.Verdict.the-variants.{Accepted, Qubits, ManyCouplers, WrongCoupler, ManyGates, BadGate, ManyParities, Unreachable, Room, Line, LongText, Angle, Statement}
+use Rattle.verdicts.specs.declared.verdict.Verdict.the-variants.{Accepted, Qubits, ManyCouplers, WrongCoupler, ManyGates, BadGate, ManyParities, Unreachable, Room, Line, LongText, Angle, Statement, Unversioned}
 
 -- the column "No."
 abbrev pub numberOf : Verdict → ℕ
@@ -27,6 +27,7 @@ numberOf (Line k) = 10
 numberOf LongText = 11
 numberOf (Angle k) = 12
 numberOf (Statement k) = 13
+numberOf Unversioned = 14
 
 -- the column "Place returned"
 abbrev pub placeOf : Verdict → ℕ
@@ -43,6 +44,7 @@ placeOf (Line k) = k
 placeOf LongText = 0
 placeOf (Angle k) = k
 placeOf (Statement k) = k
+placeOf Unversioned = 1
 
 -- the first place of a list whose record fails, "from 0"; the list's length where none does
 unfoldable pub firstFailing : (ℕ → Bool) → List ℕ → ℕ

@@ -20,6 +20,7 @@ pub enum Verdict {
     LongText,
     Angle(usize),
     Statement(usize),
+    Unversioned,
 }
 
 pub fn number(v: Verdict) -> u32
@@ -39,6 +40,7 @@ pub fn number(v: Verdict) -> u32
         Verdict::LongText => 11,
         Verdict::Angle(_) => 12,
         Verdict::Statement(_) => 13,
+        Verdict::Unversioned => 14,
     }
 }
 
@@ -59,6 +61,7 @@ pub fn place(v: Verdict) -> usize
         Verdict::LongText => 0,
         Verdict::Angle(k) => k,
         Verdict::Statement(k) => k,
+        Verdict::Unversioned => 1,
     }
 }
 

@@ -56,6 +56,6 @@ named (some []) = none
 named (some (w ∷ ws)) = pick (isName (w .bytes)) (some ws) none
 
 -- g where it was read, else h
-unfoldable pub orElse : Option (List Word) → Got → Got → Got
+unfoldable pub orElse : {A : Type 0} → Option (List Word) → A → A → A
 orElse none g h = h
 orElse (some t) g h = g

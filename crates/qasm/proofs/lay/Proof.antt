@@ -7,17 +7,12 @@ use Rattle.qasm_console.proofs.Lending.{couplers-lent, couplers-whole, gates-le
 use borrow.Author.Needs.{needs}
 use Rattle.qasm.proofs.lay.Statement.{statement}
 use Rattle.qasm.proofs.lay.Tie as tie
-use Rattle.io.proofs.read_full.Reads as read-full-reads
-use Rattle.io.proofs.write_all.Reads as write-all-reads
-use Rattle.libc.proofs.close.Reads as close-reads
-use Rattle.qasm_console.proofs.printing.begin.Reads as begin-reads
-use Rattle.qasm_console.proofs.printing.lay_part.Reads as lay-part-reads
 
 abbrev Inv-loop : tie.InvT-loop
-Inv-loop fd listed n couplers gates out₀ k job c g from₀ out from = Unit {0}
+Inv-loop fd listed n couplers gates out₀ k q c g version phase₀ from₀ out phase from = Unit {0}
 
 abbrev μ-loop : tie.MeasureT-loop
-μ-loop fd listed n couplers gates out₀ k job c g from₀ out from = g + 1 - from
+μ-loop fd listed n couplers gates out₀ k q c g version phase₀ from₀ out phase from = g + 1 - from
 
 slice-aggregate-read-full : tie.Need-slice-aggregate-read-full Inv-loop μ-loop
 slice-aggregate-read-full c = search needs
@@ -73,11 +68,26 @@ slice-aggregate-write-all-2 c = printed-long (c .before .lay-part .ensures .0)
 write-all-requires-2 : tie.Need-write-all-requires-2 Inv-loop μ-loop
 write-all-requires-2 c κs = search needs
 
+together-requires : tie.Need-together-requires Inv-loop μ-loop
+together-requires c κs = search needs
+
 loop-less : tie.Need-loop-less Inv-loop μ-loop
-loop-less c = let e = gates-whole (c .before .before .before .before .before .before .before .before .before .before .before .begin .ensures .1) in let m = next-later _ _ (c .before .before .before .before .before .before .before .loop .from) _ _ e (c .before .before .before .before .before .before .loop-test .taken) (c .before .before .lay-part .ensures .1) in omega (arith, m, c .before .before .before .before .before .before .loop-test .taken)
+loop-less c = let e = gates-whole (c .before .before .before .before .before .before .before .before .before .before .before .before .begin .ensures .1) in let m = next-later _ _ (c .before .before .before .before .before .before .before .before .loop .from) _ _ e (c .before .before .before .before .before .before .before .loop-test .taken) (c .before .before .before .lay-part .ensures .1) in omega (arith, m, c .before .before .before .before .before .before .before .loop-test .taken)
 
 loop-again : tie.Need-loop-again Inv-loop μ-loop
 loop-again c = tt
+
+end-requires : tie.Need-end-requires Inv-loop μ-loop
+end-requires c κs = search needs
+
+array-share-prefix-out-3 : tie.Need-array-share-prefix-out-3 Inv-loop μ-loop
+array-share-prefix-out-3 c = printed-fits (c .end .ensures)
+
+slice-aggregate-write-all-3 : tie.Need-slice-aggregate-write-all-3 Inv-loop μ-loop
+slice-aggregate-write-all-3 c = printed-long (c .before .end .ensures)
+
+write-all-requires-3 : tie.Need-write-all-requires-3 Inv-loop μ-loop
+write-all-requires-3 c κs = search needs
 
 returns : tie.Need-returns Inv-loop μ-loop
 returns c = search needs
@@ -106,6 +116,11 @@ lay-spec =
     array-share-prefix-out-2
     slice-aggregate-write-all-2
     write-all-requires-2
+    together-requires
     loop-less
     loop-again
+    end-requires
+    array-share-prefix-out-3
+    slice-aggregate-write-all-3
+    write-all-requires-3
     returns)

@@ -7,17 +7,12 @@ use Rattle.qasm_console.proofs.Lending.{couplers-lent, couplers-whole, gates-le
 use borrow.Author.Needs.{needs}
 use Rattle.qasm_vectors.proofs.lay.Statement.{statement}
 use Rattle.qasm_vectors.proofs.lay.Tie as tie
-use Rattle.circuit.proofs.wires.together.Reads as together-reads
-use Rattle.io.proofs.write_all.Reads as write-all-reads
-use Rattle.qasm_console.proofs.printing.begin.Reads as begin-reads
-use Rattle.qasm_console.proofs.printing.lay_part.Reads as lay-part-reads
-use Rattle.qasm_vectors.proofs.copy.Reads as copy-reads
 
 abbrev Inv-loop : tie.InvT-loop
-Inv-loop listing text couplers gates out₀ k job c g from₀ phase₀ out from phase = Unit {0}
+Inv-loop listing text couplers gates out₀ k q c g version phase₀ from₀ out phase from = Unit {0}
 
 abbrev μ-loop : tie.MeasureT-loop
-μ-loop listing text couplers gates out₀ k job c g from₀ phase₀ out from phase = g + 1 - from
+μ-loop listing text couplers gates out₀ k q c g version phase₀ from₀ out phase from = g + 1 - from
 
 slice-aggregate-copy : tie.Need-slice-aggregate-copy Inv-loop μ-loop
 slice-aggregate-copy c = search needs
@@ -79,6 +74,18 @@ loop-less c = let e = gates-whole (c .before .before .before .before .before .be
 loop-again : tie.Need-loop-again Inv-loop μ-loop
 loop-again c = tt
 
+end-requires : tie.Need-end-requires Inv-loop μ-loop
+end-requires c κs = search needs
+
+array-share-prefix-out-3 : tie.Need-array-share-prefix-out-3 Inv-loop μ-loop
+array-share-prefix-out-3 c = printed-fits (c .end .ensures)
+
+slice-aggregate-write-all-3 : tie.Need-slice-aggregate-write-all-3 Inv-loop μ-loop
+slice-aggregate-write-all-3 c = printed-long (c .before .end .ensures)
+
+write-all-requires-3 : tie.Need-write-all-requires-3 Inv-loop μ-loop
+write-all-requires-3 c κs = search needs
+
 returns : tie.Need-returns Inv-loop μ-loop
 returns c = search needs
 
@@ -108,4 +115,8 @@ lay-spec =
     together-requires
     loop-less
     loop-again
+    end-requires
+    array-share-prefix-out-3
+    slice-aggregate-write-all-3
+    write-all-requires-3
     returns)

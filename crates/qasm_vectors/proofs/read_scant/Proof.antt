@@ -3,27 +3,21 @@ use mathlib.Core.Path.{_≡_, sym, ap, _∙_}
 use mathlib.Core.List.{List}
 use Prim.Native.Nat.{ℕ, _≤_}
 use lib.ListN.{length, take}
-use Rattle.gates.specs.declared.job.Job.{Job}
-use Rattle.reading.specs.Readings.{listAfter}
-use Rattle.reading.specs.declared.read.Reading.{Reading}
-use Rattle.reading.specs.declared.read.Reading.the-variants.{Read}
-use Rattle.reading.proofs.Said.{answered-read}
+use Rattle.qasm_reading.specs.declared.read.Circuit.{Circuit}
+use Rattle.qasm_reading.specs.declared.read.Reading.{Reading}
+use Rattle.qasm_reading.specs.declared.read.Reading.the-variants.{Read}
 use Rattle.qasm_reading.specs.Parsing.{parsed}
-use Rattle.qasm_reading.specs.Readings.{gatesIn, jobIn, judgedReading, readingOf}
+use Rattle.qasm_reading.specs.Readings.{gatesIn, readingOf, listAfter}
+use Rattle.qasm_reading.proofs.Said.{gates-counted, read-says}
 use Rattle.console.proofs.Fronts.{front-fits, front-long}
-use Rattle.qasm_console.proofs.Reading.{gates-counted}
 use borrow.Author.Needs.{needs}
 use Rattle.qasm_vectors.proofs.read_scant.Statement.{statement}
 use Rattle.qasm_vectors.proofs.read_scant.Tie as tie
-use Rattle.qasm_reading.proofs.read.read.Reads as read-reads
-use Rattle.qasm_vectors.proofs.say.Reads as say-reads
-use Rattle.qasm_vectors.proofs.write_scant.Reads as write-scant-reads
 
 -- the reader was lent gs₀, and left gs
-module _ (t gs₀ gs : List ℕ) (room : ℕ) {r : Reading} {j : Job} (e : r ≡ readingOf t room) (g : gs ≡ listAfter r (gatesIn (parsed t)) gs₀) (d : r ≡ Read j) where
+module _ (t gs₀ gs : List ℕ) (room : ℕ) {r : Reading} {j : Circuit} (e : r ≡ readingOf t room) (g : gs ≡ listAfter r (gatesIn (parsed t)) gs₀) (d : r ≡ Read j) where
   counted : j .gates ≡ length (gatesIn (parsed t))
-  unfolding readingOf
-  counted = ap (λ (i : Job). i .gates) (answered-read (judgedReading t room) (jobIn (parsed t)) j (sym e ∙ d) .1) ∙ gates-counted (parsed t)
+  counted = ap (λ (i : Circuit). i .gates) (read-says t room j (sym e ∙ d) .1) ∙ gates-counted (parsed t)
 
   gates-fit : j .gates ≤ length gs
   gates-fit = front-fits (gatesIn (parsed t)) gs₀ gs (j .gates) counted (g ∙ ap (λ (x : Reading). listAfter x (gatesIn (parsed t)) gs₀) d)
@@ -37,17 +31,20 @@ slice-aggregate-read c = search needs
 read-requires : tie.Need-read-requires
 read-requires c κs = search needs
 
-enum-known-job : tie.Need-enum-known-job
-enum-known-job c = search needs
+enum-known-circuit : tie.Need-enum-known-circuit
+enum-known-circuit c = search needs
 
 say-requires : tie.Need-say-requires
 say-requires c κs = search needs
 
+say-phase-requires : tie.Need-say-phase-requires
+say-phase-requires c κs = search needs
+
 array-share-prefix-gates : tie.Need-array-share-prefix-gates
-array-share-prefix-gates c = gates-fit _ _ _ _ (c .before .before .before .before .before .read .ensures .0) (c .before .before .before .before .before .read .ensures .1) (c .before .before .job .given .1)
+array-share-prefix-gates c = gates-fit _ _ _ _ (c .before .before .before .before .before .before .read .ensures .0) (c .before .before .before .before .before .before .read .ensures .1) (c .before .before .before .circuit .given .1)
 
 slice-aggregate-write-scant : tie.Need-slice-aggregate-write-scant
-slice-aggregate-write-scant c = gates-long _ _ _ _ (c .before .before .before .before .before .before .read .ensures .0) (c .before .before .before .before .before .before .read .ensures .1) (c .before .before .before .job .given .1)
+slice-aggregate-write-scant c = gates-long _ _ _ _ (c .before .before .before .before .before .before .before .read .ensures .0) (c .before .before .before .before .before .before .before .read .ensures .1) (c .before .before .before .before .circuit .given .1)
 
 write-scant-requires : tie.Need-write-scant-requires
 write-scant-requires c κs = search needs
@@ -70,8 +67,9 @@ read-scant-spec =
     (tie.spec
     slice-aggregate-read
     read-requires
-    enum-known-job
+    enum-known-circuit
     say-requires
+    say-phase-requires
     array-share-prefix-gates
     slice-aggregate-write-scant
     write-scant-requires

@@ -1,8 +1,12 @@
 -- `circuit::wires::shift` meets its contract. Assumes nothing.
+use borrow.Author.Needs.{needs}
 use borrow.Author.Tests.{eq-eqb, ne-eqb}
 use Rattle.circuit.specs.Phase.{shifts}
 use Rattle.circuit.proofs.wires.shift.Statement.{statement}
 use Rattle.circuit.proofs.wires.shift.Tie as tie
+
+mul-result : tie.Need-mul-result
+mul-result c = search needs
 
 returns : tie.Need-returns
 unfolding shifts
@@ -13,4 +17,4 @@ unfolding shifts
 returns-2 c = simp (ne-eqb _ _ (c .if1 .left))
 
 pub shift-spec : {M : Type 1} → statement M
-shift-spec = tie.close (tie.spec returns returns-2)
+shift-spec = tie.close (tie.spec mul-result returns returns-2)

@@ -26,14 +26,14 @@ begin-drawing-requires c κs = search needs
 enum-known-verdict : tie.Need-enum-known-verdict
 enum-known-verdict c = search needs
 
-print-refusal-requires : tie.Need-print-refusal-requires
-print-refusal-requires c κs = search needs
+refuse-requires : tie.Need-refuse-requires
+refuse-requires c κs = search needs
 
 returns : tie.Need-returns
 returns c = ((c .before .before .before .before .before .before .before .before .before .before .before .before .front-arg2 .given .0, c .before .before .before .before .before .before .before .before .before .before .before .before .before .before .front-arg .given .0), begins-same (c .before .before .before .before .before .before .before .before .before .before .before .front2 .ensures) (c .before .before .before .before .before .before .before .before .before .before .before .before .before .front .ensures) (begun-read _ _ _ _ _ _ _ _ (c .before .before .before .before .before .before .before .before .before .before .read-couplers-arg .given .0 .1) _ (c .before .before .before .before .before .before .before .before .before .read-couplers .ensures .0) (c .before .before .before .before .before .before .before .before .before .read-couplers .ensures .1) _ _ (c .before .before .before .before .before .before .before .job .given .1) (circuit-same (c .before .before .before .first .ensures) refl (c .begin-drawing .ensures))))
 
 returns-2 : tie.Need-returns-2
-returns-2 c = ((c .before .before .before .before .before .before .before .before .front-arg2 .given .0, c .before .before .before .before .before .before .before .before .before .before .front-arg .given .0), begins-same (c .before .before .before .before .before .before .before .front2 .ensures) (c .before .before .before .before .before .before .before .before .before .front .ensures) (begun-unread _ _ _ _ _ _ _ _ (c .before .before .before .before .before .before .read-couplers-arg .given .0 .1) _ (c .before .before .before .before .before .read-couplers .ensures .0) (c .before .before .before .before .before .read-couplers .ensures .1) _ _ (c .before .before .before .verdict .given .1) refl (c .print-refusal .ensures)))
+returns-2 c = ((c .before .before .before .before .before .before .before .before .front-arg2 .given .0, c .before .before .before .before .before .before .before .before .before .before .front-arg .given .0), begins-same (c .before .before .before .before .before .before .before .front2 .ensures) (c .before .before .before .before .before .before .before .before .before .front .ensures) (begun-unread _ _ _ _ _ _ _ _ (c .before .before .before .before .before .before .read-couplers-arg .given .0 .1) _ (c .before .before .before .before .before .read-couplers .ensures .0) (c .before .before .before .before .before .read-couplers .ensures .1) _ _ (c .before .before .before .verdict .given .1) refl (c .refuse .ensures .0) (c .refuse .ensures .1)))
 
 pub begin-spec : {M : Type 1} → statement M
 begin-spec =
@@ -46,6 +46,6 @@ begin-spec =
     first-requires
     begin-drawing-requires
     enum-known-verdict
-    print-refusal-requires
+    refuse-requires
     returns
     returns-2)

@@ -1,10 +1,9 @@
 -- `qasm_console::printing::begin_gates` meets its contract. Assumes nothing.
 use Rattle.tallies.specs.Tally.{boundOf}
 use Rattle.verdicts.proofs.Judged.{passed, refused}
-use Rattle.console.proofs.Beginning.{first-passed, first-refused}
 use Rattle.qasm_console.proofs.Fronts.{prints-same}
 use Rattle.qasm_console.proofs.Whole.{head-whole}
-use Rattle.qasm_console.proofs.Beginning.{head-passed, head-refused}
+use Rattle.qasm_console.proofs.Beginning.{head-passed, head-refused, handed-passed, handed-refused}
 use borrow.Author.Needs.{needs}
 use Rattle.qasm_console.proofs.printing.begin_gates.Statement.{statement}
 use Rattle.qasm_console.proofs.printing.begin_gates.Tie as tie
@@ -18,22 +17,20 @@ number-requires c κs = search needs
 print-refusal-requires : tie.Need-print-refusal-requires
 print-refusal-requires c κs = search needs
 
-add-t11 : tie.Need-add-t11
-add-t11 c = search needs
+add-t16 : tie.Need-add-t16
+add-t16 c = search needs
 
 returns : tie.Need-returns
-returns c =
-    let no = refused (c .before .before .before .before .judge .ensures) (c .before .before .before .number .ensures) (c .before .before .if1 .taken) in
-    (prints-same (head-refused _ _ _ _ (c .before .before .before .before .judge .ensures) no) (c .print-refusal .ensures), first-refused _ _ _ no)
+returns c = let no = refused (c .before .before .before .before .judge .ensures) (c .before .before .before .number .ensures) (c .before .before .if1 .taken) in
+    (prints-same (head-refused (c .before .before .before .before .before .before .before .args .circuit) _ _ _ (c .before .before .before .before .judge .ensures) no) (c .print-refusal .ensures), handed-refused (c .before .before .before .before .before .before .before .args .circuit) _ _ no)
 
 put-head-requires : tie.Need-put-head-requires
 put-head-requires c κs = search needs
 
 returns-2 : tie.Need-returns-2
 unfolding boundOf
-returns-2 c =
-    let z = passed (c .before .before .before .before .judge .ensures) (c .before .before .before .number .ensures) (c .before .before .if1 .left) in
-    (prints-same (head-passed _ _ _ z) (head-whole _ _ _ (c .before .put-head-arg .given .0 .1) _ _ _ z (c .put-head .ensures)), first-passed _ _ _ z)
+returns-2 c = let z = passed (c .before .before .before .before .judge .ensures) (c .before .before .before .number .ensures) (c .before .before .if1 .left) in
+    (prints-same (head-passed (c .before .before .before .before .before .before .before .args .circuit) _ _ z) (head-whole _ _ _ (c .before .put-head-arg .given .0 .1) _ _ _ _ z (c .put-head .ensures)), handed-passed (c .before .before .before .before .before .before .before .args .circuit) _ _ z)
 
 pub begin-gates-spec : {M : Type 1} → statement M
 begin-gates-spec =
@@ -42,7 +39,7 @@ begin-gates-spec =
     judge-requires
     number-requires
     print-refusal-requires
-    add-t11
+    add-t16
     returns
     put-head-requires
     returns-2)

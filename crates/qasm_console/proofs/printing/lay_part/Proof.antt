@@ -22,7 +22,7 @@ put-gates-requires c κs = search needs
 
 returns : tie.Need-returns
 unfolding boundOf
-returns c = (prints-same (past-text _ _ _ (c .before .before .before .before .before .before .args .from) (c .before .before .before .if1 .taken)) (prints-none _ _ _ (c .before .before .put-gates-arg .given .0 .1) (c .put-gates .ensures)), past-next _ (c .before .before .before .before .before .before .args .couplers .now) _ (c .before .before .before .before .before .before .args .from) (c .before .before .before .if1 .taken), past-share _ _ _ (c .before .before .before .before .before .before .args .from) (c .before .before .before .if1 .taken))
+returns c = (prints-same (past-text _ _ _ _ (c .before .before .before .before .before .before .args .from) (c .before .before .before .if1 .taken)) (prints-none (c .before .before .before .before .before .before .args .version) _ _ _ (c .before .before .put-gates-arg .given .0 .1) (c .put-gates .ensures)), past-next _ (c .before .before .before .before .before .before .args .couplers .now) _ (c .before .before .before .before .before .before .args .from) (c .before .before .before .if1 .taken), past-share _ _ _ (c .before .before .before .before .before .before .args .from) (c .before .before .before .if1 .taken))
 
 stretch-at-requires : tie.Need-stretch-at-requires
 stretch-at-requires c κs = search needs
@@ -31,17 +31,17 @@ hadamard-at-requires : tie.Need-hadamard-at-requires
 hadamard-at-requires c κs = search needs
 
 print-part-requires : tie.Need-print-part-requires
-print-part-requires c κs = subst (λ (h : List ℕ). length (gatesText h) ≤ 26) (sym (c .before .hadamard-at .ensures)) (hadamard-most (c .before .before .before .before .before .before .args .n) (c .before .before .before .before .before .before .args .gates .now) (c .before .before .before .before .before .before .args .from))
-
-add-t17 : tie.Need-add-t17
-add-t17 c = search (needs, lent-within _ _ (c .before .before .before .before .before .before .before .args .from) _ (c .before .before .before .stretch-at .ensures) (c .before .before .before .before .if1 .left))
+print-part-requires c κs = subst (λ (h : List ℕ). length (gatesText (c .before .before .before .before .before .before .args .version) h) ≤ 26) (sym (c .before .hadamard-at .ensures)) (hadamard-most (c .before .before .before .before .before .before .args .version) (c .before .before .before .before .before .before .args .n) (c .before .before .before .before .before .before .args .gates .now) (c .before .before .before .before .before .before .args .from))
 
 add-t18 : tie.Need-add-t18
 add-t18 c = search (needs, lent-within _ _ (c .before .before .before .before .before .before .before .args .from) _ (c .before .before .before .stretch-at .ensures) (c .before .before .before .before .if1 .left))
 
+add-t19 : tie.Need-add-t19
+add-t19 c = search (needs, lent-within _ _ (c .before .before .before .before .before .before .before .args .from) _ (c .before .before .before .stretch-at .ensures) (c .before .before .before .before .if1 .left))
+
 returns-2 : tie.Need-returns-2
 returns-2 c = (
-  prints-same (part-text _ _ _ (c .before .before .before .before .before .before .before .args .from) (c .before .before .before .before .if1 .left) _ _ (c .before .before .before .stretch-at .ensures) (c .before .before .hadamard-at .ensures)) (c .print-part .ensures .0),
+  prints-same (part-text _ _ _ _ (c .before .before .before .before .before .before .before .args .from) (c .before .before .before .before .if1 .left) _ _ (c .before .before .before .stretch-at .ensures) (c .before .before .hadamard-at .ensures)) (c .print-part .ensures .0),
   part-next _ (c .before .before .before .before .before .before .before .args .couplers .now) _ (c .before .before .before .before .before .before .before .args .from) (c .before .before .before .before .if1 .left) _ _ (c .before .before .before .stretch-at .ensures) (c .before .before .hadamard-at .ensures),
   c .print-part .ensures .1 ∙ part-share _ _ _ (c .before .before .before .before .before .before .before .args .from) (c .before .before .before .before .if1 .left) _ _ (c .before .before .before .stretch-at .ensures) (c .before .before .hadamard-at .ensures),
 )
@@ -56,6 +56,6 @@ lay-part-spec =
     stretch-at-requires
     hadamard-at-requires
     print-part-requires
-    add-t17
     add-t18
+    add-t19
     returns-2)

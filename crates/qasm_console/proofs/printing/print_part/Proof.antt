@@ -46,10 +46,10 @@ unfolding boundOf
 returns c =
     let z = laid-passed _ _ _ _ (length-replicate {A = ℕ} largest 0) _ (c .before .before .before .before .before .before .before .before .before .lay .ensures .0) _ (c .before .before .before .before .before .before .before .before .before .lay .ensures .1) _ _ _ _ _ (c .before .before .before .before .before .before .records .given .1) in (
       prints-same (unless-passed _ _ z)
-          (both-printed _ _ _ (c .before .before .before .before .before .before .before .before .before .before .before .before .before .before .args .out .now) _ _ _ _ (c .before .before .before .before .put-gates-arg .given .0 .1)
+          (both-printed _ _ _ _ (c .before .before .before .before .before .before .before .before .before .before .before .before .before .before .args .out .now) _ _ _ _ (c .before .before .before .before .put-gates-arg .given .0 .1)
           (alone-is _ _ _ _ _ (length-replicate {A = ℕ} largest 0) _ (c .before .before .before .before .before .before .before .before .before .lay .ensures .0) (c .before .before .before .before .before .before .before .before .before .lay .ensures .1) _ _ _ _ _ (c .before .before .before .before .before .before .records .given .1))
           (records-few _ _ _ _ (length-replicate {A = ℕ} largest 0) _ (c .before .before .before .before .before .before .before .before .before .lay .ensures .0) _ (c .before .before .before .before .before .before .before .before .before .lay .ensures .1) _ _ _ _ _ (c .before .before .before .before .before .before .records .given .1))
-          (stretch-most _ _ _ largest z) (c .before .before .before .before .before .before .before .before .before .before .before .before .before .before .pre) (c .before .before .put-gates .ensures .0) (c .before .before .put-gates .ensures .1) (c .put-gates2 .ensures .0) (c .put-gates2 .ensures .1)),
+          (stretch-most _ _ _ _ largest z) (c .before .before .before .before .before .before .before .before .before .before .before .before .before .before .pre) (c .before .before .put-gates .ensures .0) (c .before .before .put-gates .ensures .1) (c .put-gates2 .ensures .0) (c .put-gates2 .ensures .1)),
       laid-share _ _ _ _ (length-replicate {A = ℕ} largest 0) _ (c .before .before .before .before .before .before .before .before .before .lay .ensures .0) _ (c .before .before .before .before .before .before .before .before .before .lay .ensures .1) _ _ _ _ _ (c .before .before .before .before .before .before .records .given .1),
     )
 

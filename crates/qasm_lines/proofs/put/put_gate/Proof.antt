@@ -20,10 +20,10 @@ numbers-of-requires : tie.Need-numbers-of-requires
 numbers-of-requires c κs = search needs
 
 array-share-prefix-line : tie.Need-array-share-prefix-line
-array-share-prefix-line c = omega (arith, c .before .before .length-of .ensures, pattern-most (c .before .before .before .before .before .args .x / 16777216))
+array-share-prefix-line c = omega (arith, c .before .before .length-of .ensures, pattern-most (c .before .before .before .before .before .args .version) (c .before .before .before .before .before .args .x / 16777216))
 
 slice-aggregate-put-pattern : tie.Need-slice-aggregate-put-pattern
-slice-aggregate-put-pattern c = sym (length-take-le _ _ (omega (arith, c .before .before .before .length-of .ensures, pattern-most (c .before .before .before .before .before .before .args .x / 16777216), c .before .before .before .before .pattern-of .ok)))
+slice-aggregate-put-pattern c = sym (length-take-le _ _ (omega (arith, c .before .before .before .length-of .ensures, pattern-most (c .before .before .before .before .before .before .args .version) (c .before .before .before .before .before .before .args .x / 16777216), c .before .before .before .before .pattern-of .ok)))
 
 slice-aggregate-put-pattern-2 : tie.Need-slice-aggregate-put-pattern-2
 slice-aggregate-put-pattern-2 c = search needs
@@ -38,7 +38,7 @@ returns : tie.Need-returns
 returns c =
     let a = c .before .before .before .before .before .before .before .before .before .before .args in
     let p = c .before .before .put-pattern in
-    subst (λ bs. Lined (now (a .text)) (a .at) bs (p .last .0) (p .result)) (gate-line (a .x) (c .before .before .before .before .before .before .before .before .pattern-of .result) (c .before .before .before .before .before .before .before .before .pattern-of .ensures) (c .before .before .before .before .before .before .before .length-of .ensures) (c .before .before .before .before .before .before .numbers-of .ensures)) (p .ensures)
+    subst (λ bs. Lined (now (a .text)) (a .at) bs (p .last .0) (p .result)) (gate-line (a .version) (a .x) (c .before .before .before .before .before .before .before .before .pattern-of .result) (c .before .before .before .before .before .before .before .before .pattern-of .ensures) (c .before .before .before .before .before .before .before .length-of .ensures) (c .before .before .before .before .before .before .numbers-of .ensures)) (p .ensures)
 
 pub put-gate-spec : {M : Type 1} → statement M
 put-gate-spec =

@@ -11,10 +11,10 @@ use Rattle.qasm_lines.proofs.put.put_gates.Statement.{statement}
 use Rattle.qasm_lines.proofs.put.put_gates.Tie as tie
 
 abbrev Inv-loop : tie.InvT-loop
-Inv-loop text₀ from gates at₀ i₀ text at i = (i ≤ length gates) × (length text ≡ length text₀) × (linesEnd gateText (drop i gates) at (length text) ≡ linesEnd gateText gates from (length text₀)) × (linesAt gateText (drop i gates) at text ≡ linesAt gateText gates from text₀)
+Inv-loop text₀ from version gates at₀ i₀ text at i = (i ≤ length gates) × (length text ≡ length text₀) × (linesEnd (gateText version) (drop i gates) at (length text) ≡ linesEnd (gateText version) gates from (length text₀)) × (linesAt (gateText version) (drop i gates) at text ≡ linesAt (gateText version) gates from text₀)
 
 abbrev μ-loop : tie.MeasureT-loop
-μ-loop text₀ from gates at₀ i₀ text at i = length gates - i
+μ-loop text₀ from version gates at₀ i₀ text at i = length gates - i
 
 loop-holds : tie.Need-loop-holds Inv-loop μ-loop
 loop-holds c = (search needs, refl, refl, refl)
@@ -38,7 +38,8 @@ loop-again : tie.Need-loop-again Inv-loop μ-loop
 loop-again c =
     let p = c .before .before .put-gate in
     let l = c .before .before .before .before .before .before .loop in
-    let t = lines-turn gateText (now (c .before .before .before .before .before .before .before .before .before .args .gates)) (l .i) (l .text) (l .at) (c .before .before .before .before .before .loop-test .taken) (p .kept .0) (p .ensures) in
+    let a = c .before .before .before .before .before .before .before .before .before .args in
+    let t = lines-turn (gateText (a .version)) (now (a .gates)) (l .i) (l .text) (l .at) (c .before .before .before .before .before .loop-test .taken) (p .kept .0) (p .ensures) in
     (search needs, p .kept .0 ∙ l .inv .1, t .0 ∙ l .inv .2, t .1 ∙ l .inv .3)
 
 same-length : tie.Need-same-length Inv-loop μ-loop
@@ -47,7 +48,8 @@ same-length c = c .before .loop .inv .1
 returns : tie.Need-returns Inv-loop μ-loop
 returns c =
     let l = c .before .loop in
-    let e = lines-past gateText (now (c .before .before .before .before .args .gates)) (l .i) (l .text) (l .at) (c .loop-test .left) in
+    let a = c .before .before .before .before .args in
+    let e = lines-past (gateText (a .version)) (now (a .gates)) (l .i) (l .text) (l .at) (c .loop-test .left) in
     (e .0 ∙ l .inv .2, e .1 ∙ l .inv .3)
 
 pub put-gates-spec : {M : Type 1} → statement M

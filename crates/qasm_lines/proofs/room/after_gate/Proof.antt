@@ -20,10 +20,10 @@ numbers-of-requires : tie.Need-numbers-of-requires
 numbers-of-requires c κs = search needs
 
 array-share-prefix-line : tie.Need-array-share-prefix-line
-array-share-prefix-line c = omega (arith, c .before .length-of .ensures, pattern-most (c .before .before .before .args .x / 16777216))
+array-share-prefix-line c = omega (arith, c .before .length-of .ensures, pattern-most (c .before .before .before .args .version) (c .before .before .before .args .x / 16777216))
 
 slice-aggregate-after-pattern : tie.Need-slice-aggregate-after-pattern
-slice-aggregate-after-pattern c = sym (length-take-le _ _ (omega (arith, c .before .before .length-of .ensures, pattern-most (c .before .before .before .before .args .x / 16777216), c .before .before .before .pattern-of .ok)))
+slice-aggregate-after-pattern c = sym (length-take-le _ _ (omega (arith, c .before .before .length-of .ensures, pattern-most (c .before .before .before .before .args .version) (c .before .before .before .before .args .x / 16777216), c .before .before .before .pattern-of .ok)))
 
 slice-aggregate-after-pattern-2 : tie.Need-slice-aggregate-after-pattern-2
 slice-aggregate-after-pattern-2 c = search needs
@@ -34,7 +34,7 @@ after-pattern-requires c κs = search needs
 returns : tie.Need-returns
 returns c =
     let a = c .before .before .before .before .before .before .args in
-    c .after-pattern .ensures ∙ ap (λ bs. roomAfter (a .room) (length bs)) (gate-line (a .x) (c .before .before .before .before .before .pattern-of .result) (c .before .before .before .before .before .pattern-of .ensures) (c .before .before .before .before .length-of .ensures) (c .before .before .before .numbers-of .ensures))
+    c .after-pattern .ensures ∙ ap (λ bs. roomAfter (a .room) (length bs)) (gate-line (a .version) (a .x) (c .before .before .before .before .before .pattern-of .result) (c .before .before .before .before .before .pattern-of .ensures) (c .before .before .before .before .length-of .ensures) (c .before .before .before .numbers-of .ensures))
 
 pub after-gate-spec : {M : Type 1} → statement M
 after-gate-spec =

@@ -12,10 +12,10 @@ use Rattle.qasm_lines.proofs.room.after_gates.Statement.{statement}
 use Rattle.qasm_lines.proofs.room.after_gates.Tie as tie
 
 abbrev Inv-loop : tie.InvT-loop
-Inv-loop gates left₀ i₀ left i = (i ≤ length gates) × (roomAfter left (length (gatesText (drop i gates))) ≡ roomAfter left₀ (length (gatesText gates)))
+Inv-loop version gates left₀ i₀ left i = (i ≤ length gates) × (roomAfter left (length (gatesText version (drop i gates))) ≡ roomAfter left₀ (length (gatesText version gates)))
 
 abbrev μ-loop : tie.MeasureT-loop
-μ-loop gates left₀ i₀ left i = length gates - i
+μ-loop version gates left₀ i₀ left i = length gates - i
 
 loop-holds : tie.Need-loop-holds Inv-loop μ-loop
 loop-holds c = (search needs, refl)
@@ -40,13 +40,13 @@ loop-again c =
     let l = c .before .before .before .loop in
     let a = c .before .before .before .before .before .args in
     let xs = now (a .gates) in
-    (search needs, room-turn (a .room) (length (gatesText xs)) (l .left) (l .inv .1) (gateText (getD xs (l .i) 0)) (gatesText (drop (l .i + 1) xs)) (gates-turn xs (l .i) (c .before .before .loop-test .taken)) (c .after-gate .ensures))
+    (search needs, room-turn (a .room) (length (gatesText (a .version) xs)) (l .left) (l .inv .1) (gateText (a .version) (getD xs (l .i) 0)) (gatesText (a .version) (drop (l .i + 1) xs)) (gates-turn (a .version) xs (l .i) (c .before .before .loop-test .taken)) (c .after-gate .ensures))
 
 returns : tie.Need-returns Inv-loop μ-loop
 returns c =
     let l = c .before .loop in
     let a = c .before .before .before .args in
-    room-past (a .room) (length (gatesText (now (a .gates)))) (l .left) (l .inv .1) (gates-past (now (a .gates)) (l .i) (c .loop-test .left))
+    room-past (a .room) (length (gatesText (a .version) (now (a .gates)))) (l .left) (l .inv .1) (gates-past (a .version) (now (a .gates)) (l .i) (c .loop-test .left))
 
 pub after-gates-spec : {M : Type 1} → statement M
 after-gates-spec =

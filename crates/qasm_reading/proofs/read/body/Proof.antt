@@ -11,10 +11,6 @@ use Rattle.qasm_reading.proofs.Answers.{end-angle, end-statement, end-d
 use borrow.Author.Needs.{needs}
 use Rattle.qasm_reading.proofs.read.body.Statement.{statement}
 use Rattle.qasm_reading.proofs.read.body.Tie as tie
-use Rattle.qasm_reading.proofs.read.line_of.Reads as line-of-reads
-use Rattle.qasm_reading.proofs.run.count.Reads as count-reads
-use Rattle.qasm_reading.proofs.run.fill.Reads as fill-reads
-use Rattle.statements.proofs.gate.bad_angle.Reads as bad-angle-reads
 
 count-requires : tie.Need-count-requires
 count-requires c κs = search needs
@@ -29,11 +25,11 @@ returns : tie.Need-returns
 unfolding registered
 returns c = let a = c .before .before .before .before .before .before .before .before .args in
     let s = now (a .text) in
-    let r = runOf (now (a .name)) (words (drop (a .at) s)) in
+    let r = runOf (a .version) (now (a .name)) (words (drop (a .at) s)) in
     let l = words (drop (c .before .before .before .before .count .result .next) s) in
     record {
-      answer = end-angle s (length (now (a .gates))) (now (a .name)) (a .n) (r .records) l (c .before .before .before .line-of .ensures) (c .before .before .if1 .taken) (sym (c .before .bad-angle .ensures) ∙ c .if2 .taken)
-          ∙ ap (λ x. answerOf s (length (now (a .gates))) (endOf (now (a .name)) (a .n) (r .records) x)) (c .before .before .before .before .count .ensures .1);
+      answer = end-angle s (length (now (a .gates))) (a .version) (now (a .name)) (a .n) (r .records) (r .phase) l (c .before .before .before .line-of .ensures) (c .before .before .if1 .taken) (sym (c .before .bad-angle .ensures) ∙ c .if2 .taken)
+          ∙ ap (λ x. answerOf s (length (now (a .gates))) (endOf (a .version) (now (a .name)) (a .n) (r .records) (r .phase) x)) (c .before .before .before .before .count .ensures .2);
       list = refl;
     }
 
@@ -41,11 +37,11 @@ returns-2 : tie.Need-returns-2
 unfolding registered
 returns-2 c = let a = c .before .before .before .before .before .before .before .before .args in
     let s = now (a .text) in
-    let r = runOf (now (a .name)) (words (drop (a .at) s)) in
+    let r = runOf (a .version) (now (a .name)) (words (drop (a .at) s)) in
     let l = words (drop (c .before .before .before .before .count .result .next) s) in
     record {
-      answer = end-statement s (length (now (a .gates))) (now (a .name)) (a .n) (r .records) l (c .before .before .before .line-of .ensures) (c .before .before .if1 .taken) (sym (c .before .bad-angle .ensures) ∙ c .if2 .left)
-          ∙ ap (λ x. answerOf s (length (now (a .gates))) (endOf (now (a .name)) (a .n) (r .records) x)) (c .before .before .before .before .count .ensures .1);
+      answer = end-statement s (length (now (a .gates))) (a .version) (now (a .name)) (a .n) (r .records) (r .phase) l (c .before .before .before .line-of .ensures) (c .before .before .if1 .taken) (sym (c .before .bad-angle .ensures) ∙ c .if2 .left)
+          ∙ ap (λ x. answerOf s (length (now (a .gates))) (endOf (a .version) (now (a .name)) (a .n) (r .records) (r .phase) x)) (c .before .before .before .before .count .ensures .2);
       list = refl;
     }
 
@@ -53,12 +49,13 @@ returns-3 : tie.Need-returns-3
 unfolding registered
 returns-3 c = let a = c .before .before .before .before .before .before .before .before .args in
     let s = now (a .text) in
-    let r = runOf (now (a .name)) (words (drop (a .at) s)) in
+    let r = runOf (a .version) (now (a .name)) (words (drop (a .at) s)) in
     let l = words (drop (c .before .before .before .before .count .result .next) s) in
-    let e : endOf (now (a .name)) (a .n) (r .records) l ≡ circuit (a .n) (r .records) = end-done s (length (now (a .gates))) (now (a .name)) (a .n) (r .records) l (c .before .before .before .line-of .ensures) (c .before .before .if1 .left) in
+    let e : endOf (a .version) (now (a .name)) (a .n) (r .records) (r .phase) l ≡ circuit (a .version) (a .n) (r .records) (r .phase)
+    = end-done s (length (now (a .gates))) (a .version) (now (a .name)) (a .n) (r .records) (r .phase) l (c .before .before .before .line-of .ensures) (c .before .before .if1 .left) in
     record {
-      answer = room-short s (length (now (a .gates))) (a .n) (r .records) (omega (arith, c .before .before .before .before .count .ensures .0, c .if3 .taken))
-          ∙ sym (ap (answerOf s (length (now (a .gates)))) (ap (endOf (now (a .name)) (a .n) (r .records)) (sym (c .before .before .before .before .count .ensures .1)) ∙ e));
+      answer = room-short s (length (now (a .gates))) (a .version) (a .n) (r .records) (r .phase) (omega (arith, c .before .before .before .before .count .ensures .0, c .if3 .taken))
+          ∙ sym (ap (answerOf s (length (now (a .gates)))) (ap (endOf (a .version) (now (a .name)) (a .n) (r .records) (r .phase)) (sym (c .before .before .before .before .count .ensures .2)) ∙ e));
       list = refl;
     }
 
@@ -72,12 +69,13 @@ returns-4 : tie.Need-returns-4
 unfolding registered
 returns-4 c = let a = c .before .before .before .before .before .before .before .before .before .before .before .before .args in
     let s = now (a .text) in
-    let r = runOf (now (a .name)) (words (drop (a .at) s)) in
+    let r = runOf (a .version) (now (a .name)) (words (drop (a .at) s)) in
     let l = words (drop (c .before .before .before .before .before .before .before .before .count .result .next) s) in
-    let e : endOf (now (a .name)) (a .n) (r .records) l ≡ circuit (a .n) (r .records) = end-done s (length (now (a .gates))) (now (a .name)) (a .n) (r .records) l (c .before .before .before .before .before .before .before .line-of .ensures) (c .before .before .before .before .before .before .if1 .left) in
-    let d = ap (endOf (now (a .name)) (a .n) (r .records)) (sym (c .before .before .before .before .before .before .before .before .count .ensures .1)) ∙ e in
+    let e : endOf (a .version) (now (a .name)) (a .n) (r .records) (r .phase) l ≡ circuit (a .version) (a .n) (r .records) (r .phase)
+    = end-done s (length (now (a .gates))) (a .version) (now (a .name)) (a .n) (r .records) (r .phase) l (c .before .before .before .before .before .before .before .line-of .ensures) (c .before .before .before .before .before .before .if1 .left) in
+    let d = ap (endOf (a .version) (now (a .name)) (a .n) (r .records) (r .phase)) (sym (c .before .before .before .before .before .before .before .before .count .ensures .2)) ∙ e in
     record {
-      answer = room-long s (length (now (a .gates))) (a .n) (r .records) (c .before .before .before .before .before .before .before .before .count .ensures .0) (c .before .before .before .before .if3 .left) ∙ sym (ap (answerOf s (length (now (a .gates)))) d);
+      answer = room-long s (length (now (a .gates))) (a .version) (a .n) (r .records) (r .phase) (c .before .before .before .before .before .before .before .before .count .ensures .0) (c .before .before .before .before .before .before .before .before .count .ensures .1) (c .before .before .before .before .if3 .left) ∙ sym (ap (answerOf s (length (now (a .gates)))) d);
       list = c .before .before .fill .ensures ∙ sym (ap (λ p. onto (gatesIn p) (now (a .gates))) d);
     }
 

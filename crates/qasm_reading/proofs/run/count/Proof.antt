@@ -1,27 +1,27 @@
 -- `qasm_reading::run::count` meets its contract. Assumes nothing.
-use borrow.Author.Needs.{needs}
 use mathlib.Core.Path.{sym, ap, _∙_}
+use Prim.Native.Nat.{_+_}
 use denote.Ref.{now}
-use lib.ListN.{length, drop}
+use lib.ListN.{length, drop, length-drop}
 use native.Mathlib.Omega.{arith}
+use Rattle.circuit.specs.Phase.{phases}
 use Rattle.words.specs.Words.{words}
 use Rattle.words.specs.Places.{leftAt}
-use Rattle.words.specs.Taking.{Got}
+use Rattle.statements.specs.Statements.{Said}
 use Rattle.qasm_reading.proofs.Runs.{gate-short}
-use lib.ListN.{length-drop}
-use Rattle.qasm_reading.proofs.Loops.{words-length, Counting, count-start, count-step, count-done}
+use Rattle.qasm_reading.proofs.Loops.{words-length, Counting, flag-few, count-start, count-room, count-step, count-done}
+use borrow.Author.Needs.{needs}
 use Rattle.qasm_reading.proofs.run.count.Statement.{statement}
 use Rattle.qasm_reading.proofs.run.count.Tie as tie
-use Rattle.statements.proofs.gate.gate.Reads as gate-reads
 
 abbrev Inv-loop : tie.InvT-loop
-Inv-loop text name from n₀ at₀ n at = Counting name (words (drop from text)) n (words (drop at text))
+Inv-loop text version name from n₀ phase₀ at₀ n phase at = Counting version name (words (drop from text)) n phase (words (drop at text))
 
 abbrev μ-loop : tie.MeasureT-loop
-μ-loop text name from n₀ at₀ n at = length (words (drop at text))
+μ-loop text version name from n₀ phase₀ at₀ n phase at = length (words (drop at text))
 
 loop-holds : tie.Need-loop-holds Inv-loop μ-loop
-loop-holds c = count-start (now (c .before .before .args .name)) (words (drop (c .before .before .args .from) (now (c .before .before .args .text))))
+loop-holds c = count-start (c .before .before .args .version) (now (c .before .before .args .name)) (words (drop (c .before .before .args .from) (now (c .before .before .args .text))))
 
 gate-requires : tie.Need-gate-requires Inv-loop μ-loop
 gate-requires c κs = search needs
@@ -30,19 +30,32 @@ enum-told : tie.Need-enum-told Inv-loop μ-loop
 enum-told c = search needs
 
 returns : tie.Need-returns Inv-loop μ-loop
-returns c = count-done (now (c .before .before .before .before .before .before .args .name)) (words (drop (c .before .before .before .before .before .before .args .from) (now (c .before .before .before .before .before .before .args .text)))) (c .before .before .before .loop .n) (words (drop (c .before .before .before .loop .at) (now (c .before .before .before .before .before .before .args .text)))) (c .before .before .before .loop .inv) (sym (ap (λ (g : Got). g .rest) (c .before .before .gate .ensures)) ∙ ap (leftAt (now (c .before .before .before .before .before .before .args .text))) (c .enum-told .given .1))
+returns c = count-done (c .before .before .before .before .before .before .args .version) (now (c .before .before .before .before .before .before .args .name)) (words (drop (c .before .before .before .before .before .before .args .from) (now (c .before .before .before .before .before .before .args .text)))) (c .before .before .before .loop .n) (c .before .before .before .loop .phase) (words (drop (c .before .before .before .loop .at) (now (c .before .before .before .before .before .before .args .text)))) (c .before .before .before .loop .inv) (sym (ap (λ (g : Said). g .rest) (c .before .before .gate .ensures)) ∙ ap (leftAt (now (c .before .before .before .before .before .before .args .text))) (c .enum-told .given .1))
 
 enum-known-next : tie.Need-enum-known-next Inv-loop μ-loop
 enum-known-next c = search needs
 
+as-count-requires : tie.Need-as-count-requires Inv-loop μ-loop
+as-count-requires c κs = search needs
+
 add-n : tie.Need-add-n Inv-loop μ-loop
-add-n c = omega (arith, c .before .before .before .before .loop .inv .room, gate-short (now (c .before .before .before .before .before .before .before .args .name)) (words (drop (c .before .before .before .before .loop .at) (now (c .before .before .before .before .before .before .before .args .text)))) (words (drop (c .before .next .given .0 .0) (now (c .before .before .before .before .before .before .before .args .text)))) (sym (ap (λ (g : Got). g .rest) (c .before .before .before .gate .ensures)) ∙ ap (leftAt (now (c .before .before .before .before .before .before .before .args .text))) (c .before .next .given .1)), words-length (drop (c .before .before .before .before .before .before .before .args .from) (now (c .before .before .before .before .before .before .before .args .text))), length-drop (c .before .before .before .before .before .before .before .args .from) (now (c .before .before .before .before .before .before .before .args .text)), c .before .before .before .before .before .before .before .good)
+add-n c = let s = now (c .before .before .before .before .before .before .before .before .args .text) in
+    let l = words (drop (c .before .before .before .before .before .loop .at) s) in
+    let e = sym (ap (λ (g : Said). g .rest) (c .before .before .before .before .gate .ensures)) ∙ ap (leftAt s) (c .before .before .next .given .1) in
+    let r = flag-few (c .before .before .before .before .gate .result .gate) (c .before .before .before .before .gate .result .record) (ap (λ (g : Said). g .records) (c .before .before .before .before .gate .ensures)) in
+    omega (arith, count-room (c .before .before .before .before .before .before .before .before .args .version) (now (c .before .before .before .before .before .before .before .before .args .name)) (words (drop (c .before .before .before .before .before .before .before .before .args .from) s)) (c .before .before .before .before .before .loop .n) (c .before .before .before .before .before .loop .phase) l (c .before .before .before .before .before .loop .inv) _ e, c .as-count .ensures, r, words-length (drop (c .before .before .before .before .before .before .before .before .args .from) s), length-drop (c .before .before .before .before .before .before .before .before .args .from) s, c .before .before .before .before .before .before .before .before .good)
+
+together-requires : tie.Need-together-requires Inv-loop μ-loop
+together-requires c κs = search needs
 
 loop-less : tie.Need-loop-less Inv-loop μ-loop
-loop-less c = gate-short (now (c .before .before .before .before .before .before .before .args .name)) (words (drop (c .before .before .before .before .loop .at) (now (c .before .before .before .before .before .before .before .args .text)))) (words (drop (c .before .next .given .0 .0) (now (c .before .before .before .before .before .before .before .args .text)))) (sym (ap (λ (g : Got). g .rest) (c .before .before .before .gate .ensures)) ∙ ap (leftAt (now (c .before .before .before .before .before .before .before .args .text))) (c .before .next .given .1))
+loop-less c = gate-short (c .before .before .before .before .before .before .before .before .before .args .version) (now (c .before .before .before .before .before .before .before .before .before .args .name)) (words (drop (c .before .before .before .before .before .before .loop .at) (now (c .before .before .before .before .before .before .before .before .before .args .text)))) _ (sym (ap (λ (g : Said). g .rest) (c .before .before .before .before .before .gate .ensures)) ∙ ap (leftAt (now (c .before .before .before .before .before .before .before .before .before .args .text))) (c .before .before .before .next .given .1))
 
 loop-again : tie.Need-loop-again Inv-loop μ-loop
-loop-again c = count-step (now (c .before .before .before .before .before .before .before .args .name)) (words (drop (c .before .before .before .before .before .before .before .args .from) (now (c .before .before .before .before .before .before .before .args .text)))) (c .before .before .before .before .loop .n) (words (drop (c .before .before .before .before .loop .at) (now (c .before .before .before .before .before .before .before .args .text)))) (words (drop (c .before .next .given .0 .0) (now (c .before .before .before .before .before .before .before .args .text)))) (c .before .before .before .before .loop .inv) (sym (ap (λ (g : Got). g .rest) (c .before .before .before .gate .ensures)) ∙ ap (leftAt (now (c .before .before .before .before .before .before .before .args .text))) (c .before .next .given .1))
+loop-again c = let s = now (c .before .before .before .before .before .before .before .before .before .args .text) in
+    let e = sym (ap (λ (g : Said). g .rest) (c .before .before .before .before .before .gate .ensures)) ∙ ap (leftAt s) (c .before .before .before .next .given .1) in
+    let r = flag-few (c .before .before .before .before .before .gate .result .gate) (c .before .before .before .before .before .gate .result .record) (ap (λ (g : Said). g .records) (c .before .before .before .before .before .gate .ensures)) in
+    count-step (c .before .before .before .before .before .before .before .before .before .args .version) (now (c .before .before .before .before .before .before .before .before .before .args .name)) (words (drop (c .before .before .before .before .before .before .before .before .before .args .from) s)) (c .before .before .before .before .before .before .loop .n) (c .before .before .before .before .before .before .loop .phase) (words (drop (c .before .before .before .before .before .before .loop .at) s)) (c .before .before .before .before .before .before .loop .inv) _ e (ap (λ x. c .before .before .before .before .before .before .loop .n + x) (c .before .as-count .ensures ∙ r)) (c .together .ensures ∙ ap (λ (g : Said). phases (c .before .before .before .before .before .before .loop .phase) (g .phase)) (c .before .before .before .before .before .gate .ensures))
 
 pub count-spec : {M : Type 1} → statement M
 count-spec =
@@ -55,6 +68,8 @@ count-spec =
     enum-told
     returns
     enum-known-next
+    as-count-requires
     add-n
+    together-requires
     loop-less
     loop-again)

@@ -19,7 +19,7 @@ returns : tie.Need-returns
 returns c =
     let a = c .before .before .before .before .args in
     let v = c .before .before .judge-qubits .ensures in
-    v ∙ judged-qubits (a .n) (now (a .gates)) (a .room) (refused v (c .before .number .ensures) (c .if1 .taken))
+    v ∙ judged-qubits (a .version) (a .n) (now (a .gates)) (a .phase) (a .room) (refused v (c .before .number .ensures) (c .if1 .taken))
 
 judge-drawn-requires : tie.Need-judge-drawn-requires
 judge-drawn-requires c κs = search needs
@@ -31,7 +31,7 @@ returns-2 : tie.Need-returns-2
 returns-2 c =
     let a = c .before .before .before .before .before .before .before .args in
     let v = c .before .before .judge-drawn .ensures in
-    v ∙ judged-drawn (a .n) (now (a .gates)) (a .room) (passed (c .before .before .before .before .before .judge-qubits .ensures) (c .before .before .before .before .number .ensures) (c .before .before .before .if1 .left)) (refused v (c .before .number2 .ensures) (c .if2 .taken))
+    v ∙ judged-drawn (a .version) (a .n) (now (a .gates)) (a .phase) (a .room) (passed (c .before .before .before .before .before .judge-qubits .ensures) (c .before .before .before .before .number .ensures) (c .before .before .before .if1 .left)) (refused v (c .before .number2 .ensures) (c .if2 .taken))
 
 fits-requires : tie.Need-fits-requires
 fits-requires c κs = search needs
@@ -41,14 +41,14 @@ returns-3 c =
     let a = c .before .before .before .before .before .before .before .before .before .args in
     let one = passed (c .before .before .before .before .before .before .before .judge-qubits .ensures) (c .before .before .before .before .before .before .number .ensures) (c .before .before .before .before .before .if1 .left) in
     let two = passed (c .before .before .before .before .judge-drawn .ensures) (c .before .before .before .number2 .ensures) (c .before .before .if2 .left) in
-    sym (ap (λ t. pick t Accepted Room) (sym (c .before .fits2 .ensures) ∙ c .if3 .taken)) ∙ judged-room (a .n) (now (a .gates)) (a .room) one two
+    sym (ap (λ t. pick t Accepted Room) (sym (c .before .fits2 .ensures) ∙ c .if3 .taken)) ∙ judged-room (a .version) (a .n) (now (a .gates)) (a .phase) (a .room) one two
 
 returns-4 : tie.Need-returns-4
 returns-4 c =
     let a = c .before .before .before .before .before .before .before .before .before .args in
     let one = passed (c .before .before .before .before .before .before .before .judge-qubits .ensures) (c .before .before .before .before .before .before .number .ensures) (c .before .before .before .before .before .if1 .left) in
     let two = passed (c .before .before .before .before .judge-drawn .ensures) (c .before .before .before .number2 .ensures) (c .before .before .if2 .left) in
-    sym (ap (λ t. pick t Accepted Room) (sym (c .before .fits2 .ensures) ∙ c .if3 .left)) ∙ judged-room (a .n) (now (a .gates)) (a .room) one two
+    sym (ap (λ t. pick t Accepted Room) (sym (c .before .fits2 .ensures) ∙ c .if3 .left)) ∙ judged-room (a .version) (a .n) (now (a .gates)) (a .phase) (a .room) one two
 
 pub judge-spec : {M : Type 1} → statement M
 judge-spec =

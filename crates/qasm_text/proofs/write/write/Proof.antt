@@ -23,7 +23,7 @@ number-requires c κs = search needs
 put-circuit-requires : tie.Need-put-circuit-requires
 put-circuit-requires c κs =
     let a = c .before .before .before .before .before .before .args in
-    accepts (a .n) (now (a .gates)) (length (now (a .text))) (passed (c .before .before .before .judge .ensures) (c .before .before .number .ensures) (c .before .if1 .taken)) .fits
+    accepts (a .version) (a .n) (now (a .gates)) (a .phase) (length (now (a .text))) (passed (c .before .before .before .judge .ensures) (c .before .before .number .ensures) (c .before .if1 .taken)) .fits
 
 same-length : tie.Need-same-length
 same-length c = search needs
@@ -35,15 +35,15 @@ returns c =
     let room = length (now (a .text)) in
     let yes′ = passed (c .before .before .before .before .before .before .judge .ensures) (c .before .before .before .before .before .number .ensures) (c .before .before .before .before .if1 .taken) in
     let p = c .before .before .put-circuit in
-    let z : p .result ≡ length (circuitText (a .n) gs) = omega (arith, p .ensures .0) in
-    (ap Written z ∙ writing-yes (a .n) gs room yes′, p .ensures .1 ∙ sets-onto (circuitText (a .n) gs) (now (a .text)) (accepts (a .n) gs room yes′ .fits))
+    let z : p .result ≡ length (circuitText (a .version) (a .n) gs (a .phase)) = omega (arith, p .ensures .0) in
+    (ap Written z ∙ writing-yes (a .version) (a .n) gs (a .phase) room yes′, p .ensures .1 ∙ sets-onto (circuitText (a .version) (a .n) gs (a .phase)) (now (a .text)) (accepts (a .version) (a .n) gs (a .phase) room yes′ .fits))
 
 returns-2 : tie.Need-returns-2
 returns-2 c =
     let a = c .before .before .before .before .before .args in
     let v = c .before .before .judge in
     let no′ : numberOf (v .result) ≡ 0 → ⊥ = λ z. c .if1 .left (c .before .number .ensures ∙ z) in (
-      ap Refused (v .ensures) ∙ writing-no (a .n) (now (a .gates)) (length (now (a .text))) (λ z. no′ (ap numberOf (v .ensures) ∙ z)),
+      ap Refused (v .ensures) ∙ writing-no (a .version) (a .n) (now (a .gates)) (a .phase) (length (now (a .text))) (λ z. no′ (ap numberOf (v .ensures) ∙ z)),
       rw (ne-eqb (numberOf (v .result)) 0 no′),
     )
 

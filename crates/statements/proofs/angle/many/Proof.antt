@@ -5,9 +5,9 @@ use Rattle.statements.proofs.Chains.{many-chain}
 use borrow.Author.Needs.{needs}
 use Rattle.statements.proofs.angle.many.Statement.{statement}
 use Rattle.statements.proofs.angle.many.Tie as tie
-use Rattle.statements.proofs.mark.mark.Reads as mark-reads
-use Rattle.statements.proofs.mark.pi.Reads as pi-reads
-use Rattle.words.proofs.take.number.Reads as number-reads
+
+most-times-requires : tie.Need-most-times-requires
+most-times-requires c κs = search needs
 
 number-requires : tie.Need-number-requires
 number-requires c κs = search needs
@@ -19,7 +19,8 @@ pi-requires : tie.Need-pi-requires
 pi-requires c κs = search needs
 
 returns : tie.Need-returns
-returns c = many-chain (leftAt (now (c .before .before .before .before .args .text)) (c .before .before .before .before .args .from)) (c .before .before .number .ensures) (c .before .mark .ensures) (c .pi .ensures)
+returns c = many-chain (leftAt (now (c .before .before .before .before .before .args .text)) (c .before .before .before .before .before .args .from)) (c .before .before .before .before .before .args .scale) (c .before .before .before .most-times .ensures) (c .before .before .number .ensures) (c .before .mark .ensures) (c .pi .ensures)
 
 pub many-spec : {M : Type 1} → statement M
-many-spec = tie.close (tie.spec number-requires mark-requires pi-requires returns)
+many-spec =
+    tie.close (tie.spec most-times-requires number-requires mark-requires pi-requires returns)

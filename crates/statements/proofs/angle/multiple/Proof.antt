@@ -5,9 +5,6 @@ use Rattle.statements.proofs.Chains.{multiple-chain}
 use borrow.Author.Needs.{needs}
 use Rattle.statements.proofs.angle.multiple.Statement.{statement}
 use Rattle.statements.proofs.angle.multiple.Tie as tie
-use Rattle.angles.proofs.Multiple.units.Reads as units-reads
-use Rattle.statements.proofs.angle.over.Reads as over-reads
-use Rattle.statements.proofs.angle.times.Reads as times-reads
 
 times-requires : tie.Need-times-requires
 times-requires c κs = search needs
@@ -15,11 +12,11 @@ times-requires c κs = search needs
 over-requires : tie.Need-over-requires
 over-requires c κs = search needs
 
-units-requires : tie.Need-units-requires
-units-requires c κs = search needs
+count-requires : tie.Need-count-requires
+count-requires c κs = search needs
 
 returns : tie.Need-returns
-returns c = multiple-chain (leftAt (now (c .before .before .before .before .args .text)) (c .before .before .before .before .args .from)) (c .before .before .before .before .args .minus) (c .before .before .times .ensures) (c .before .over .ensures) (c .units .ensures)
+returns c = multiple-chain (leftAt (now (c .before .before .before .before .args .text)) (c .before .before .before .before .args .from)) (c .before .before .before .before .args .scale) (c .before .before .before .before .args .minus) (c .before .before .times .ensures) (c .before .over .ensures) (c .count .ensures)
 
 pub multiple-spec : {M : Type 1} → statement M
-multiple-spec = tie.close (tie.spec times-requires over-requires units-requires returns)
+multiple-spec = tie.close (tie.spec times-requires over-requires count-requires returns)

@@ -6,9 +6,6 @@ use Rattle.statements.proofs.Chains.{times-once, times-many, times-zero
 use borrow.Author.Needs.{needs}
 use Rattle.statements.proofs.angle.times.Statement.{statement}
 use Rattle.statements.proofs.angle.times.Tie as tie
-use Rattle.statements.proofs.angle.many.Reads as many-reads
-use Rattle.statements.proofs.mark.mark.Reads as mark-reads
-use Rattle.statements.proofs.mark.pi.Reads as pi-reads
 
 pi-requires : tie.Need-pi-requires
 pi-requires c κs = search needs
@@ -32,13 +29,13 @@ mark-requires : tie.Need-mark-requires
 mark-requires c κs = search needs
 
 returns : tie.Need-returns
-returns c = times-once (leftAt (now (c .before .before .before .before .args .text)) (c .before .before .before .before .args .from)) (c .before .before .pi .ensures) (ap (leftAt (now (c .before .before .before .before .args .text))) (c .enum-told .given .1))
+returns c = times-once (leftAt (now (c .before .before .before .before .args .text)) (c .before .before .before .before .args .from)) (c .before .before .before .before .args .scale) (c .before .before .pi .ensures) (ap (leftAt (now (c .before .before .before .before .args .text))) (c .enum-told .given .1))
 
 returns-2 : tie.Need-returns-2
-returns-2 c = times-many (leftAt (now (c .before .before .before .before .before .before .before .args .text)) (c .before .before .before .before .before .before .before .args .from)) (c .before .before .before .before .before .pi .ensures) (ap (leftAt (now (c .before .before .before .before .before .before .before .args .text))) (c .before .before .before .enum-told2 .given .1)) (c .before .before .many .ensures) (ap (leftAt (now (c .before .before .before .before .before .before .before .args .text))) (c .enum-told3 .given .1))
+returns-2 c = times-many (leftAt (now (c .before .before .before .before .before .before .before .args .text)) (c .before .before .before .before .before .before .before .args .from)) (c .before .before .before .before .before .before .before .args .scale) (c .before .before .before .before .before .pi .ensures) (ap (leftAt (now (c .before .before .before .before .before .before .before .args .text))) (c .before .before .before .enum-told2 .given .1)) (c .before .before .many .ensures) (ap (leftAt (now (c .before .before .before .before .before .before .before .args .text))) (c .enum-told3 .given .1))
 
 returns-3 : tie.Need-returns-3
-returns-3 c = times-zero (leftAt (now (c .before .before .before .before .before .before .before .before .args .text)) (c .before .before .before .before .before .before .before .before .args .from)) (c .before .before .before .before .before .before .pi .ensures) (ap (leftAt (now (c .before .before .before .before .before .before .before .before .args .text))) (c .before .before .before .before .enum-told2 .given .1)) (c .before .before .before .many .ensures) (ap (leftAt (now (c .before .before .before .before .before .before .before .before .args .text))) (c .before .enum-told4 .given .1)) (c .mark .ensures)
+returns-3 c = times-zero (leftAt (now (c .before .before .before .before .before .before .before .before .args .text)) (c .before .before .before .before .before .before .before .before .args .from)) (c .before .before .before .before .before .before .before .before .args .scale) (c .before .before .before .before .before .before .pi .ensures) (ap (leftAt (now (c .before .before .before .before .before .before .before .before .args .text))) (c .before .before .before .before .enum-told2 .given .1)) (c .before .before .before .many .ensures) (ap (leftAt (now (c .before .before .before .before .before .before .before .before .args .text))) (c .before .enum-told4 .given .1)) (c .mark .ensures)
 
 pub times-spec : {M : Type 1} → statement M
 times-spec =

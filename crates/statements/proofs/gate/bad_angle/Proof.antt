@@ -1,35 +1,46 @@
 -- `statements::gate::bad_angle` meets its contract. Assumes nothing.
-use mathlib.Core.Path.{ap}
-use denote.Ref.{now}
-use lib.ListN.{drop}
-use mathlib.Core.Option.{some}
-use Rattle.words.specs.Words.{words}
-use Rattle.words.specs.Places.{leftAt}
-use Rattle.statements.proofs.Ends.{bad-there, bad-not}
+use mathlib.Core.Path.{sym, _∙_}
+use Rattle.statements.specs.Statements.{badAngle}
 use borrow.Author.Needs.{needs}
 use Rattle.statements.proofs.gate.bad_angle.Statement.{statement}
 use Rattle.statements.proofs.gate.bad_angle.Tie as tie
-use Rattle.statements.proofs.gate.ends_in.Reads as ends-in-reads
-use Rattle.statements.proofs.gate.opening.Reads as opening-reads
 
-opening-requires : tie.Need-opening-requires
-opening-requires c κs = search needs
+slice-aggregate-bad-in : tie.Need-slice-aggregate-bad-in
+slice-aggregate-bad-in c = search needs
 
-enum-known-p : tie.Need-enum-known-p
-enum-known-p c = search needs
-
-ends-in-requires : tie.Need-ends-in-requires
-ends-in-requires c κs = search needs
-
-enum-told : tie.Need-enum-told
-enum-told c = search needs
+bad-in-requires : tie.Need-bad-in-requires
+bad-in-requires c κs = search needs
 
 returns : tie.Need-returns
-returns c = bad-there (now (c .before .before .before .before .before .before .before .args .name)) (some (words (drop (c .before .before .before .before .before .before .before .args .at) (now (c .before .before .before .before .before .before .before .args .text))))) (c .before .before .before .before .opening .ensures) (ap (leftAt (now (c .before .before .before .before .before .before .before .args .text))) (c .before .before .p .given .1)) (c .ends-in .ensures)
+unfolding badAngle
+returns c = rw (sym (c .before .bad-in .ensures) ∙ c .if1 .taken)
+
+slice-aggregate-bad-in-2 : tie.Need-slice-aggregate-bad-in-2
+slice-aggregate-bad-in-2 c = search needs
+
+bad-in-requires-2 : tie.Need-bad-in-requires-2
+bad-in-requires-2 c κs = search needs
 
 returns-2 : tie.Need-returns-2
-returns-2 c = bad-not (now (c .before .before .before .before .before .args .name)) (some (words (drop (c .before .before .before .before .before .args .at) (now (c .before .before .before .before .before .args .text))))) (c .before .before .opening .ensures) (ap (leftAt (now (c .before .before .before .before .before .args .text))) (c .enum-told .given .1))
+unfolding badAngle
+returns-2 c = rw (sym (c .before .before .before .before .bad-in .ensures) ∙ c .before .before .before .if1 .left, sym (c .before .bad-in2 .ensures) ∙ c .if2 .taken)
+
+bad-newer-requires : tie.Need-bad-newer-requires
+bad-newer-requires c κs = search needs
+
+returns-3 : tie.Need-returns-3
+unfolding badAngle
+returns-3 c = rw (sym (c .before .before .before .before .before .bad-in .ensures) ∙ c .before .before .before .before .if1 .left, sym (c .before .before .bad-in2 .ensures) ∙ c .before .if2 .left, c .bad-newer .ensures)
 
 pub bad-angle-spec : {M : Type 1} → statement M
 bad-angle-spec =
-    tie.close (tie.spec opening-requires enum-known-p ends-in-requires enum-told returns returns-2)
+    tie.close
+    (tie.spec
+    slice-aggregate-bad-in
+    bad-in-requires
+    returns
+    slice-aggregate-bad-in-2
+    bad-in-requires-2
+    returns-2
+    bad-newer-requires
+    returns-3)

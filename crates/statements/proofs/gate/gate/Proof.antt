@@ -5,15 +5,13 @@ use lib.ListN.{drop}
 use mathlib.Core.Option.{some}
 use Rattle.words.specs.Words.{words}
 use Rattle.words.specs.Places.{leftAt}
-use Rattle.statements.proofs.Chains.{gate-cnot, gate-other}
+use Rattle.statements.proofs.Chains.{gate-plain, gate-rotation}
 use borrow.Author.Needs.{needs}
 use Rattle.statements.proofs.gate.gate.Statement.{statement}
 use Rattle.statements.proofs.gate.gate.Tie as tie
-use Rattle.statements.proofs.gate.cnot.Reads as cnot-reads
-use Rattle.statements.proofs.gate.other.Reads as other-reads
 
-cnot-requires : tie.Need-cnot-requires
-cnot-requires c κs = search needs
+plain-requires : tie.Need-plain-requires
+plain-requires c κs = search needs
 
 enum-told : tie.Need-enum-told
 enum-told c = search needs
@@ -21,15 +19,15 @@ enum-told c = search needs
 enum-told-2 : tie.Need-enum-told-2
 enum-told-2 c = search needs
 
-other-requires : tie.Need-other-requires
-other-requires c κs = search needs
+rotation-requires : tie.Need-rotation-requires
+rotation-requires c κs = search needs
 
 returns : tie.Need-returns
-returns c = gate-cnot (some (words (drop (c .before .before .before .before .before .args .at) (now (c .before .before .before .before .before .args .text))))) (now (c .before .before .before .before .before .args .name)) (c .before .before .cnot .ensures) (ap (leftAt (now (c .before .before .before .before .before .args .text))) (c .enum-told .given .1))
+returns c = gate-plain (some (words (drop (c .before .before .before .before .before .args .at) (now (c .before .before .before .before .before .args .text))))) (now (c .before .before .before .before .before .args .name)) (c .before .before .before .before .before .args .version) (c .before .before .plain .ensures) (ap (leftAt (now (c .before .before .before .before .before .args .text))) (c .enum-told .given .1))
 
 returns-2 : tie.Need-returns-2
-returns-2 c = gate-other (some (words (drop (c .before .before .before .before .before .before .args .at) (now (c .before .before .before .before .before .before .args .text))))) (now (c .before .before .before .before .before .before .args .name)) (c .before .before .before .cnot .ensures) (ap (leftAt (now (c .before .before .before .before .before .before .args .text))) (c .before .enum-told2 .given .1)) (c .other .ensures)
+returns-2 c = gate-rotation (some (words (drop (c .before .before .before .before .before .before .args .at) (now (c .before .before .before .before .before .before .args .text))))) (now (c .before .before .before .before .before .before .args .name)) (c .before .before .before .before .before .before .args .version) (c .before .before .before .plain .ensures) (ap (leftAt (now (c .before .before .before .before .before .before .args .text))) (c .before .enum-told2 .given .1)) (c .rotation .ensures)
 
 pub gate-spec : {M : Type 1} → statement M
 gate-spec =
-    tie.close (tie.spec cnot-requires enum-told enum-told-2 other-requires returns returns-2)
+    tie.close (tie.spec plain-requires enum-told enum-told-2 rotation-requires returns returns-2)

@@ -1,0 +1,5 @@
+// The versions of OpenQASM that are read and written.
+pub enum Version {
+    Two,
+    Three,
+}
