@@ -8,19 +8,8 @@ use lib.IntN.{ℤ, pos, negsuc, negℤ, _+ℤ_, _*ℤ_}
 use borrow.Author.Tests.{lt-ltb}
 use Rattle.angles.specs.declared.Scale.{Scale}
 use Rattle.angles.specs.declared.Scale.the-variants.{Units, Halves}
-use Rattle.angles.specs.Units.{piIn, isOver, signedOf, reducedOf, countOf, unitsOf}
+use Rattle.angles.specs.Units.{piIn, isOver, signedOf, reducedOf, angleIn, unitsOf}
 use Rattle.angles.proofs.Powers.{exact}
-use Rattle.angles.proofs.Signs.{reduced-lt}
-
--- a count is less than two turns of units, one turn of half units
-pub count-lt : (c : Scale) (minus : Bool) (k d : ℕ) → countOf c minus k d < 131072
-unfolding countOf
-count-lt c minus k d = reduced-lt (signedOf minus (k * (piIn c / d)))
-
--- the units of a record are less than a turn
-pub units-lt : (minus : Bool) (k d : ℕ) → unitsOf minus k d < 65536
-unfolding unitsOf
-units-lt minus k d = omega arith
 
 -- z is u and multiples of m, forth or back
 pub record Turns (m : ℕ) (z : ℤ) (u : ℕ) : Type 0 where
@@ -55,12 +44,12 @@ reduced-one-turn (negsuc n) = turns-back 65536 n ((131071 - n % 131072) % 65536)
 
 -- the units of a record differ from the signed multiple of pi by whole turns
 pub units-one-turn : (minus : Bool) (k d : ℕ) → Turns 65536 (signedOf minus (k * (32768 / d))) (unitsOf minus k d)
-unfolding unitsOf countOf
+unfolding unitsOf angleIn
 units-one-turn minus k d = reduced-one-turn (signedOf minus (k * (32768 / d)))
 
 -- k * pi over all that pi counts is k
-pub count-written : (c : Scale) (k : ℕ) → k < 131072 → countOf c false k (piIn c) ≡ k
-unfolding countOf reducedOf signedOf
+pub count-written : (c : Scale) (k : ℕ) → k < 131072 → angleIn c false k (piIn c) ≡ k
+unfolding angleIn reducedOf signedOf
 count-written Units k h = omega arith
 count-written Halves k h = omega arith
 
@@ -70,8 +59,8 @@ unfolding unitsOf
 units-written k h = omega (arith, count-written Units k (omega arith))
 
 -- a minus takes the angle from 0: both together are a multiple of 131,072
-pub count-minus : (c : Scale) (k d : ℕ) → (countOf c true k d + countOf c false k d) % 131072 ≡ 0
-unfolding countOf reducedOf signedOf
+pub count-minus : (c : Scale) (k d : ℕ) → (angleIn c true k d + angleIn c false k d) % 131072 ≡ 0
+unfolding angleIn reducedOf signedOf
 count-minus c k d = go (k * (piIn c / d))
   where
     go : (u : ℕ) → (reducedOf (negℤ (pos u)) + u % 131072) % 131072 ≡ 0
@@ -79,19 +68,19 @@ count-minus c k d = go (k * (piIn c / d))
     go (suc n) = omega arith
 
 -- 0, at either sign and over anything
-pub count-zero : (c : Scale) (minus : Bool) (d : ℕ) → countOf c minus 0 d ≡ 0
-unfolding countOf reducedOf signedOf
+pub count-zero : (c : Scale) (minus : Bool) (d : ℕ) → angleIn c minus 0 d ≡ 0
+unfolding angleIn reducedOf signedOf
 count-zero c true d = let z : 0 * (piIn c / d) ≡ 0 = omega arith in ap (λ u. reducedOf (negℤ (pos u))) z
 count-zero c false d = let z : 0 * (piIn c / d) ≡ 0 = omega arith in ap (λ u. u % 131072) z
 
 -- over d, n is m and multiples of 131,072
-pub record Over (d m n : ℕ) : Type 0 where
+pub record ExactlyOver (d m n : ℕ) : Type 0 where
   pub turns : ℕ
   pub same : m + 131072 * d * turns ≡ n
 
 -- exact: d times the count of k * pi / d is k times that of pi, but for multiples of 131,072
-pub count-exact : (c : Scale) (k d : ℕ) → isOver c d ≡ true → Over d (countOf c false k d * d) (k * piIn c)
-unfolding countOf reducedOf signedOf
+pub count-exact : (c : Scale) (k d : ℕ) → isOver c d ≡ true → ExactlyOver d (angleIn c false k d * d) (k * piIn c)
+unfolding angleIn reducedOf signedOf
 count-exact c k d h =
     let e = piIn c / d in
     let q = k * e / 131072 in
@@ -101,11 +90,11 @@ count-exact c k d h =
     record { turns = q; same = omega (arith, b, s, add-mul (k * e % 131072) (131072 * q) d) }
 
 -- and with a minus, both together are multiples of 131,072
-pub count-exact-minus : (c : Scale) (k d : ℕ) → isOver c d ≡ true → Over d 0 (countOf c true k d * d + k * piIn c)
+pub count-exact-minus : (c : Scale) (k d : ℕ) → isOver c d ≡ true → ExactlyOver d 0 (angleIn c true k d * d + k * piIn c)
 count-exact-minus c k d h =
     let p = count-exact c k d h in
-    let u = countOf c true k d in
-    let v = countOf c false k d in
+    let u = angleIn c true k d in
+    let v = angleIn c false k d in
     let t = (u + v) / 131072 in
     let w : u + v ≡ 131072 * t = omega (arith, count-minus c k d) in
     let b : (u + v) * d ≡ 131072 * d * t = ap (λ x. x * d) w ∙ mul-assoc 131072 t d ∙ ap (λ x. 131072 * x) (mul-comm t d) ∙ omega (arith, mul-assoc 131072 d t) in
@@ -113,20 +102,20 @@ count-exact-minus c k d h =
 
 -- exact at both ends: 65535 * pi, and pi / 32768
 pub at-the-ends : (unitsOf false 65535 1 ≡ 32768) × (unitsOf true 65535 1 ≡ 32768) × (unitsOf false 1 32768 ≡ 1) × (unitsOf true 1 32768 ≡ 65535) × (unitsOf true 65535 32768 ≡ 1)
-unfolding unitsOf countOf reducedOf signedOf
+unfolding unitsOf angleIn reducedOf signedOf
 at-the-ends = (refl, refl, refl, refl, refl)
 
 -- pi, 3 * pi / 2, and "`-pi/4` is -8,192 units, so 57,344"
-pub between : (unitsOf false 1 1 ≡ 32768) × (unitsOf false 3 2 ≡ 49152) × (signedOf true (1 * (32768 / 4)) ≡ negsuc 8191) × (unitsOf true 1 4 ≡ 57344)
-unfolding unitsOf countOf reducedOf signedOf
-between = (refl, refl, refl, refl)
+pub between-the-ends : (unitsOf false 1 1 ≡ 32768) × (unitsOf false 3 2 ≡ 49152) × (signedOf true (1 * (32768 / 4)) ≡ negsuc 8191) × (unitsOf true 1 4 ≡ 57344)
+unfolding unitsOf angleIn reducedOf signedOf
+between-the-ends = (refl, refl, refl, refl)
 
 -- "modulo two turns" of units: 2 * pi is one turn, 4 * pi is nothing, and -pi / 32768 one unit less than two turns
-pub two-turns : (countOf Units false 2 1 ≡ 65536) × (countOf Units false 4 1 ≡ 0) × (countOf Units true 1 32768 ≡ 131071)
-unfolding countOf reducedOf signedOf
+pub two-turns : (angleIn Units false 2 1 ≡ 65536) × (angleIn Units false 4 1 ≡ 0) × (angleIn Units true 1 32768 ≡ 131071)
+unfolding angleIn reducedOf signedOf
 two-turns = (refl, refl, refl)
 
 -- half units, to the ends: 131071 * pi / 65536, either way
-pub halves-at-the-ends : (countOf Halves false 131071 65536 ≡ 131071) × (countOf Halves true 131071 65536 ≡ 1)
-unfolding countOf reducedOf signedOf
+pub halves-at-the-ends : (angleIn Halves false 131071 65536 ≡ 131071) × (angleIn Halves true 131071 65536 ≡ 1)
+unfolding angleIn reducedOf signedOf
 halves-at-the-ends = (refl, refl)

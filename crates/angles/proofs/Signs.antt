@@ -16,8 +16,8 @@ use Rattle.angles.specs.declared.Scale.{Scale}
 use Rattle.angles.specs.declared.Scale.the-variants.{Units, Halves}
 use Rattle.angles.specs.Units.{piIn, signedOf, reducedOf}
 
-small : (z : ℤ) → mag z < 9223372036854775808 → SFits w64 z
-small z h = record { sfits = h }
+fits-64 : (z : ℤ) → mag z < 9223372036854775808 → SFits w64 z
+fits-64 z h = record { sfits = h }
 
 under : (n m : ℕ) → n < m → mag (negℤ (pos n)) < m
 under zero m h = h
@@ -40,7 +40,7 @@ module _ (k each : ℕ) (f : Fits w32 k) (h : each ≤ 65536) where
       ap (λ (y : ℤ). y *ℤ toZ w64 each) (toZ-pos w64 k m) ∙ ap (λ (y : ℤ). pos k *ℤ y) (toZ-pos w64 each n)
 
   pub product-fits : SFits w64 product
-  product-fits = subst (SFits w64) (sym product-is) (small (pos (k * each)) size-small)
+  product-fits = subst (SFits w64) (sym product-is) (fits-64 (pos (k * each)) size-small)
 
   -- the size as the code has it
   abbrev size : ℤ
@@ -55,7 +55,7 @@ module _ (k each : ℕ) (f : Fits w32 k) (h : each ≤ 65536) where
 
   pub minus-fits : SFits w64 (pos 0 -ℤ size)
   unfolding signedOf
-  minus-fits = subst (SFits w64) (sym minus-of) (small (negℤ (pos (k * each))) (under (k * each) 9223372036854775808 size-small))
+  minus-fits = subst (SFits w64) (sym minus-of) (fits-64 (negℤ (pos (k * each))) (under (k * each) 9223372036854775808 size-small))
 
   pub minus-is : toZ w64 (ofZ w64 (pos 0 -ℤ size)) ≡ signedOf true (k * each)
   minus-is = toZ-ofZ w64 (pos 0 -ℤ size) minus-fits ∙ minus-of
@@ -89,17 +89,17 @@ rest-small (pos a) = omega arith
 rest-small (negsuc a) = under (suc a % 131072) 131072 (omega arith)
 
 -- a number that is not negative, and what it is below
-record Below (m : ℕ) (z : ℤ) : Type 0 where
+record PosBelow (m : ℕ) (z : ℤ) : Type 0 where
   number : ℕ
   less : number < m
   same : z ≡ pos number
 
 -- 131,072 more than what is left is never negative
-above : (z : ℤ) → Below 262144 (rest z +ℤ pos 131072)
+above : (z : ℤ) → PosBelow 262144 (rest z +ℤ pos 131072)
 above (pos a) = record { number = a % 131072 + 131072; less = omega arith; same = refl }
 above (negsuc a) = go (suc a % 131072) (omega arith)
   where
-    go : (r : ℕ) → r < 131072 → Below 262144 (negℤ (pos r) +ℤ pos 131072)
+    go : (r : ℕ) → r < 131072 → PosBelow 262144 (negℤ (pos r) +ℤ pos 131072)
     go zero h = record { number = 131072; less = omega arith; same = refl }
     go (suc m) h = let l : suc m ≤ 131072 = omega arith in record { number = 131072 - suc m; less = omega arith; same = rw (le-ltb 131072 (suc m) l) }
 
@@ -138,11 +138,11 @@ pub quotient-fits : (z : ℤ) → SFits w64 z → SFits w64 (quotZ (toZ w64 (ofZ
 quotient-fits z f = subst (λ (y : ℤ). SFits w64 (quotZ y (pos 131072))) (sym (toZ-ofZ w64 z f)) (go z f)
   where
     go : (z : ℤ) → SFits w64 z → SFits w64 (quotZ z (pos 131072))
-    go (pos a) f = small (pos (a / 131072)) (omega (arith, f .sfits))
-    go (negsuc a) f = small (negℤ (pos (suc a / 131072))) (under (suc a / 131072) 9223372036854775808 (omega (arith, f .sfits)))
+    go (pos a) f = fits-64 (pos (a / 131072)) (omega (arith, f .sfits))
+    go (negsuc a) f = fits-64 (negℤ (pos (suc a / 131072))) (under (suc a / 131072) 9223372036854775808 (omega (arith, f .sfits)))
 
 -- a number that is not negative and not large fits a u32
-cast-fits : (y : ℤ) → Below 262144 y → T (nonNeg y) × Fits w32 (natAbs y)
+cast-fits : (y : ℤ) → PosBelow 262144 y → T (nonNeg y) × Fits w32 (natAbs y)
 cast-fits y b = subst (λ (x : ℤ). T (nonNeg x) × Fits w32 (natAbs x)) (sym (b .same)) (tt, record { fits = omega (arith, b .less) })
 
 module _ (z : ℤ) (f : SFits w64 z) where
@@ -151,13 +151,13 @@ module _ (z : ℤ) (f : SFits w64 z) where
   had = toZ w64 (ofZ w64 (remZ (toZ w64 (ofZ w64 z)) (pos 131072)))
 
   had-is : had ≡ rest z
-  had-is = ap (λ (y : ℤ). toZ w64 (ofZ w64 (remZ y (pos 131072)))) (toZ-ofZ w64 z f) ∙ toZ-ofZ w64 (rest z) (small (rest z) (omega (arith, rest-small z)))
+  had-is = ap (λ (y : ℤ). toZ w64 (ofZ w64 (remZ y (pos 131072)))) (toZ-ofZ w64 z f) ∙ toZ-ofZ w64 (rest z) (fits-64 (rest z) (omega (arith, rest-small z)))
 
-  had-above : Below 262144 (had +ℤ pos 131072)
-  had-above = subst (λ (y : ℤ). Below 262144 (y +ℤ pos 131072)) (sym had-is) (above z)
+  had-above : PosBelow 262144 (had +ℤ pos 131072)
+  had-above = subst (λ (y : ℤ). PosBelow 262144 (y +ℤ pos 131072)) (sym had-is) (above z)
 
   pub more-fits : SFits w64 (had +ℤ pos 131072)
-  more-fits = subst (SFits w64) (sym (had-above .same)) (small (pos (had-above .number)) (omega (arith, had-above .less)))
+  more-fits = subst (SFits w64) (sym (had-above .same)) (fits-64 (pos (had-above .number)) (omega (arith, had-above .less)))
 
   more-back : toZ w64 (ofZ w64 (had +ℤ pos 131072)) ≡ had +ℤ pos 131072
   more-back = toZ-ofZ w64 (had +ℤ pos 131072) more-fits

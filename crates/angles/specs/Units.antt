@@ -12,9 +12,14 @@ abbrev pub piIn : Scale → ℕ
 piIn Units = 32768
 piIn Halves = 65536
 
+-- a whole turn
+abbrev pub turnIn : Scale → ℕ
+turnIn Units = 65536
+turnIn Halves = 131072
+
 -- "k up to 65,535"; of a common phase "k up to 131,071"
 abbrev pub mostTimes : Scale → ℕ
-mostTimes c = 2 * piIn c - 1
+mostTimes c = turnIn c - 1
 
 -- "over a power of two from 1 to 32768"; of a common phase "over up to 65536": these are the divisors of pi (proofs/Powers.antt)
 unfoldable pub isOver : Scale → ℕ → Bool
@@ -27,13 +32,13 @@ signedOf false u = pos u
 
 -- "modulo two turns" of units, one turn of half units: what is below 131,072 and differs from z by a multiple of it (proofs/Laws.antt, `reduced-turns`). `negsuc n` is -(n + 1)
 unfoldable pub reducedOf : ℤ → ℕ
-reducedOf (pos n) = n % 131072
-reducedOf (negsuc n) = 131071 - n % 131072
+reducedOf (pos n) = n % turnIn Halves
+reducedOf (negsuc n) = turnIn Halves - 1 - n % turnIn Halves
 
 -- k * pi / d. Over 0 it is 0
-unfoldable pub countOf : Scale → Bool → ℕ → ℕ → ℕ
-countOf c minus k d = reducedOf (signedOf minus (k * (piIn c / d)))
+unfoldable pub angleIn : Scale → Bool → ℕ → ℕ → ℕ
+angleIn c minus k d = reducedOf (signedOf minus (k * (piIn c / d)))
 
 -- "until the common phase is taken": the units of a rotation's record, modulo one turn
 unfoldable pub unitsOf : Bool → ℕ → ℕ → ℕ
-unitsOf minus k d = countOf Units minus k d % 65536
+unitsOf minus k d = angleIn Units minus k d % turnIn Units

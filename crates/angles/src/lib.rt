@@ -1,7 +1,8 @@
-// Angles as signed multiples of pi. They are kept modulo 131,072: two turns of units, or one turn of half units.
+// Angles as signed multiples of pi, kept modulo 131,072: two turns of units, or one turn of half
+// units. It knows numbers alone.
 ghost use mathlib.Core.Path.{_≡_};
 ghost use Prim.Native.Nat.{_*_, _/_, _≤_};
-ghost use Rattle.angles.specs.Units.{isOver, mostTimes, countOf, piIn, reducedOf, signedOf};
+ghost use Rattle.angles.specs.Units.{isOver, mostTimes, angleIn, piIn, reducedOf, signedOf};
 
 // In what an angle counts: units, or the half units of a common phase.
 pub enum Scale {
@@ -49,7 +50,7 @@ impl Multiple {
 
     // 122,880 units for -pi/4
     pub fn count(self, scale: Scale) -> u32
-        ensures { λ r. ⌜ r ≡ countOf scale (self .minus) (self .k) (self .over) ⌝ }
+        ensures { λ r. ⌜ r ≡ angleIn scale (self .minus) (self .k) (self .over) ⌝ }
     {
         reduced(self.signed(scale))
     }

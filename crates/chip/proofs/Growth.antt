@@ -14,26 +14,26 @@ use Rattle.chip.specs.Graph.{Near, Symm, Chain, here, next, Joined}
 use Rattle.chip.proofs.Chains.{chain-cat, chain-rev, leave}
 
 -- a connected set as a growth order: R from v on, each later member beside an earlier one
-pub data Grown (near : List ℕ) (v : ℕ) : ℕ → Type 0 where
-  seed : {R : ℕ} → R ≡ 2 ^ v → Grown near v R
-  add : {S R : ℕ} (u w : ℕ) → Grown near v S → bit S u ≡ 0 → In w S → Near near w u → R ≡ bitXor S (2 ^ u) → Grown near v R
+pub data GrownFrom (near : List ℕ) (v : ℕ) : ℕ → Type 0 where
+  seed : {R : ℕ} → R ≡ 2 ^ v → GrownFrom near v R
+  add : {S R : ℕ} (u w : ℕ) → GrownFrom near v S → bit S u ≡ 0 → In w S → Near near w u → R ≡ bitXor S (2 ^ u) → GrownFrom near v R
 
-pub grown-root : {near : List ℕ} {v R : ℕ} → Grown near v R → In v R
+pub grown-root : {near : List ℕ} {v R : ℕ} → GrownFrom near v R → In v R
 grown-root {v = v} (seed e) = ap (λ (n : ℕ). bit n v) e ∙ bit-pow-same v
 grown-root {v = v} (add {S = S} u w g z b n e) = ap (λ (m : ℕ). bit m v) e ∙ put-keeps S u z v (grown-root g)
 
 -- the last one in is another than the root, and can be taken out
-pub shrink : {near : List ℕ} {v R : ℕ} → Grown near v R → 2 ≤ ones R → (u : ℕ) × (u ≢ v) × In u R × Grown near v (bitXor R (2 ^ u))
+pub shrink : {near : List ℕ} {v R : ℕ} → GrownFrom near v R → 2 ≤ ones R → (u : ℕ) × (u ≢ v) × In u R × GrownFrom near v (bitXor R (2 ^ u))
 shrink {v = v} (seed e) h = absurd (omega (arith, ap ones e, ones-pow v))
 shrink {near} {v} (add {S = S} u w g z b n e) h = (
   u,
   (λ (d : u ≡ v). omega (arith, grown-root g, ap (bit S) d)),
   ap (λ (m : ℕ). bit m u) e ∙ put-same S u z,
-  subst (Grown near v) (sym (ap (λ (m : ℕ). bitXor m (2 ^ u)) e ∙ xor-cancel S (2 ^ u))) g,
+  subst (GrownFrom near v) (sym (ap (λ (m : ℕ). bitXor m (2 ^ u)) e ∙ xor-cancel S (2 ^ u))) g,
 )
 
 -- a member has a neighbour, unless it is alone
-pub neighbour : {near : List ℕ} {v R : ℕ} → Symm near → Grown near v R → (m : ℕ) → In m R → (R ≡ 2 ^ m) ⊎ ((n : ℕ) × (n ≢ m) × In n R × Near near m n)
+pub neighbour : {near : List ℕ} {v R : ℕ} → Symm near → GrownFrom near v R → (m : ℕ) → In m R → (R ≡ 2 ^ m) ⊎ ((n : ℕ) × (n ≢ m) × In n R × Near near m n)
 neighbour {v = v} sy (seed {R = R} e) m h = inl (e ∙ ap (λ (k : ℕ). 2 ^ k) (sym (in-pow v m (subst (In m) e h))))
 neighbour {near} {v} {R} sy (add {S = S} u w g z b n e) m h = go (put-cases S u m (subst (In m) e h)) (neighbour sy g m)
   where
@@ -54,14 +54,14 @@ neighbour {near} {v} {R} sy (add {S = S} u w g z b n e) m h = go (put-cases S u 
         old (inl q) = inr (u, apart m k, new, subst (λ (k : ℕ). Near near k u) (in-pow m w (subst (In w) q b)) n)
         old (inr r) = inr (r .0, r .1, up (r .0) (r .2), r .3)
 
-pub neighbour-of : {near : List ℕ} {v R : ℕ} → Symm near → Grown near v R → 2 ≤ ones R → (m : ℕ) → In m R → (n : ℕ) × (n ≢ m) × In n R × Near near m n
+pub neighbour-of : {near : List ℕ} {v R : ℕ} → Symm near → GrownFrom near v R → 2 ≤ ones R → (m : ℕ) → In m R → (n : ℕ) × (n ≢ m) × In n R × Near near m n
 neighbour-of {near} {v} {R} sy g l m h = go (neighbour sy g m h)
   where
     go : (R ≡ 2 ^ m) ⊎ ((n : ℕ) × (n ≢ m) × In n R × Near near m n) → (n : ℕ) × (n ≢ m) × In n R × Near near m n
     go (inl e) = absurd (omega (arith, ap ones e, ones-pow m))
     go (inr r) = r
 
-pub grown-chain : {near : List ℕ} {v S : ℕ} (Q : ℕ) → Grown near v S → Sub S Q → (w : ℕ) → In w S → Chain near Q v w
+pub grown-chain : {near : List ℕ} {v S : ℕ} (Q : ℕ) → GrownFrom near v S → Sub S Q → (w : ℕ) → In w S → Chain near Q v w
 grown-chain {near} {v} Q (seed e) f w h = subst (Chain near Q v) (sym (in-pow v w (subst (In w) e h))) (here (f v (ap (λ (n : ℕ). bit n v) e ∙ bit-pow-same v)))
 grown-chain {near} {v} Q (add {S = S} {R = R} u x g z b n e) f w h = go (put-cases S u w (subst (In w) e h)) (grown-chain Q g sub)
   where
@@ -89,7 +89,7 @@ lacks S Q f ne =
     at i h (inr y) = absurd (omega (arith, bit-xor S Q i, f i y))
 
 -- one more can be taken in
-take-in : (near : List ℕ) (Q v S : ℕ) → Joined near Q → Grown near v S → Sub S Q → ones S < ones Q → (R : ℕ) × Grown near v R × Sub R Q × (ones S < ones R)
+take-in : (near : List ℕ) (Q v S : ℕ) → Joined near Q → GrownFrom near v S → Sub S Q → ones S < ones Q → (R : ℕ) × GrownFrom near v R × Sub R Q × (ones S < ones R)
 unfolding Joined
 take-in near Q v S j g f l =
     let b = lacks S Q f (λ (e : S ≡ Q). omega (arith, ap ones e)) in
@@ -109,22 +109,22 @@ take-in near Q v S j g f l =
     more u z (inl e) = absurd (omega (arith, put-same S u z, ap (λ (n : ℕ). bit n u) e))
     more u z (inr h) = h
 
-grow-up : (near : List ℕ) (Q v k S : ℕ) → Joined near Q → Grown near v S → Sub S Q → ones Q ≤ ones S + k → Grown near v Q
+grow-up : (near : List ℕ) (Q v k S : ℕ) → Joined near Q → GrownFrom near v S → Sub S Q → ones Q ≤ ones S + k → GrownFrom near v Q
 grow-up near Q v zero S j g f l = go (sub-cases Q S f)
   where
-    go : (S ≡ Q) ⊎ (ones S < ones Q) → Grown near v Q
-    go (inl e) = subst (Grown near v) e g
+    go : (S ≡ Q) ⊎ (ones S < ones Q) → GrownFrom near v Q
+    go (inl e) = subst (GrownFrom near v) e g
     go (inr h) = absurd (omega arith)
 grow-up near Q v (suc k) S j g f l = go (sub-cases Q S f) (λ R. grow-up near Q v k R j)
   where
-    go : (S ≡ Q) ⊎ (ones S < ones Q) → ((R : ℕ) → Grown near v R → Sub R Q → ones Q ≤ ones R + k → Grown near v Q) → Grown near v Q
-    go (inl e) ih = subst (Grown near v) e g
+    go : (S ≡ Q) ⊎ (ones S < ones Q) → ((R : ℕ) → GrownFrom near v R → Sub R Q → ones Q ≤ ones R + k → GrownFrom near v Q) → GrownFrom near v Q
+    go (inl e) ih = subst (GrownFrom near v) e g
     go (inr h) ih = let r = take-in near Q v S j g f h in ih (r .0) (r .1) (r .2) (omega (arith, r .3))
 
-pub joined-grown : (near : List ℕ) (Q v : ℕ) → Joined near Q → In v Q → Grown near v Q
+pub joined-grown : (near : List ℕ) (Q v : ℕ) → Joined near Q → In v Q → GrownFrom near v Q
 joined-grown near Q v j h = grow-up near Q v (ones Q) (2 ^ v) j (seed refl) (pow-sub Q v h) (omega arith)
 
-pub grown-joined : (near : List ℕ) (Q v : ℕ) → Symm near → Grown near v Q → Joined near Q
+pub grown-joined : (near : List ℕ) (Q v : ℕ) → Symm near → GrownFrom near v Q → Joined near Q
 unfolding Joined
 grown-joined near Q v sy g a b ha hb = chain-cat (chain-rev sy (grown-chain Q g (λ i h. h) a ha)) (grown-chain Q g (λ i h. h) b hb)
 

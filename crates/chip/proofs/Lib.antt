@@ -7,3 +7,4 @@ pub mod Enough
 pub mod Searching
 pub mod Neighbours
 pub mod Order
+pub mod Insides

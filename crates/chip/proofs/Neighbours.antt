@@ -214,19 +214,19 @@ all-near n (x ∷ xs) near len u v (suc k) h hu hv j =
     all-near n xs (addOf (couplerOf n x) near) (add-length (couplerOf n x) near ∙ len) u v k (omega arith) hu hv j
 
 -- u and v are joined by a record of the list
-abbrev pub Among : ℕ → List ℕ → ℕ → ℕ → Type 0
-Among n xs u v = (u < 20) × (v < 20) × ((k : ℕ) × (k < length xs) × Joins n (getD xs k 0) u v)
+abbrev pub JoinedBy : ℕ → List ℕ → ℕ → ℕ → Type 0
+JoinedBy n xs u v = (u < 20) × (v < 20) × ((k : ℕ) × (k < length xs) × Joins n (getD xs k 0) u v)
 
-all-from : (n : ℕ) (xs near : List ℕ) → length near ≡ 20 → (u v : ℕ) → Near (addAll n xs near) u v → Near near u v ⊎ Among n xs u v
+all-from : (n : ℕ) (xs near : List ℕ) → length near ≡ 20 → (u v : ℕ) → Near (addAll n xs near) u v → Near near u v ⊎ JoinedBy n xs u v
 unfolding addAll
 all-from n [] near len u v h = inl h
 all-from n (x ∷ xs) near len u v h = go (all-from n xs (addOf (couplerOf n x) near) (add-length (couplerOf n x) near ∙ len) u v h)
   where
-    first : Near near u v ⊎ ((u < 20) × (v < 20) × Joins n x u v) → Near near u v ⊎ Among n (x ∷ xs) u v
+    first : Near near u v ⊎ ((u < 20) × (v < 20) × Joins n x u v) → Near near u v ⊎ JoinedBy n (x ∷ xs) u v
     first (inl k) = inl k
     first (inr (p, q, j)) = inr (p, q, (0, omega arith, j))
 
-    go : Near (addOf (couplerOf n x) near) u v ⊎ Among n xs u v → Near near u v ⊎ Among n (x ∷ xs) u v
+    go : Near (addOf (couplerOf n x) near) u v ⊎ JoinedBy n xs u v → Near near u v ⊎ JoinedBy n (x ∷ xs) u v
     go (inl k) = first (add-from n x (couplerOf n x) refl near len u v k)
     go (inr (p, q, (k, l, j))) = inr (p, q, (suc k, omega arith, j))
 
@@ -250,15 +250,15 @@ none-near u v h = go (decLt u 20)
 
 module _ (n : ℕ) (xs : List ℕ) where
   -- neighbours are joined by a record, and what a record joins are neighbours
-  pub near-among : (u v : ℕ) → Near (nearOf n xs) u v → Among n xs u v
+  pub near-among : (u v : ℕ) → Near (nearOf n xs) u v → JoinedBy n xs u v
   unfolding nearOf
   near-among u v h = go (all-from n xs (replicate 20 0) (length-replicate {A = ℕ} 20 0) u v h)
     where
-      go : Near (replicate 20 0) u v ⊎ Among n xs u v → Among n xs u v
+      go : Near (replicate 20 0) u v ⊎ JoinedBy n xs u v → JoinedBy n xs u v
       go (inl k) = absurd (none-near u v k)
       go (inr r) = r
 
-  pub among-near : (u v : ℕ) → Among n xs u v → Near (nearOf n xs) u v
+  pub among-near : (u v : ℕ) → JoinedBy n xs u v → Near (nearOf n xs) u v
   unfolding nearOf
   among-near u v (p, q, (k, l, j)) = all-near n xs (replicate 20 0) (length-replicate {A = ℕ} 20 0) u v k l p q j
 
@@ -270,7 +270,7 @@ module _ (n : ℕ) (xs : List ℕ) where
       turned x (inl e) = inr e
       turned x (inr e) = inl e
 
-      go : Among n xs u v → Near (nearOf n xs) v u
+      go : JoinedBy n xs u v → Near (nearOf n xs) v u
       go (p, q, (k, l, j)) = among-near v u (q, p, (k, l, turned (getD xs k 0) j))
 
   pub near-other : (u v : ℕ) → Near (nearOf n xs) u v → u ≢ v
@@ -280,7 +280,7 @@ module _ (n : ℕ) (xs : List ℕ) where
       ends x (inl e) = coupler-ends n x u v e .2
       ends x (inr e) = λ (z : u ≡ v). coupler-ends n x v u e .2 (sym z)
 
-      go : Among n xs u v → u ≢ v
+      go : JoinedBy n xs u v → u ≢ v
       go (p, q, (k, l, j)) = ends (getD xs k 0) j
 
   pub near-below : (u v : ℕ) → Near (nearOf n xs) u v → (u < n) × (v < n)
@@ -290,7 +290,7 @@ module _ (n : ℕ) (xs : List ℕ) where
       ends x (inl e) = let r = coupler-ends n x u v e in (r .0, r .1)
       ends x (inr e) = let r = coupler-ends n x v u e in (r .1, r .0)
 
-      go : Among n xs u v → (u < n) × (v < n)
+      go : JoinedBy n xs u v → (u < n) × (v < n)
       go (p, q, (k, l, j)) = ends (getD xs k 0) j
 
   -- neighbours are listed, and two different qubits that are listed are neighbours
@@ -302,7 +302,7 @@ module _ (n : ℕ) (xs : List ℕ) where
       ends x (inl e) = inl (coupler-ends n x u v e .3)
       ends x (inr e) = inr (coupler-ends n x v u e .3)
 
-      go : Among n xs u v → (k : ℕ) × (k < length xs) × ((getD xs k 0 ≡ packed 0 u v) ⊎ (getD xs k 0 ≡ packed 0 v u))
+      go : JoinedBy n xs u v → (k : ℕ) × (k < length xs) × ((getD xs k 0 ≡ packed 0 u v) ⊎ (getD xs k 0 ≡ packed 0 v u))
       go (p, q, (k, l, j)) = (k, l, ends (getD xs k 0) j)
 
   pub listed-near : n ≤ 20 → (u v : ℕ) → u < n → v < n → u ≢ v → Listed xs u v → Near (nearOf n xs) u v

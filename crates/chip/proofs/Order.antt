@@ -72,22 +72,22 @@ module _ (near : List ℕ) where
           (later (getD (orderedFrom near d (k + 1)) m 0) (ih m (subst (λ (l : List ℕ). m < length l) (from-without d k e) h)))
 
   -- x stands in the list
-  abbrev Stands : List ℕ → ℕ → Type 0
-  Stands l x = (m : ℕ) × (m < length l) × (getD l m 0 ≡ x)
+  abbrev PairStands : List ℕ → ℕ → Type 0
+  PairStands l x = (m : ℕ) × (m < length l) × (getD l m 0 ≡ x)
 
-  from-complete : (d k p : ℕ) → k ≤ p → p < k + d → Here p ≡ true → Stands (orderedFrom near d k) (recordAt p)
+  from-complete : (d k p : ℕ) → k ≤ p → p < k + d → Here p ≡ true → PairStands (orderedFrom near d k) (recordAt p)
   from-complete zero k p a b e = absurd (omega arith)
   from-complete (suc d) k p a b e = go (Here k) (ltb k p) refl refl (from-complete d (k + 1) p)
     where
-      behind : (x : ℕ) → Stands (orderedFrom near d (k + 1)) (recordAt p) → Stands (x ∷ orderedFrom near d (k + 1)) (recordAt p)
+      behind : (x : ℕ) → PairStands (orderedFrom near d (k + 1)) (recordAt p) → PairStands (x ∷ orderedFrom near d (k + 1)) (recordAt p)
       behind x (m, l, q) = (suc m, omega arith, q)
 
-      go : (s t : Bool) → Here k ≡ s → ltb k p ≡ t → (k + 1 ≤ p → p < k + 1 + d → Here p ≡ true → Stands (orderedFrom near d (k + 1)) (recordAt p)) → Stands (orderedFrom near (suc d) k) (recordAt p)
-      go true true f g ih = let l : k < p = ltb-true k p g in subst (λ (l : List ℕ). Stands l (recordAt p)) (sym (from-with d k f)) (behind (recordAt k) (ih (omega arith) (omega arith) e))
+      go : (s t : Bool) → Here k ≡ s → ltb k p ≡ t → (k + 1 ≤ p → p < k + 1 + d → Here p ≡ true → PairStands (orderedFrom near d (k + 1)) (recordAt p)) → PairStands (orderedFrom near (suc d) k) (recordAt p)
+      go true true f g ih = let l : k < p = ltb-true k p g in subst (λ (l : List ℕ). PairStands l (recordAt p)) (sym (from-with d k f)) (behind (recordAt k) (ih (omega arith) (omega arith) e))
       go true false f g ih =
           let q : k ≡ p = omega (arith, ltb-false k p g) in
-          subst (λ (l : List ℕ). Stands l (recordAt p)) (sym (from-with d k f)) (0, omega arith, ap recordAt q)
-      go false true f g ih = let l : k < p = ltb-true k p g in subst (λ (l : List ℕ). Stands l (recordAt p)) (sym (from-without d k f)) (ih (omega arith) (omega arith) e)
+          subst (λ (l : List ℕ). PairStands l (recordAt p)) (sym (from-with d k f)) (0, omega arith, ap recordAt q)
+      go false true f g ih = let l : k < p = ltb-true k p g in subst (λ (l : List ℕ). PairStands l (recordAt p)) (sym (from-without d k f)) (ih (omega arith) (omega arith) e)
       go false false f g ih =
           let q : k ≡ p = omega (arith, ltb-false k p g) in
           absurd (never (ap Here q ∙ e) f)
@@ -134,7 +134,7 @@ module _ (near : List ℕ) where
       let ea : (a * 20 + b) / 20 ≡ a = omega arith in
       let eb : (a * 20 + b) % 20 ≡ b = omega arith in
       let t : Here (a * 20 + b) ≡ true = ap₂ (λ (x y : ℕ). pairOf (getD near x 0) x y) ea eb ∙ pair-is (getD near a 0) a b l n in
-      subst (λ (x : ℕ). Stands (orderedFrom near 400 0) x) (ap₂ (packed 0) ea eb) (from-complete 400 0 (a * 20 + b) (omega arith) (omega arith) t)
+      subst (λ (x : ℕ). PairStands (orderedFrom near 400 0) x) (ap₂ (packed 0) ea eb) (from-complete 400 0 (a * 20 + b) (omega arith) (omega arith) t)
 
   -- "ascending, each once"
   pub ordered-ascending : (i j : ℕ) → i < j → j < length (orderedList near) → getD (orderedList near) i 0 < getD (orderedList near) j 0
@@ -211,13 +211,13 @@ unfolding packed
 record-is near k = omega arith
 
 -- at pair k: what is written, and then what the pairs from k on still write, is the whole
-pub record Writing (near : List ℕ) (k : ℕ) (records : List ℕ) (len : ℕ) : Type 0 where
+pub record Listing (near : List ℕ) (k : ℕ) (records : List ℕ) (len : ℕ) : Type 0 where
   pub long : length records ≡ 190
   pub few : len ≤ pairsBelow k
   pub rest : sets records len (orderedFrom near (400 - k) k) ≡ orderedOf near .records
   pub count : len + length (orderedFrom near (400 - k) k) ≡ orderedOf near .len
 
-pub writing-none : (near : List ℕ) → Writing near 0 (replicate 190 0) 0
+pub writing-none : (near : List ℕ) → Listing near 0 (replicate 190 0) 0
 unfolding orderedOf orderedList
 writing-none near = record {
   long = length-replicate {A = ℕ} 190 0;
@@ -227,8 +227,8 @@ writing-none near = record {
   count = omega arith;
 }
 
-module _ (near : List ℕ) (k : ℕ) (records : List ℕ) (len : ℕ) (h : k < 400) (w : Writing near k records len) where
-  pub writing-with : (x : ℕ) → x ≡ recordAt near k → Here near k ≡ true → Writing near (k + 1) (set records len x) (len + 1)
+module _ (near : List ℕ) (k : ℕ) (records : List ℕ) (len : ℕ) (h : k < 400) (w : Listing near k records len) where
+  pub writing-with : (x : ℕ) → x ≡ recordAt near k → Here near k ≡ true → Listing near (k + 1) (set records len x) (len + 1)
   writing-with x q e =
       let f : orderedFrom near (400 - k) k ≡ x ∷ orderedFrom near (400 - (k + 1)) (k + 1) =
       ap (λ (d : ℕ). orderedFrom near d k) (sub-suc 400 k h) ∙ from-with near (400 - (k + 1)) k e ∙ ap (λ (y : ℕ). y ∷ orderedFrom near (400 - (k + 1)) (k + 1)) (sym q) in
@@ -239,7 +239,7 @@ module _ (near : List ℕ) (k : ℕ) (records : List ℕ) (len : ℕ) (h : k < 4
         count = omega (arith, w .count, ap length f);
       }
 
-  pub writing-without : Here near k ≡ false → Writing near (k + 1) records len
+  pub writing-without : Here near k ≡ false → Listing near (k + 1) records len
   writing-without e =
       let f : orderedFrom near (400 - k) k ≡ orderedFrom near (400 - (k + 1)) (k + 1) =
       ap (λ (d : ℕ). orderedFrom near d k) (sub-suc 400 k h) ∙ from-without near (400 - (k + 1)) k e in
@@ -250,7 +250,7 @@ module _ (near : List ℕ) (k : ℕ) (records : List ℕ) (len : ℕ) (h : k < 4
         count = omega (arith, w .count, ap length f);
       }
 
-pub writing-all : (near : List ℕ) (k : ℕ) (records : List ℕ) (len : ℕ) → 400 ≤ k → Writing near k records len → (records ≡ orderedOf near .records) × (len ≡ orderedOf near .len)
+pub writing-all : (near : List ℕ) (k : ℕ) (records : List ℕ) (len : ℕ) → 400 ≤ k → Listing near k records len → (records ≡ orderedOf near .records) × (len ≡ orderedOf near .len)
 writing-all near k records len h w =
     let z : 400 - k ≡ 0 = omega arith in
     let f : orderedFrom near (400 - k) k ≡ [] = ap (λ (d : ℕ). orderedFrom near d k) z ∙ from-none near k in

@@ -1,3 +1,4 @@
 pub mod Graph
+pub mod Inside
 pub mod Couplers
 pub mod Ordered

@@ -1,3 +1,4 @@
-// The chip: couplers and the graph that they make. It knows numbers and sets, and no gates.
+// The chip: couplers, the graph that they make, the search in it, and gates that keep to it. It
+// knows records and sets, and nothing of what gates do.
 pub mod couplers;
 pub mod search;

@@ -38,6 +38,11 @@ pub phases-none : (a : ℕ) → a < 131072 → phases 0 a ≡ a
 unfolding phases
 phases-none a h = omega arith
 
+-- reduced once, reduced for good
+pub phases-again : (a b : ℕ) → phases (phases a b) 0 ≡ phases a b
+unfolding phases
+phases-again a b = omega arith
+
 pub phases-over : (a b c : ℕ) → phases (phases a b) c ≡ phases a (phases b c)
 unfolding phases
 phases-over a b c = omega arith

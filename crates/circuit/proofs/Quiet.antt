@@ -12,7 +12,7 @@ use Rattle.sets.specs.Pick.{pick}
 use Rattle.sets.specs.Columns.{cnot}
 use Rattle.gates.specs.declared.gate.Gate.{Gate}
 use Rattle.gates.specs.declared.gate.Gate.the-variants.{Cnot, Rotation, X, Bad}
-use Rattle.gates.specs.All.{All}
+use Rattle.sets.specs.Lists.{All}
 use Rattle.circuit.specs.Circuit.{step, start, gives, given, takes, givesOn, givenOn, sumOf}
 use Rattle.circuit.specs.Flips.{flipStep, flipRun, noFlips}
 use Rattle.circuit.specs.Phase.{shifts, shiftsOn, shifted, phaseOf}

@@ -47,14 +47,6 @@ pub step-rotation : (q a : ℕ) (W : List ℕ) → step (Rotation q a) W ≡ W
 unfolding step
 step-rotation q a W = refl
 
-pub step-x : (q : ℕ) (W : List ℕ) → step (X q) W ≡ W
-unfolding step
-step-x q W = refl
-
-pub step-bad : (W : List ℕ) → step Bad W ≡ W
-unfolding step
-step-bad W = refl
-
 pub step-length : (g : Gate) (W : List ℕ) → length (step g W) ≡ length W
 unfolding step
 step-length (Cnot c t) W = cnot-length c t W

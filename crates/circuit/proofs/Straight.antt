@@ -10,7 +10,7 @@ use Rattle.sets.specs.Pick.{pick}
 use Rattle.gates.specs.declared.gate.Gate.{Gate}
 use Rattle.gates.specs.declared.gate.Gate.the-variants.{Cnot, Rotation, X, Bad}
 use Rattle.gates.specs.Layout.{Good}
-use Rattle.gates.specs.All.{All}
+use Rattle.sets.specs.Lists.{All}
 use Rattle.gates.specs.Listed.{OnCoupler}
 use Rattle.circuit.specs.Circuit.{step, run, start, gives, given, takes, givesOn, givenOn, sumOf}
 use Rattle.circuit.specs.Flips.{flipStep, flipRun, noFlips}

@@ -12,12 +12,12 @@ use Rattle.sets.specs.Bit.{bit, when}
 use Rattle.sets.specs.Columns.{turn, comb, cnot}
 use Rattle.sets.proofs.Bits.{bit-pow-same, bit-pow-other, bit-xor, bit-of-zero}
 use Rattle.sets.proofs.Comb.{comb-turn, comb-xor, comb-pow, comb-units, getD-units}
-use Rattle.sets.proofs.Turn.{turn-zero, turn-back}
+use Rattle.sets.proofs.Turn.{turn-is, turn-zero, turn-back}
 use Rattle.gates.specs.declared.gate.Gate.{Gate}
 use Rattle.gates.specs.declared.gate.Gate.the-variants.{Cnot, Rotation, X, Bad}
 use Rattle.gates.specs.Layout.{Good}
 use Rattle.circuit.specs.Circuit.{step, run, start}
-use Rattle.gates.specs.All.{All}
+use Rattle.sets.specs.Lists.{All}
 use Rattle.circuit.proofs.Steps.{cnot-target, cnot-other, step-length}
 use Rattle.circuit.proofs.Circuits.{start-length}
 
@@ -51,22 +51,21 @@ below-start n few = record { small = λ i h. rw (getD-units 20 i (omega arith)) 
 pub record Apart (W : List ℕ) : Type 0 where
   pub only-empty : (x : ℕ) → x < 2 ^ 20 → comb x W ≡ 0 → x ≡ 0
 
-turn-lt : (x c t : ℕ) → c < 20 → x < 2 ^ 20 → turn x c t < 2 ^ 20
-unfolding turn
-turn-lt x c t h l = go (bit x t)
+turn-lt : (x c t : ℕ) → c < 20 → x < 2 ^ 20 → turn c t x < 2 ^ 20
+turn-lt x c t h l = rw (turn-is x c t (omega arith)) (go (bit x t))
   where
     go : (b : ℕ) → bitXor x (when b (2 ^ c)) < 2 ^ 20
     go zero = xor-lt 20 x 0 l (pow-pos 20)
     go (suc b) = xor-lt 20 x (2 ^ c) l (pow-lt h)
 
 -- Law 1, read the other way: what a column stands for after a CNOT
-pub comb-cnot : (W : List ℕ) (x c t : ℕ) → c ≢ t → t < length W → comb x (cnot c t W) ≡ comb (turn x c t) W
-comb-cnot W x c t ne l = ap (λ (y : ℕ). comb y (cnot c t W)) (sym (turn-back x c t ne)) ∙ comb-turn W (turn x c t) c t ne l
+pub comb-cnot : (W : List ℕ) (x c t : ℕ) → c < 32 → c ≢ t → t < length W → comb x (cnot c t W) ≡ comb (turn c t x) W
+comb-cnot W x c t few ne l = ap (λ (y : ℕ). comb y (cnot c t W)) (sym (turn-back x c t ne)) ∙ comb-turn W (turn c t x) c t few ne l
 
 pub apart-step : (n : ℕ) (g : Gate) (W : List ℕ) → n ≤ 20 → length W ≡ 20 → Good n g → Apart W → Apart (step g W)
 unfolding step Good
 apart-step n (Cnot c t) W few l (hc, ht, ne) a = record {
-  only-empty = λ x h e. turn-zero x c t ne (a .only-empty (turn x c t) (turn-lt x c t (omega arith) h) (sym (comb-cnot W x c t ne (omega arith)) ∙ e));
+  only-empty = λ x h e. turn-zero x c t ne (a .only-empty (turn c t x) (turn-lt x c t (omega arith) h) (sym (comb-cnot W x c t (omega arith) ne (omega arith)) ∙ e));
 }
 apart-step n (Rotation q b) W few l h a = a
 apart-step n (X q) W few l h a = a

@@ -19,7 +19,7 @@ use Rattle.gates.specs.declared.gate.Gate.{Gate}
 use Rattle.circuit.specs.Circuit.{run}
 use Rattle.tallies.specs.Tally.{cnotsOf}
 use Rattle.columns.specs.Terms.{Bears, totalOf, LaysTerms, due, left, liveOne, live, Laying}
-use Rattle.columns.proofs.Tabling.{sum-ext, sum-none, sum-same}
+use Rattle.sets.proofs.Tabling.{sum-ext, sum-none, sum-same}
 use Rattle.columns.proofs.Layings.{due-struck, due-is, live-one, live-none}
 
 -- a part of a set of n qubits is a number below 2^n

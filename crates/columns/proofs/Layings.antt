@@ -13,9 +13,9 @@ use lib.Seq.{getD-set-same, getD-set-other}
 use borrow.Author.Tests.{eqb-true, eqb-false}
 use Rattle.sets.specs.Pick.{pick}
 use Rattle.sets.specs.Bit.{In, Sub}
-use Rattle.sets.specs.Columns.{comb, cnot}
+use Rattle.sets.specs.Columns.{turn, comb, cnot}
 use Rattle.sets.proofs.Members.{in-lt}
-use Rattle.sets.proofs.Turn.{turn-zero}
+use Rattle.sets.proofs.Turn.{turn-zero, turn-none}
 use Rattle.sets.proofs.Comb.{comb-turn, comb-pow}
 use Rattle.gates.specs.declared.gate.Gate.{Gate}
 use Rattle.gates.specs.declared.gate.Gate.the-variants.{Cnot, Rotation, X, Bad}
@@ -23,12 +23,13 @@ use Rattle.circuit.specs.Circuit.{step, run, gives, given}
 use Rattle.circuit.proofs.Steps.{step-cnot, step-rotation, gives-cnot, gives-borne, gives-other}
 use Rattle.circuit.proofs.Circuits.{run-none, run-cons, run-append, run-length, given-none, given-cons, given-append}
 use Rattle.chip.specs.Graph.{Near}
-use Rattle.columns.specs.Tables.{sumTo}
-use Rattle.columns.specs.Turning.{turnedBy, turnAll}
-use Rattle.columns.specs.Terms.{Inside, Small, due, left, liveOne, live, Laying}
-use Rattle.columns.proofs.Tabling.{sum-ext, sum-strike}
-use Rattle.columns.proofs.Turns.{turned-zero, turned-is, turn-all-length, turn-all-at}
-use Rattle.gates.proofs.Alls.{all-none, all-one, all-append, all-map}
+use Rattle.chip.specs.Inside.{Inside}
+use Rattle.sets.specs.Tables.{sumTo}
+use Rattle.columns.specs.Turning.{turnAll}
+use Rattle.columns.specs.Terms.{Small, due, left, liveOne, live, Laying}
+use Rattle.sets.proofs.Tabling.{sum-ext, sum-strike}
+use Rattle.columns.proofs.Turns.{turn-all-length, turn-all-at}
+use Rattle.sets.proofs.Lists.{all-none, all-one, all-append, all-map}
 use Rattle.tallies.proofs.Tallies.{rotations-append, rotations-none, rotations-cnot, rotations-rotation}
 
 -- ---- what one column is due
@@ -50,25 +51,25 @@ pub live-none : (x : ℕ) → x ≡ 0 → liveOne x ≡ 0
 live-none x e = ap liveOne e
 
 -- a CNOT turns a column and the wires together
-turned-live : (c t x : ℕ) → c < 32 → c ≢ t → x ≢ 0 → turnedBy c t x ≢ 0
-turned-live c t x l ne h z = h (turn-zero x c t ne (sym (turned-is c t x l) ∙ z))
+turned-live : (c t x : ℕ) → c ≢ t → x ≢ 0 → turn c t x ≢ 0
+turned-live c t x ne h z = h (turn-zero x c t ne z)
 
-due-turned : (p : ℕ) (W : List ℕ) (c t x a : ℕ) → c < 32 → t < length W → c ≢ t → due p (cnot c t W) (turnedBy c t x) a ≡ due p W x a
+due-turned : (p : ℕ) (W : List ℕ) (c t x a : ℕ) → c < 32 → t < length W → c ≢ t → due p (cnot c t W) (turn c t x) a ≡ due p W x a
 due-turned p W c t x a lc lt ne = go (ℕ-discrete x 0)
   where
-    go : Dec (x ≡ 0) → due p (cnot c t W) (turnedBy c t x) a ≡ due p W x a
-    go (yes z) = due-struck p (cnot c t W) (turnedBy c t x) a (ap (turnedBy c t) z ∙ turned-zero c t) ∙ sym (due-struck p W x a z)
+    go : Dec (x ≡ 0) → due p (cnot c t W) (turn c t x) a ≡ due p W x a
+    go (yes z) = due-struck p (cnot c t W) (turn c t x) a (ap (turn c t) z ∙ turn-none c t) ∙ sym (due-struck p W x a z)
     go (no h) =
-        due-is p (cnot c t W) (turnedBy c t x) a (turned-live c t x lc ne h)
-        ∙ ap (λ (y : ℕ). pick (eqb y p) a 0) (ap (λ (y : ℕ). comb y (cnot c t W)) (turned-is c t x lc) ∙ comb-turn W x c t ne lt)
+        due-is p (cnot c t W) (turn c t x) a (turned-live c t x ne h)
+        ∙ ap (λ (y : ℕ). pick (eqb y p) a 0) (comb-turn W x c t lc ne lt)
         ∙ sym (due-is p W x a h)
 
-live-turned : (c t x : ℕ) → c < 32 → c ≢ t → liveOne (turnedBy c t x) ≡ liveOne x
-live-turned c t x l ne = go (ℕ-discrete x 0)
+live-turned : (c t x : ℕ) → c ≢ t → liveOne (turn c t x) ≡ liveOne x
+live-turned c t x ne = go (ℕ-discrete x 0)
   where
-    go : Dec (x ≡ 0) → liveOne (turnedBy c t x) ≡ liveOne x
-    go (yes z) = live-none (turnedBy c t x) (ap (turnedBy c t) z ∙ turned-zero c t) ∙ sym (live-none x z)
-    go (no h) = live-one (turnedBy c t x) (turned-live c t x l ne h) ∙ sym (live-one x h)
+    go : Dec (x ≡ 0) → liveOne (turn c t x) ≡ liveOne x
+    go (yes z) = live-none (turn c t x) (ap (turn c t) z ∙ turn-none c t) ∙ sym (live-none x z)
+    go (no h) = live-one (turn c t x) (turned-live c t x ne h) ∙ sym (live-one x h)
 
 gives-pick : (p q a : ℕ) (W : List ℕ) → gives p (Rotation q a) W ≡ pick (eqb (getD W q 0) p) a 0
 gives-pick p q a W = go (eqb (getD W q 0) p) refl
@@ -111,7 +112,7 @@ module _ (near : List ℕ) (Q : ℕ) (angles : List ℕ) where
       }
 
   pub laying-cnot : (xs : List ℕ) (c t : ℕ) → Q < 2 ^ 20 → Near near c t → In c Q → In t Q → c ≢ t → Laying near Q angles xs (Cnot c t ∷ []) (turnAll c t xs)
-  unfolding left live Inside Small
+  unfolding left live Small
   laying-cnot xs c t low n hc ht ne =
       let lc : c < 20 = in-lt 20 Q c low hc in
       let lt : t < 20 = in-lt 20 Q t low ht in
@@ -125,19 +126,19 @@ module _ (near : List ℕ) (Q : ℕ) (angles : List ℕ) where
             ∙ sum-ext (length xs) (λ k. due p (cnot c t W) (getD (turnAll c t xs) k 0) (getD angles k 0)) (λ k. due p W (getD xs k 0) (getD angles k 0))
             (λ k b. ap (λ (x : ℕ). due p (cnot c t W) x (getD angles k 0)) (turn-all-at c t xs k) ∙ due-turned p W c t (getD xs k 0) (getD angles k 0) (omega arith) (omega (arith, l)) ne) in
             ap₂ (λ (n : ℕ) (w : List ℕ). n + sumTo (length (turnAll c t xs)) (λ k. due p w (getD (turnAll c t xs) k 0) (getD angles k 0))) z e ∙ omega (arith, s);
-        inside = all-one (Inside near Q) (Cnot c t) (n, hc, ht, ne);
+        inside = all-one (Inside near Q) (Cnot c t) (hc, ht, ne, n);
         small = λ h. all-one Small (Cnot c t) tt;
         rotations =
             omega (
               arith,
               rotations-cnot c t,
               ap (λ (n : ℕ). sumTo n (λ k. liveOne (getD (turnAll c t xs) k 0))) (turn-all-length c t xs),
-              sum-ext (length xs) (λ k. liveOne (getD (turnAll c t xs) k 0)) (λ k. liveOne (getD xs k 0)) (λ k b. ap liveOne (turn-all-at c t xs k) ∙ live-turned c t (getD xs k 0) (omega arith) ne),
+              sum-ext (length xs) (λ k. liveOne (getD (turnAll c t xs) k 0)) (λ k. liveOne (getD xs k 0)) (λ k b. ap liveOne (turn-all-at c t xs k) ∙ live-turned c t (getD xs k 0) ne),
             );
       }
 
   pub laying-strike : (xs : List ℕ) (k q : ℕ) → k < length xs → getD xs k 0 ≡ 2 ^ q → In q Q → Laying near Q angles xs (Rotation q (getD angles k 0) ∷ []) (set xs k 0)
-  unfolding left live Inside Small
+  unfolding left live Small
   laying-strike xs k q l e hq =
       let a : ℕ = getD angles k 0 in
       let alive : getD xs k 0 ≢ 0 = λ z. omega (arith, pow-pos q, e) in
@@ -173,8 +174,7 @@ module _ (near : List ℕ) (Q : ℕ) (angles : List ℕ) where
 
 -- what is laid inside a part of Q is laid inside Q
 inside-wider : (near : List ℕ) (S Q : ℕ) → Sub S Q → (g : Gate) → Inside near S g → Inside near Q g
-unfolding Inside
-inside-wider near S Q f (Cnot c t) (n, hc, ht, ne) = (n, f c hc, f t ht, ne)
+inside-wider near S Q f (Cnot c t) (hc, ht, ne, n) = (f c hc, f t ht, ne, n)
 inside-wider near S Q f (Rotation q a) h = f q h
 inside-wider near S Q f (X q) h = h
 inside-wider near S Q f Bad h = h

@@ -1,4 +1,3 @@
-pub mod Tabling
 pub mod Piecing
 pub mod Turns
 pub mod Strikes

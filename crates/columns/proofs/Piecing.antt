@@ -3,7 +3,7 @@ use mathlib.Core.Path.{_≡_, ap, _∙_}
 use mathlib.Core.List.{List}
 use Prim.Native.Nat.{ℕ}
 use Rattle.emitting.specs.Emit.{emit, emitAt}
-use Rattle.columns.specs.Pieces.{Piece, idle, andThen, Memory, held, wrote}
+use Rattle.columns.specs.Pieces.{Piece, idle, followedBy, Memory, held, wrote}
 use Rattle.emitting.proofs.Emitting.{emit-none, emit-at-none, emit-append, emit-at-append}
 
 -- nothing laid
@@ -12,12 +12,12 @@ unfolding wrote
 wrote-none out at xs = rw (emit-none out at, emit-at-none out at)
 
 module _ (out : List ℕ) (at : ℕ) (p : Piece) (k : List ℕ → Piece) where
-  wrote-then : wrote (emit out at (p .laid)) (emitAt out at (p .laid)) (k (p .cols)) ≡ wrote out at (andThen p k)
-  unfolding wrote andThen
+  wrote-then : wrote (emit out at (p .laid)) (emitAt out at (p .laid)) (k (p .cols)) ≡ wrote out at (followedBy p k)
+  unfolding wrote followedBy
   wrote-then = rw (emit-append out at (p .laid) (k (p .cols) .laid), emit-at-append out at (p .laid) (k (p .cols) .laid))
 
   -- p left its memory, and k went on from there
-  pub wrote-on : {xs o : List ℕ} {a : ℕ} {m : Memory} → held xs o a ≡ wrote out at p → m ≡ wrote o a (k xs) → m ≡ wrote out at (andThen p k)
+  pub wrote-on : {xs o : List ℕ} {a : ℕ} {m : Memory} → held xs o a ≡ wrote out at p → m ≡ wrote o a (k xs) → m ≡ wrote out at (followedBy p k)
   unfolding wrote
   wrote-on e h = h ∙ ap (λ (w : Memory). wrote (w .out) (w .at) (k (w .cols))) e ∙ wrote-then
 

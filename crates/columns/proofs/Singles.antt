@@ -16,7 +16,7 @@ use Rattle.sets.specs.Size.{singleOf, lowestOf}
 use Rattle.sets.proofs.Bits.{bit-zero, bit-suc, bit-lt, bit-or, bit-of-zero, or-assoc}
 use Rattle.sets.proofs.Words.{has-false, out-has}
 use Rattle.gates.specs.declared.gate.Gate.the-variants.{Rotation}
-use Rattle.columns.specs.Pieces.{Piece, piece, idle, andThen, Memory, held, wrote}
+use Rattle.columns.specs.Pieces.{Piece, piece, idle, followedBy, Memory, held, wrote}
 use Rattle.columns.specs.Striking.{loneAt, strikeOne, strikeRow, strikeFrom, strikeOff, aloneOf, singlesOf}
 use Rattle.columns.proofs.Piecing.{wrote-none}
 use Rattle.columns.proofs.Strikes.{single-zero, strike-no, lone-other, lone-many}
@@ -71,8 +71,8 @@ lone-out q x h z = go (singleOf x) refl
     go false s = lone-many q x s
 
 -- the set s has every qubit that is a column by itself
-abbrev pub Named : ℕ → List ℕ → Type 0
-Named s xs = (q : ℕ) → q < 20 → has s q ≡ false → Without q xs
+abbrev pub Shows : ℕ → List ℕ → Type 0
+Shows s xs = (q : ℕ) → q < 20 → has s q ≡ false → Without q xs
 
 out-singles : (q : ℕ) → q < 32 → (xs : List ℕ) → bit (singlesOf xs) q ≡ 0 → Without q xs
 out-singles q h [] z k = lone-many q 0 single-zero
@@ -85,13 +85,13 @@ out-singles q h (x ∷ xs) z k = go k (out-singles q h xs)
     go zero rest = lone-out q x h (omega (arith, either))
     go (suc k) rest = rest (omega (arith, either)) k
 
-pub singles-named : (s : ℕ) (xs : List ℕ) → s ≡ singlesOf xs → Named s xs
+pub singles-named : (s : ℕ) (xs : List ℕ) → s ≡ singlesOf xs → Shows s xs
 singles-named s xs e q h n = out-singles q (omega arith) xs (ap (λ (t : ℕ). bit t q) (sym e) ∙ has-false s q n)
 
 -- ---- a qubit that is no column by itself is passed over
 
-then-idle : (xs : List ℕ) (k : List ℕ → Piece) → andThen (idle xs) k ≡ k xs
-unfolding andThen
+then-idle : (xs : List ℕ) (k : List ℕ → Piece) → followedBy (idle xs) k ≡ k xs
+unfolding followedBy
 then-idle xs k = refl
 
 module _ (angles xs : List ℕ) where
@@ -99,21 +99,21 @@ module _ (angles xs : List ℕ) where
   unfolding strikeRow
   row-idle zero k q w = refl
   row-idle (suc d) k q w =
-      ap (λ (p : Piece). andThen p (λ ys. strikeRow d (k + 1) q angles ys)) (strike-no q angles k xs (w k))
+      ap (λ (p : Piece). followedBy p (λ ys. strikeRow d (k + 1) q angles ys)) (strike-no q angles k xs (w k))
       ∙ then-idle xs (λ ys. strikeRow d (k + 1) q angles ys) ∙ row-idle d (k + 1) q w
 
   from-idle : (d q : ℕ) → ((r : ℕ) → r < q + d → Without r xs) → strikeFrom d q angles xs ≡ idle xs
   unfolding strikeFrom
   from-idle zero q w = refl
   from-idle (suc d) q w =
-      ap (λ (p : Piece). andThen p (λ ys. strikeFrom d (q + 1) angles ys)) (row-idle (length xs) 0 q (w q (omega arith)))
+      ap (λ (p : Piece). followedBy p (λ ys. strikeFrom d (q + 1) angles ys)) (row-idle (length xs) 0 q (w q (omega arith)))
       ∙ then-idle xs (λ ys. strikeFrom d (q + 1) angles ys) ∙ from-idle d (q + 1) (λ r h. w r (omega arith))
 
   pub off-idle : ((q : ℕ) → q < 20 → Without q xs) → strikeOff angles xs ≡ idle xs
   unfolding strikeOff
   off-idle w = from-idle 20 0 w
 
-module _ (angles xs out : List ℕ) (at s : ℕ) (n : Named s xs) where
+module _ (angles xs out : List ℕ) (at s : ℕ) (n : Shows s xs) where
   pub row-passed : (q : ℕ) → q < 20 → has s q ≡ false → held xs out at ≡ wrote out at (strikeRow (length xs) 0 q angles xs)
   row-passed q h e = wrote-none out at xs ∙ ap (wrote out at) (sym (row-idle angles xs (length xs) 0 q (n q h e)))
 
@@ -141,11 +141,11 @@ module _ (r q : ℕ) (angles : List ℕ) where
       go false = w
 
   row-without : (d k : ℕ) (xs : List ℕ) → Without r xs → Without r (strikeRow d k q angles xs .cols)
-  unfolding strikeRow andThen
+  unfolding strikeRow followedBy
   row-without zero k xs w = w
   row-without (suc d) k xs w = row-without d (k + 1) (strikeOne q angles k xs .cols) (one-without k xs w)
 
-pub named-still : (q : ℕ) (angles xs out : List ℕ) (at s : ℕ) {ys o : List ℕ} {a : ℕ} → Named s xs → held ys o a ≡ wrote out at (strikeRow (length xs) 0 q angles xs) → Named s ys
+pub named-still : (q : ℕ) (angles xs out : List ℕ) (at s : ℕ) {ys o : List ℕ} {a : ℕ} → Shows s xs → held ys o a ≡ wrote out at (strikeRow (length xs) 0 q angles xs) → Shows s ys
 unfolding wrote
 named-still q angles xs out at s n e r h m =
     subst (Without r) (sym (ap (λ (w : Memory). w .cols) e)) (row-without r q angles (length xs) 0 xs (n r h m))

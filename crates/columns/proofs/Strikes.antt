@@ -12,7 +12,7 @@ use Rattle.sets.specs.Size.{singleOf, lowestOf}
 use Rattle.sets.proofs.Ones.{ones-of-zero}
 use Rattle.gates.specs.declared.gate.Gate.the-variants.{Rotation}
 use Rattle.emitting.specs.Emit.{emit, emitAt}
-use Rattle.columns.specs.Pieces.{piece, idle, andThen, held, wrote}
+use Rattle.columns.specs.Pieces.{piece, idle, followedBy, held, wrote}
 use Rattle.columns.specs.Striking.{loneAt, strikeOne, strikeRow, strikeFrom}
 use Rattle.columns.proofs.Piecing.{wrote-none, wrote-on, held-is}
 use Rattle.sets.proofs.Finding.{sub-suc}
@@ -68,7 +68,7 @@ nsub-suc : (n i : ℕ) → n ≤ i → n - i ≡ 0
 nsub-suc n i h = omega arith
 
 module _ (q : ℕ) (angles : List ℕ) where
-  row-step : (d k : ℕ) (xs : List ℕ) → strikeRow (suc d) k q angles xs ≡ andThen (strikeOne q angles k xs) (λ ys. strikeRow d (k + 1) q angles ys)
+  row-step : (d k : ℕ) (xs : List ℕ) → strikeRow (suc d) k q angles xs ≡ followedBy (strikeOne q angles k xs) (λ ys. strikeRow d (k + 1) q angles ys)
   unfolding strikeRow
   row-step d k xs = refl
 
@@ -83,7 +83,7 @@ module _ (q : ℕ) (angles : List ℕ) where
   row-end n k xs out at h = wrote-none out at xs ∙ ap (λ (d : ℕ). wrote out at (strikeRow d k q angles xs)) (sym (nsub-suc n k h))
 
 module _ (angles : List ℕ) where
-  pub from-step : (d q : ℕ) (xs : List ℕ) → strikeFrom (suc d) q angles xs ≡ andThen (strikeRow (length xs) 0 q angles xs) (λ ys. strikeFrom d (q + 1) angles ys)
+  pub from-step : (d q : ℕ) (xs : List ℕ) → strikeFrom (suc d) q angles xs ≡ followedBy (strikeRow (length xs) 0 q angles xs) (λ ys. strikeFrom d (q + 1) angles ys)
   unfolding strikeFrom
   from-step d q xs = refl
 

@@ -16,7 +16,7 @@ use Rattle.sets.specs.Size.{singleOf, lowestOf}
 use Rattle.sets.proofs.Bits.{bit-pow-same}
 use Rattle.sets.proofs.Words.{single-is}
 use Rattle.tallies.specs.Tally.{cnotsOf}
-use Rattle.columns.specs.Pieces.{Piece, idle, andThen}
+use Rattle.columns.specs.Pieces.{Piece, idle, followedBy}
 use Rattle.columns.specs.Striking.{loneAt, strikeOne, strikeRow, strikeFrom, strikeOff}
 use Rattle.columns.specs.Terms.{Laying}
 use Rattle.columns.proofs.Layings.{laying-none, laying-then, laying-strike}
@@ -35,10 +35,10 @@ lone-single q x e = go (singleOf x) (eqb (lowestOf x) q) refl refl e
     go false c s t h = absurd (never h refl)
 
 -- every column of one qubit is one of Q
-abbrev pub Fit : ℕ → List ℕ → Type 0
-Fit Q xs = (k : ℕ) → singleOf (getD xs k 0) ≡ true → (getD xs k 0 ≡ 2 ^ lowestOf (getD xs k 0)) × In (lowestOf (getD xs k 0)) Q × (lowestOf (getD xs k 0) < 20)
+abbrev pub SinglesIn : ℕ → List ℕ → Type 0
+SinglesIn Q xs = (k : ℕ) → singleOf (getD xs k 0) ≡ true → (getD xs k 0 ≡ 2 ^ lowestOf (getD xs k 0)) × In (lowestOf (getD xs k 0)) Q × (lowestOf (getD xs k 0) < 20)
 
-pub fit-of : (Q : ℕ) (xs : List ℕ) → Q < 2 ^ 20 → ((k : ℕ) → singleOf (getD xs k 0) ≡ true → Sub (getD xs k 0) Q) → Fit Q xs
+pub fit-of : (Q : ℕ) (xs : List ℕ) → Q < 2 ^ 20 → ((k : ℕ) → singleOf (getD xs k 0) ≡ true → Sub (getD xs k 0) Q) → SinglesIn Q xs
 fit-of Q xs low f k e =
     let x : ℕ = getD xs k 0 in
     let s = single-is 20 x (omega arith) (sub-below 20 x Q (f k e) low) e in
@@ -62,8 +62,8 @@ module _ (near : List ℕ) (Q : ℕ) (angles : List ℕ) where
       go (inl e) = e ∙ z
       go (inr h) = h .1
 
-  strikes-then : (xs : List ℕ) (p : Piece) (k : List ℕ → Piece) → Strikes xs p → Strikes (p .cols) (k (p .cols)) → Strikes xs (andThen p k)
-  unfolding andThen
+  strikes-then : (xs : List ℕ) (p : Piece) (k : List ℕ → Piece) → Strikes xs p → Strikes (p .cols) (k (p .cols)) → Strikes xs (followedBy p k)
+  unfolding followedBy
   strikes-then xs p k a b =
       record {
         lays = laying-then near Q angles (a .lays) (b .lays);
@@ -79,7 +79,7 @@ module _ (near : List ℕ) (Q : ℕ) (angles : List ℕ) where
       both-ways j (inr e) (inl f) = inr (e .0, f ∙ e .1)
       both-ways j (inr e) (inr f) = inr (e .0, f .1)
 
-  fit-after : {xs : List ℕ} {p : Piece} → Strikes xs p → Fit Q xs → Fit Q (p .cols)
+  fit-after : {xs : List ℕ} {p : Piece} → Strikes xs p → SinglesIn Q xs → SinglesIn Q (p .cols)
   fit-after {xs} {p} s f k e = go (s .each k)
     where
       go : (getD (p .cols) k 0 ≡ getD xs k 0) ⊎ ((singleOf (getD xs k 0) ≡ true) × (getD (p .cols) k 0 ≡ 0))
@@ -89,7 +89,7 @@ module _ (near : List ℕ) (Q : ℕ) (angles : List ℕ) where
 
   -- ---- one column
 
-  strikes-one : (q k : ℕ) (xs : List ℕ) → Fit Q xs → Strikes xs (strikeOne q angles k xs)
+  strikes-one : (q k : ℕ) (xs : List ℕ) → SinglesIn Q xs → Strikes xs (strikeOne q angles k xs)
   strikes-one q k xs f = go (loneAt q (getD xs k 0)) refl
     where
       go : (b : Bool) → loneAt q (getD xs k 0) ≡ b → Strikes xs (strikeOne q angles k xs)
@@ -129,7 +129,7 @@ module _ (near : List ℕ) (Q : ℕ) (angles : List ℕ) where
 
   -- ---- a row of columns
 
-  row-step : (d k q : ℕ) (xs : List ℕ) → strikeRow (suc d) k q angles xs ≡ andThen (strikeOne q angles k xs) (λ ys. strikeRow d (k + 1) q angles ys)
+  row-step : (d k q : ℕ) (xs : List ℕ) → strikeRow (suc d) k q angles xs ≡ followedBy (strikeOne q angles k xs) (λ ys. strikeRow d (k + 1) q angles ys)
   unfolding strikeRow
   row-step d k q xs = refl
 
@@ -137,15 +137,15 @@ module _ (near : List ℕ) (Q : ℕ) (angles : List ℕ) where
   unfolding strikeRow
   row-zero k q xs = refl
 
-  strikes-row : (d k q : ℕ) (xs : List ℕ) → Fit Q xs → Strikes xs (strikeRow d k q angles xs)
+  strikes-row : (d k q : ℕ) (xs : List ℕ) → SinglesIn Q xs → Strikes xs (strikeRow d k q angles xs)
   strikes-row zero k q xs f = subst (Strikes xs) (sym (row-zero k q xs)) (strikes-idle xs)
   strikes-row (suc d) k q xs f =
       let a = strikes-one q k xs f in
       subst (Strikes xs) (sym (row-step d k q xs))
       (strikes-then xs (strikeOne q angles k xs) (λ ys. strikeRow d (k + 1) q angles ys) a (strikes-row d (k + 1) q (strikeOne q angles k xs .cols) (fit-after a f)))
 
-  row-gone : (d k q : ℕ) (xs : List ℕ) → Fit Q xs → (j : ℕ) → k ≤ j → j < k + d → loneAt q (getD xs j 0) ≡ true → getD (strikeRow d k q angles xs .cols) j 0 ≡ 0
-  unfolding andThen
+  row-gone : (d k q : ℕ) (xs : List ℕ) → SinglesIn Q xs → (j : ℕ) → k ≤ j → j < k + d → loneAt q (getD xs j 0) ≡ true → getD (strikeRow d k q angles xs .cols) j 0 ≡ 0
+  unfolding followedBy
   row-gone zero k q xs f j l h e = absurd (omega arith)
   row-gone (suc d) k q xs f j l h e =
       ap (λ (p : Piece). getD (p .cols) j 0) (row-step d k q xs)
@@ -169,15 +169,15 @@ module _ (near : List ℕ) (Q : ℕ) (angles : List ℕ) where
   unfolding strikeFrom
   from-zero q xs = refl
 
-  strikes-from : (d q : ℕ) (xs : List ℕ) → Fit Q xs → Strikes xs (strikeFrom d q angles xs)
+  strikes-from : (d q : ℕ) (xs : List ℕ) → SinglesIn Q xs → Strikes xs (strikeFrom d q angles xs)
   strikes-from zero q xs f = subst (Strikes xs) (sym (from-zero q xs)) (strikes-idle xs)
   strikes-from (suc d) q xs f =
       let a = strikes-row (length xs) 0 q xs f in
       subst (Strikes xs) (sym (from-step angles d q xs))
       (strikes-then xs (strikeRow (length xs) 0 q angles xs) (λ ys. strikeFrom d (q + 1) angles ys) a (strikes-from d (q + 1) (strikeRow (length xs) 0 q angles xs .cols) (fit-after a f)))
 
-  from-gone : (d q : ℕ) (xs : List ℕ) → Fit Q xs → (j : ℕ) → singleOf (getD xs j 0) ≡ true → q ≤ lowestOf (getD xs j 0) → lowestOf (getD xs j 0) < q + d → getD (strikeFrom d q angles xs .cols) j 0 ≡ 0
-  unfolding andThen
+  from-gone : (d q : ℕ) (xs : List ℕ) → SinglesIn Q xs → (j : ℕ) → singleOf (getD xs j 0) ≡ true → q ≤ lowestOf (getD xs j 0) → lowestOf (getD xs j 0) < q + d → getD (strikeFrom d q angles xs .cols) j 0 ≡ 0
+  unfolding followedBy
   from-gone zero q xs f j s l h = absurd (omega arith)
   from-gone (suc d) q xs f j s l h =
       ap (λ (p : Piece). getD (p .cols) j 0) (from-step angles d q xs)
@@ -204,15 +204,15 @@ module _ (near : List ℕ) (Q : ℕ) (angles : List ℕ) where
 
   -- ---- what striking off comes to
 
-  pub strikes-off : (xs : List ℕ) → Fit Q xs → Strikes xs (strikeOff angles xs)
+  pub strikes-off : (xs : List ℕ) → SinglesIn Q xs → Strikes xs (strikeOff angles xs)
   unfolding strikeOff
   strikes-off xs f = strikes-from 20 0 xs f
 
-  pub off-single : (xs : List ℕ) → Fit Q xs → (k : ℕ) → singleOf (getD xs k 0) ≡ true → getD (strikeOff angles xs .cols) k 0 ≡ 0
+  pub off-single : (xs : List ℕ) → SinglesIn Q xs → (k : ℕ) → singleOf (getD xs k 0) ≡ true → getD (strikeOff angles xs .cols) k 0 ≡ 0
   unfolding strikeOff
   off-single xs f k s = from-gone 20 0 xs f k s (omega arith) (omega (arith, f k s .2))
 
-  pub off-other : (xs : List ℕ) → Fit Q xs → (k : ℕ) → singleOf (getD xs k 0) ≡ false → getD (strikeOff angles xs .cols) k 0 ≡ getD xs k 0
+  pub off-other : (xs : List ℕ) → SinglesIn Q xs → (k : ℕ) → singleOf (getD xs k 0) ≡ false → getD (strikeOff angles xs .cols) k 0 ≡ getD xs k 0
   off-other xs f k e = go (strikes-off xs f .each k)
     where
       go : (getD (strikeOff angles xs .cols) k 0 ≡ getD xs k 0) ⊎ ((singleOf (getD xs k 0) ≡ true) × (getD (strikeOff angles xs .cols) k 0 ≡ 0)) → getD (strikeOff angles xs .cols) k 0 ≡ getD xs k 0

@@ -7,62 +7,53 @@ use native.Mathlib.Omega.{arith}
 use lib.Bits.{bitXor, xor-zero-r}
 use lib.ListN.{length, getD, set, length-map, length-set, List·getD-map}
 use lib.Seq.{ext-getD, getD-set-other}
-use Rattle.sets.specs.Bit.{bit, has, when}
+use Rattle.sets.specs.Bit.{has, when}
 use Rattle.sets.specs.Size.{onlyOf}
 use Rattle.sets.specs.Columns.{turn}
-use Rattle.sets.proofs.Bits.{bit-of-zero}
-use Rattle.sets.proofs.Words.{only-is, has-true, has-false}
+use Rattle.sets.proofs.Words.{has-true, has-false}
+use Rattle.sets.proofs.Turn.{turn-none}
 use Rattle.gates.specs.declared.gate.Gate.the-variants.{Cnot}
 use Rattle.emitting.specs.Emit.{emit, emitAt}
 use Rattle.columns.specs.Pieces.{piece, held, wrote}
-use Rattle.columns.specs.Turning.{turnedBy, turnAll, layCnot}
-use Rattle.columns.proofs.Tabling.{Filled, filled-next}
+use Rattle.columns.specs.Turning.{turnAll, layCnot}
+use Rattle.sets.proofs.Tabling.{Filled, filled-next}
 use Rattle.columns.proofs.Piecing.{held-is}
 
 -- ---- one column
 
-pub turned-yes : (c t x y : ℕ) → has x t ≡ true → y ≡ onlyOf c → bitXor x y ≡ turnedBy c t x
-unfolding turnedBy
+pub turned-yes : (c t x y : ℕ) → has x t ≡ true → y ≡ onlyOf c → bitXor x y ≡ turn c t x
+unfolding turn
 turned-yes c t x y h e = ap (bitXor x) e ∙ ap (λ (b : ℕ). bitXor x (when b (onlyOf c))) (sym (has-true x t h))
 
-pub turned-no : (c t x : ℕ) → has x t ≡ false → x ≡ turnedBy c t x
-unfolding turnedBy
+pub turned-no : (c t x : ℕ) → has x t ≡ false → x ≡ turn c t x
+unfolding turn
 turned-no c t x h = sym (ap (λ (b : ℕ). bitXor x (when b (onlyOf c))) (has-false x t h) ∙ xor-zero-r x)
-
-pub turned-zero : (c t : ℕ) → turnedBy c t 0 ≡ 0
-unfolding turnedBy
-turned-zero c t = ap (λ (b : ℕ). bitXor 0 (when b (onlyOf c))) (bit-of-zero t) ∙ xor-zero-r 0
-
--- for qubits of a job it is sets' `turn`
-pub turned-is : (c t x : ℕ) → c < 32 → turnedBy c t x ≡ turn x c t
-unfolding turnedBy turn
-turned-is c t x h = ap (λ (w : ℕ). bitXor x (when (bit x t) w)) (only-is c h)
 
 -- ---- all columns
 
 pub turn-all-length : (c t : ℕ) (xs : List ℕ) → length (turnAll c t xs) ≡ length xs
 unfolding turnAll
-turn-all-length c t xs = length-map xs (turnedBy c t)
+turn-all-length c t xs = length-map xs (turn c t)
 
-pub turn-all-at : (c t : ℕ) (xs : List ℕ) (k : ℕ) → getD (turnAll c t xs) k 0 ≡ turnedBy c t (getD xs k 0)
+pub turn-all-at : (c t : ℕ) (xs : List ℕ) (k : ℕ) → getD (turnAll c t xs) k 0 ≡ turn c t (getD xs k 0)
 unfolding turnAll
-turn-all-at c t xs k = ap (getD (map (turnedBy c t) xs) k) (sym (turned-zero c t)) ∙ List·getD-map (turnedBy c t) xs k 0
+turn-all-at c t xs k = ap (getD (map (turn c t) xs) k) (sym (turn-none c t)) ∙ List·getD-map (turn c t) xs k 0
 
 -- the loop: the first k are turned, and the rest stand as they did
 pub record Turned (c t : ℕ) (xs : List ℕ) (k : ℕ) (ys : List ℕ) : Type 0 where
   pub size : length ys ≡ length xs
-  pub done : Filled 0 (λ j. turnedBy c t (getD xs j 0)) k ys
+  pub done : Filled 0 (λ j. turn c t (getD xs j 0)) k ys
   pub rest : (j : ℕ) → k ≤ j → getD ys j 0 ≡ getD xs j 0
 
 module _ (c t : ℕ) (xs : List ℕ) where
   pub turned-none : Turned c t xs 0 xs
   turned-none = record { size = refl; done = λ k (l : k < 0). absurd (omega arith); rest = λ j l. refl }
 
-  pub turned-next : (k : ℕ) (ys : List ℕ) (y : ℕ) → k < length xs → y ≡ turnedBy c t (getD ys k 0) → Turned c t xs k ys → Turned c t xs (k + 1) (set ys k y)
+  pub turned-next : (k : ℕ) (ys : List ℕ) (y : ℕ) → k < length xs → y ≡ turn c t (getD ys k 0) → Turned c t xs k ys → Turned c t xs (k + 1) (set ys k y)
   turned-next k ys y l e r =
       record {
         size = length-set ys k y ∙ r .size;
-        done = filled-next 0 (λ j. turnedBy c t (getD xs j 0)) k ys y (omega (arith, r .size)) (e ∙ ap (turnedBy c t) (r .rest k (omega arith))) (r .done);
+        done = filled-next 0 (λ j. turn c t (getD xs j 0)) k ys y (omega (arith, r .size)) (e ∙ ap (turn c t) (r .rest k (omega arith))) (r .done);
         rest = λ j (h : k + 1 ≤ j). getD-set-other ys k j y 0 (λ (d : j ≡ k). omega arith) ∙ r .rest j (omega arith);
       }
 

@@ -1,4 +1,3 @@
-pub mod Tables
 pub mod Pieces
 pub mod Turning
 pub mod Striking

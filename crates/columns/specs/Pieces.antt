@@ -17,8 +17,8 @@ abbrev pub idle : List ℕ → Piece
 idle xs = piece xs []
 
 -- p, and from its columns on what k lays
-unfoldable pub andThen : Piece → (List ℕ → Piece) → Piece
-andThen p k = piece (k (p .cols) .cols) (p .laid ++ k (p .cols) .laid)
+unfoldable pub followedBy : Piece → (List ℕ → Piece) → Piece
+followedBy p k = piece (k (p .cols) .cols) (p .laid ++ k (p .cols) .laid)
 
 -- the lent memory behind a piece: columns, records, the next place
 pub record Memory : Type 0 where

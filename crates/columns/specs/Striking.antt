@@ -9,7 +9,7 @@ use Rattle.sets.specs.Pick.{pick, both}
 use Rattle.sets.specs.Size.{singleOf, lowestOf}
 use Rattle.gates.specs.Limits.{mostQubits}
 use Rattle.gates.specs.declared.gate.Gate.the-variants.{Rotation}
-use Rattle.columns.specs.Pieces.{Piece, piece, idle, andThen}
+use Rattle.columns.specs.Pieces.{Piece, piece, idle, followedBy}
 
 -- the column x is the qubit q alone
 unfoldable pub loneAt : ℕ → ℕ → Bool
@@ -23,12 +23,12 @@ strikeOne q angles k xs =
 -- of d columns from k on, those that are q alone
 unfoldable pub strikeRow : ℕ → ℕ → ℕ → List ℕ → List ℕ → Piece
 strikeRow zero k q angles xs = idle xs
-strikeRow (suc d) k q angles xs = andThen (strikeOne q angles k xs) (λ ys. strikeRow d (k + 1) q angles ys)
+strikeRow (suc d) k q angles xs = followedBy (strikeOne q angles k xs) (λ ys. strikeRow d (k + 1) q angles ys)
 
 -- for d qubits from q on, "lowest qubit first", in all columns
 unfoldable pub strikeFrom : ℕ → ℕ → List ℕ → List ℕ → Piece
 strikeFrom zero q angles xs = idle xs
-strikeFrom (suc d) q angles xs = andThen (strikeRow (length xs) 0 q angles xs) (λ ys. strikeFrom d (q + 1) angles ys)
+strikeFrom (suc d) q angles xs = followedBy (strikeRow (length xs) 0 q angles xs) (λ ys. strikeFrom d (q + 1) angles ys)
 
 unfoldable pub strikeOff : List ℕ → List ℕ → Piece
 strikeOff angles xs = strikeFrom mostQubits 0 angles xs

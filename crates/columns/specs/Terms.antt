@@ -1,6 +1,5 @@
 -- What any way of laying an island's terms has to meet; laying uses nothing else about a way.
 use mathlib.Core.Path.{_≡_}
-use mathlib.Core.Logic.{_≢_}
 use mathlib.Core.List.{List}
 use Prim.Native.Nat.{ℕ, zero, suc, _+_, _-_, _*_, _^_, _≤_, _<_}
 use lib.Dec.{eqb}
@@ -12,10 +11,11 @@ use Rattle.sets.specs.Columns.{comb}
 use Rattle.gates.specs.declared.gate.Gate.{Gate}
 use Rattle.gates.specs.declared.gate.Gate.the-variants.{Cnot, Rotation, X, Bad}
 use Rattle.circuit.specs.Circuit.{run, given}
-use Rattle.gates.specs.All.{All}
+use Rattle.sets.specs.Lists.{All}
 use Rattle.tallies.specs.Tally.{cnotsOf, rotationsOf}
-use Rattle.chip.specs.Graph.{Near}
-use Rattle.columns.specs.Tables.{sumTo}
+use Rattle.chip.specs.Inside.{Inside}
+use Rattle.sets.specs.Tables.{sumTo}
+use Rattle.gates.specs.Limits.{mostQubits}
 
 -- "Wire i starts with parity 2^i", of the wires of Q
 abbrev pub Bears : ℕ → List ℕ → Type 0
@@ -24,13 +24,6 @@ Bears Q W = (i : ℕ) → In i Q → getD W i 0 ≡ 2 ^ i
 -- the sum that parity p is to get: the angles of the terms whose parity it is
 unfoldable pub totalOf : ℕ → List ℕ → List ℕ → ℕ
 totalOf p ps angles = sumTo (length ps) (λ k. pick (eqb (getD ps k 0) p) (getD angles k 0) 0)
-
--- a gate on Q; a CNOT on a coupler inside Q
-unfoldable pub Inside : List ℕ → ℕ → Gate → Type 0
-Inside near Q (Cnot c t) = Near near c t × In c Q × In t Q × (c ≢ t)
-Inside near Q (Rotation q a) = In q Q
-Inside near Q (X q) = ⊥
-Inside near Q Bad = ⊥
 
 -- "0 to 65,535"
 unfoldable pub Small : Gate → Type 0
@@ -41,7 +34,7 @@ Small Bad = Unit {0}
 
 -- the gates `laid` lay the terms of parities ps and angles `angles` on the set Q of a chip's qubits (documents 01 and 000: demand 2, for one island)
 pub record LaysTerms (near : List ℕ) (Q : ℕ) (ps angles : List ℕ) (laid : List Gate) : Type 0 where
-  pub sums : (W : List ℕ) → length W ≡ 20 → Bears Q W → (p : ℕ) → given p laid W ≡ totalOf p ps angles
+  pub sums : (W : List ℕ) → length W ≡ mostQubits → Bears Q W → (p : ℕ) → given p laid W ≡ totalOf p ps angles
   pub inside : All (Inside near Q) laid
   pub small : ((k : ℕ) → getD angles k 0 < 65536) → All Small laid
   pub rotations : rotationsOf laid ≡ length ps
@@ -70,7 +63,7 @@ live xs = sumTo (length xs) (λ k. liveOne (getD xs k 0))
 -- the gates g take the columns from xs to ys, and give what they take from what is due
 pub record Laying (near : List ℕ) (Q : ℕ) (angles xs : List ℕ) (g : List Gate) (ys : List ℕ) : Type 0 where
   pub size : length ys ≡ length xs
-  pub sums : (W : List ℕ) → length W ≡ 20 → (p : ℕ) → given p g W + left p (run g W) angles ys ≡ left p W angles xs
+  pub sums : (W : List ℕ) → length W ≡ mostQubits → (p : ℕ) → given p g W + left p (run g W) angles ys ≡ left p W angles xs
   pub inside : All (Inside near Q) g
   pub small : ((k : ℕ) → k < length xs → getD angles k 0 < 65536) → All Small g
   pub rotations : rotationsOf g + live ys ≡ live xs

@@ -1,18 +1,12 @@
 -- "A laid CNOT adds the target's row to the control's row in all columns not yet struck off" (document 01, "Steps from document 000"). A column struck off is 0, and stays 0.
 use mathlib.Core.List.{List, [], _∷_, map}
 use Prim.Native.Nat.{ℕ}
-use lib.Bits.{bitXor}
-use Rattle.sets.specs.Bit.{bit, when}
-use Rattle.sets.specs.Size.{onlyOf}
+use Rattle.sets.specs.Columns.{turn}
 use Rattle.gates.specs.declared.gate.Gate.the-variants.{Cnot}
 use Rattle.columns.specs.Pieces.{Piece, piece}
 
--- one column after CNOT c,t, as a number of 32 digits: sets' `turn` for qubits below 32
-unfoldable pub turnedBy : ℕ → ℕ → ℕ → ℕ
-turnedBy c t x = bitXor x (when (bit x t) (onlyOf c))
-
 unfoldable pub turnAll : ℕ → ℕ → List ℕ → List ℕ
-turnAll c t xs = map (turnedBy c t) xs
+turnAll c t xs = map (turn c t) xs
 
 -- a CNOT is laid
 unfoldable pub layCnot : ℕ → ℕ → List ℕ → Piece

@@ -3,8 +3,9 @@ use emitting::emit;
 ghost use mathlib.Core.Path.{_≡_};
 ghost use Prim.Native.Nat.{min};
 ghost use lib.ListN.{getD};
+ghost use Rattle.sets.specs.Columns.{turn};
 ghost use Rattle.columns.specs.Pieces.{held, wrote};
-ghost use Rattle.columns.specs.Turning.{turnedBy, turnAll, layCnot};
+ghost use Rattle.columns.specs.Turning.{turnAll, layCnot};
 
 // What stands at k; 0 past the end.
 pub fn entry(xs: &[u32], k: usize) -> u32
@@ -21,7 +22,7 @@ pub fn at_most(n: usize, most: usize) -> usize
 }
 
 pub fn turned(x: u32, control: usize, target: usize) -> u32
-    ensures { λ r. ⌜ r ≡ turnedBy control target x ⌝ }
+    ensures { λ r. ⌜ r ≡ turn control target x ⌝ }
 {
     if sets::holds(x, target) {
         x ^ sets::only(control)

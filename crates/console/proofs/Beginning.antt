@@ -16,25 +16,25 @@ use Rattle.chip.specs.Ordered.{orderedList}
 use Rattle.stretches.specs.Tests.{judgedStretches}
 use Rattle.lines.specs.Lines.{textOf}
 use Rattle.reading.specs.Parsing.{parsed}
-use Rattle.reading.specs.Readings.{couplersIn, gatesIn, jobIn, readJob, judgedReading, readingOf, listAfter}
+use Rattle.reading.specs.Readings.{couplersIn, gatesIn, jobIn, readJob, judgedReading, readingOf, readVerdict, lentAfter}
 use Rattle.reading.specs.declared.read.Reading.{Reading}
 use Rattle.reading.specs.declared.read.Reading.the-variants.{Read, Refused}
 use Rattle.reading.proofs.Said.{read-says}
-use Rattle.console.specs.Printed.{mostCouplerLines, mostGateLines, Prints, refusalOf}
-use Rattle.console.specs.Parts.{headJob, headText, firstPart, firstOfText, Begins}
+use Rattle.console.specs.Printed.{mostCouplerLines, mostGateLines, mostPrinted, Prints, refusalOf}
+use Rattle.console.specs.Parts.{frontJob, frontText, firstPart, firstOfText, Begins}
 use Rattle.console.specs.declared.printing.Begun.{Begun}
 use Rattle.console.proofs.Choosing.{unless-passed, unless-refused, prints-same}
 use Rattle.console.proofs.Fronts.{front-fits}
 use Rattle.console.proofs.Reading.{couplers-counted, gates-counted, the-job, passed, the-couplers, the-gates, text-read, text-unread, none-read}
 
 module _ (n : ℕ) (xs ys : List ℕ) where
-  pub head-refused : (v : Verdict) → v ≡ judgedStretches n xs ys → (numberOf (judgedStretches n xs ys) ≡ 0 → ⊥) → refusalOf v ≡ headJob n xs ys
-  unfolding headJob
-  head-refused v e ne = ap refusalOf e ∙ unless-refused (judgedStretches n xs ys) _ ne
+  pub front-refused : (v : Verdict) → v ≡ judgedStretches n xs ys → (numberOf (judgedStretches n xs ys) ≡ 0 → ⊥) → refusalOf v ≡ frontJob n xs ys
+  unfolding frontJob
+  front-refused v e ne = ap refusalOf e ∙ unless-refused (judgedStretches n xs ys) _ ne
 
-  pub head-passed : numberOf (judgedStretches n xs ys) ≡ 0 → textOf n (orderedList (nearOf n xs)) [] ≡ headJob n xs ys
-  unfolding headJob
-  head-passed z = unless-passed (judgedStretches n xs ys) _ z
+  pub front-passed : numberOf (judgedStretches n xs ys) ≡ 0 → textOf n (orderedList (nearOf n xs)) [] ≡ frontJob n xs ys
+  unfolding frontJob
+  front-passed z = unless-passed (judgedStretches n xs ys) _ z
 
   pub first-refused : (numberOf (judgedStretches n xs ys) ≡ 0 → ⊥) → length ys + 1 ≡ firstPart n xs ys
   unfolding firstPart
@@ -47,21 +47,21 @@ module _ (n : ℕ) (xs ys : List ℕ) where
 -- ---- a text
 
 module _ (s cs₀ gs₀ cs gs : List ℕ) (lc : length cs₀ ≡ mostCouplerLines) (lg : length gs₀ ≡ mostGateLines) (r : Reading)
-    (e : r ≡ readingOf s (length cs₀) (length gs₀)) (f : cs ≡ listAfter r (couplersIn (parsed s)) cs₀) (g : gs ≡ listAfter r (gatesIn (parsed s)) gs₀) (out out′ : List ℕ) (bytes from : ℕ) where
+    (e : r ≡ readingOf s (length cs₀) (length gs₀)) (f : cs ≡ lentAfter (readVerdict r) (couplersIn (parsed s)) cs₀) (g : gs ≡ lentAfter (readVerdict r) (gatesIn (parsed s)) gs₀) (out out′ : List ℕ) (bytes from : ℕ) where
   reading : r ≡ readingOf s mostCouplerLines mostGateLines
   reading = e ∙ ap₂ (readingOf s) lc lg
 
-  couplers-are : cs ≡ listAfter (readingOf s mostCouplerLines mostGateLines) (couplersIn (parsed s)) cs₀
-  couplers-are = f ∙ ap (λ (x : Reading). listAfter x (couplersIn (parsed s)) cs₀) reading
+  couplers-are : cs ≡ lentAfter (readVerdict (readingOf s mostCouplerLines mostGateLines)) (couplersIn (parsed s)) cs₀
+  couplers-are = f ∙ ap (λ (x : Reading). lentAfter (readVerdict x) (couplersIn (parsed s)) cs₀) reading
 
-  gates-are : gs ≡ listAfter (readingOf s mostCouplerLines mostGateLines) (gatesIn (parsed s)) gs₀
-  gates-are = g ∙ ap (λ (x : Reading). listAfter x (gatesIn (parsed s)) gs₀) reading
+  gates-are : gs ≡ lentAfter (readVerdict (readingOf s mostCouplerLines mostGateLines)) (gatesIn (parsed s)) gs₀
+  gates-are = g ∙ ap (λ (x : Reading). lentAfter (readVerdict x) (gatesIn (parsed s)) gs₀) reading
 
-  pub begun-read : (j : Job) → r ≡ Read j → Prints (headJob (j .qubits) (take (j .couplers) cs) (take (j .gates) gs)) out bytes out′ → from ≡ firstPart (j .qubits) (take (j .couplers) cs) (take (j .gates) gs)
+  pub begun-read : (j : Job) → r ≡ Read j → Prints mostPrinted (frontJob (j .qubits) (take (j .couplers) cs) (take (j .gates) gs)) out bytes out′ → from ≡ firstPart (j .qubits) (take (j .couplers) cs) (take (j .gates) gs)
       → Begins s cs₀ gs₀ out (record { job = j; bytes = bytes; from = from }) cs gs out′
-  unfolding headText firstOfText
+  unfolding frontText firstOfText
   begun-read j d p k = record {
-    prints = prints-same (text-read s cs₀ gs₀ cs gs lc lg r j e d f g headJob) p;
+    prints = prints-same (text-read s cs₀ gs₀ cs gs lc lg r j e d f g frontJob) p;
     job = ap readJob (sym d ∙ reading);
     from = k ∙ ap (λ (i : Job). firstPart (i .qubits) (take (j .couplers) cs) (take (j .gates) gs)) (the-job s cs₀ gs₀ cs gs lc lg r j e d f g)
         ∙ ap₂ (firstPart (jobIn (parsed s) .qubits)) (the-couplers s cs₀ gs₀ cs gs lc lg r j e d f g) (the-gates s cs₀ gs₀ cs gs lc lg r j e d f g)
@@ -71,9 +71,9 @@ module _ (s cs₀ gs₀ cs gs : List ℕ) (lc : length cs₀ ≡ mostCouplerLine
     gates-read = gates-are;
   }
 
-  pub begun-unread : (v : Verdict) → r ≡ Refused v → Prints (refusalOf v) out bytes out′
+  pub begun-unread : (v : Verdict) → r ≡ Refused v → Prints mostPrinted (refusalOf v) out bytes out′
       → Begins s cs₀ gs₀ out (record { job = record { qubits = 0; couplers = 0; gates = 0 }; bytes = bytes; from = 1 }) cs gs out′
-  unfolding headText firstOfText
+  unfolding frontText firstOfText
   begun-unread v d p = record {
     prints = prints-same (text-unread s (length cs₀) (length gs₀) lc lg r v e d _) p;
     job = ap readJob (sym d ∙ reading);
@@ -96,8 +96,8 @@ module _ {s cs gs out cs′ gs′ out′ : List ℕ} {r : Begun} (b : Begins s c
   counted : (w : Reading) → said ≡ w → (r .job .couplers ≤ length cs′) × (r .job .gates ≤ length gs′)
   counted (Read j) e =
       let q : r .job ≡ jobIn (parsed s) = b .job ∙ ap readJob e ∙ read-says s mostCouplerLines mostGateLines j e .1 in (
-        front-fits (couplersIn (parsed s)) cs cs′ (r .job .couplers) (ap (λ (i : Job). i .couplers) q ∙ couplers-counted (parsed s)) (b .couplers-read ∙ ap (λ (x : Reading). listAfter x (couplersIn (parsed s)) cs) e),
-        front-fits (gatesIn (parsed s)) gs gs′ (r .job .gates) (ap (λ (i : Job). i .gates) q ∙ gates-counted (parsed s)) (b .gates-read ∙ ap (λ (x : Reading). listAfter x (gatesIn (parsed s)) gs) e),
+        front-fits (couplersIn (parsed s)) cs cs′ (r .job .couplers) (ap (λ (i : Job). i .couplers) q ∙ couplers-counted (parsed s)) (b .couplers-read ∙ ap (λ (x : Reading). lentAfter (readVerdict x) (couplersIn (parsed s)) cs) e),
+        front-fits (gatesIn (parsed s)) gs gs′ (r .job .gates) (ap (λ (i : Job). i .gates) q ∙ gates-counted (parsed s)) (b .gates-read ∙ ap (λ (x : Reading). lentAfter (readVerdict x) (gatesIn (parsed s)) gs) e),
       )
   counted (Refused v) e =
       let q : r .job ≡ record { qubits = 0; couplers = 0; gates = 0 } = b .job ∙ ap readJob e in

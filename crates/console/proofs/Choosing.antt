@@ -18,5 +18,5 @@ module _ (v : Verdict) (s : List ℕ) where
   unfolding unless
   unless-refused e = sym (ap (λ (t : Bool). pick t s (refusalOf v)) (ne-eqb (numberOf v) 0 e))
 
-pub prints-same : {s t out out′ : List ℕ} {r : ℕ} → s ≡ t → Prints s out r out′ → Prints t out r out′
-prints-same {out = out} {out′ = out′} {r = r} e p = subst (λ (x : List ℕ). Prints x out r out′) e p
+pub prints-same : {room : ℕ} {s t out out′ : List ℕ} {r : ℕ} → s ≡ t → Prints room s out r out′ → Prints room t out r out′
+prints-same {room = room} {out = out} {out′ = out′} {r = r} e p = subst (λ (x : List ℕ). Prints room x out r out′) e p

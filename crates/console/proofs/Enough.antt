@@ -16,7 +16,7 @@ use Rattle.verdicts.specs.Verdicts.{numberOf, placeOf}
 use Rattle.verdicts.proofs.Judged.{no-nine}
 use Rattle.tallies.specs.Tally.{largest}
 use Rattle.judging.specs.Tests.{verdictOf}
-use Rattle.stretches.specs.Cut.{Each}
+use Rattle.sets.specs.Lists.{All}
 use Rattle.stretches.specs.Stretches.{stretchesOf}
 use Rattle.stretches.specs.Tests.{jobBound, judgedStretches}
 use Rattle.stretches.proofs.Passing.{job-passed}
@@ -45,7 +45,7 @@ judging-never-8 n couplers gates e =
     job-never-8 n couplers gates (jobBound n gates) (omega arith) (ap numberOf (judged-enough n couplers gates (jobBound n gates) (omega arith)) ∙ e)
 
 -- and a stretch of a job that passes them is never refused, so that no refusal comes behind the front
-pub part-never-refused : (n : ℕ) (couplers gates : List ℕ) → numberOf (judgedStretches n couplers gates) ≡ 0 → Each (λ s. numberOf (verdictOf n couplers s largest) ≡ 0) (stretchesOf n gates)
+pub part-never-refused : (n : ℕ) (couplers gates : List ℕ) → numberOf (judgedStretches n couplers gates) ≡ 0 → All (λ s. numberOf (verdictOf n couplers s largest) ≡ 0) (stretchesOf n gates)
 part-never-refused n couplers gates z = job-passed n couplers gates z .accepts
 
 -- ---- what is printed

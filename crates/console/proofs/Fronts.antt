@@ -23,7 +23,7 @@ pub front-short : {r : List ℕ} {m : ℕ} (xs : List ℕ) (k : ℕ) → r ≡ t
 front-short {r} {m} xs k e l = omega (arith, ap length e, length-take k xs, l)
 
 -- what was printed can be taken out again
-module _ {s out out′ : List ℕ} {r : ℕ} (p : Prints s out r out′) where
+module _ {room : ℕ} {s out out′ : List ℕ} {r : ℕ} (p : Prints room s out r out′) where
   pub printed-fits : r ≤ length out′
   printed-fits = front-fits s out out′ r (p .bytes) (p .memory)
 

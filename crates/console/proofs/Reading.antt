@@ -8,10 +8,10 @@ use Rattle.verdicts.specs.declared.verdict.Verdict.{Verdict}
 use Rattle.verdicts.specs.Verdicts.{numberOf}
 use Rattle.lines.specs.Lent.{onto}
 use Rattle.reading.specs.Parsing.{Parsed, misfit, job, parsed}
-use Rattle.reading.specs.Readings.{couplersIn, gatesIn, jobIn, judgedReading, readingOf, listAfter}
+use Rattle.reading.specs.Readings.{couplersIn, gatesIn, jobIn, judgedReading, readingOf, readVerdict, lentAfter}
 use Rattle.reading.specs.declared.read.Reading.{Reading}
 use Rattle.reading.specs.declared.read.Reading.the-variants.{Read, Refused}
-use Rattle.reading.proofs.Said.{read-says, refused-says}
+use Rattle.reading.proofs.Said.{read-says, unread-says}
 use Rattle.console.specs.Printed.{mostCouplerLines, mostGateLines, refusalOf, unless}
 use Rattle.console.proofs.Fronts.{front-fits, front-long, front-is}
 use Rattle.console.proofs.Choosing.{unless-passed, unless-refused}
@@ -26,7 +26,7 @@ gates-counted (job n es gs) = refl
 
 -- a text that was read: j, and the lists at the front of cs and gs
 module _ (s cs₀ gs₀ cs gs : List ℕ) (lc : length cs₀ ≡ mostCouplerLines) (lg : length gs₀ ≡ mostGateLines) (r : Reading) (j : Job)
-    (e : r ≡ readingOf s (length cs₀) (length gs₀)) (d : r ≡ Read j) (f : cs ≡ listAfter r (couplersIn (parsed s)) cs₀) (g : gs ≡ listAfter r (gatesIn (parsed s)) gs₀) where
+    (e : r ≡ readingOf s (length cs₀) (length gs₀)) (d : r ≡ Read j) (f : cs ≡ lentAfter (readVerdict r) (couplersIn (parsed s)) cs₀) (g : gs ≡ lentAfter (readVerdict r) (gatesIn (parsed s)) gs₀) where
   both-read : (numberOf (judgedReading s mostCouplerLines mostGateLines) ≡ 0) × (j ≡ jobIn (parsed s))
   both-read = read-says s mostCouplerLines mostGateLines j (sym (ap₂ (readingOf s) lc lg) ∙ sym e ∙ d)
 
@@ -43,19 +43,19 @@ module _ (s cs₀ gs₀ cs gs : List ℕ) (lc : length cs₀ ≡ mostCouplerLine
   gates-count = ap (λ (k : Job). k .gates) the-job ∙ gates-counted (parsed s)
 
   couplers-there : cs ≡ onto (couplersIn (parsed s)) cs₀
-  couplers-there = f ∙ ap (λ (x : Reading). listAfter x (couplersIn (parsed s)) cs₀) d
+  couplers-there = f ∙ ap (λ (x : Reading). lentAfter (readVerdict x) (couplersIn (parsed s)) cs₀) d
 
   gates-there : gs ≡ onto (gatesIn (parsed s)) gs₀
-  gates-there = g ∙ ap (λ (x : Reading). listAfter x (gatesIn (parsed s)) gs₀) d
+  gates-there = g ∙ ap (λ (x : Reading). lentAfter (readVerdict x) (gatesIn (parsed s)) gs₀) d
 
-  pub couplers-fit : j .couplers ≤ length cs
-  couplers-fit = front-fits (couplersIn (parsed s)) cs₀ cs (j .couplers) couplers-count couplers-there
+  pub couplers-within : j .couplers ≤ length cs
+  couplers-within = front-fits (couplersIn (parsed s)) cs₀ cs (j .couplers) couplers-count couplers-there
 
   pub couplers-long : j .couplers ≡ length (take (j .couplers) cs)
   couplers-long = front-long (couplersIn (parsed s)) cs₀ cs (j .couplers) couplers-count couplers-there
 
-  pub gates-fit : j .gates ≤ length gs
-  gates-fit = front-fits (gatesIn (parsed s)) gs₀ gs (j .gates) gates-count gates-there
+  pub gates-within : j .gates ≤ length gs
+  gates-within = front-fits (gatesIn (parsed s)) gs₀ gs (j .gates) gates-count gates-there
 
   pub gates-long : j .gates ≡ length (take (j .gates) gs)
   gates-long = front-long (gatesIn (parsed s)) gs₀ gs (j .gates) gates-count gates-there
@@ -77,7 +77,7 @@ module _ (s cs₀ gs₀ cs gs : List ℕ) (lc : length cs₀ ≡ mostCouplerLine
 -- a text that was refused
 module _ (s : List ℕ) (a b : ℕ) (la : a ≡ mostCouplerLines) (lb : b ≡ mostGateLines) (r : Reading) (v : Verdict) (e : r ≡ readingOf s a b) (d : r ≡ Refused v) where
   no : (numberOf (judgedReading s mostCouplerLines mostGateLines) ≡ 0 → ⊥) × (v ≡ judgedReading s mostCouplerLines mostGateLines)
-  no = refused-says s mostCouplerLines mostGateLines v (sym (ap₂ (readingOf s) la lb) ∙ sym e ∙ d)
+  no = unread-says s mostCouplerLines mostGateLines v (sym (ap₂ (readingOf s) la lb) ∙ sym e ∙ d)
 
   pub text-unread : (text : List ℕ) → refusalOf v ≡ unless (judgedReading s mostCouplerLines mostGateLines) text
   text-unread text = ap refusalOf (no .1) ∙ unless-refused (judgedReading s mostCouplerLines mostGateLines) text (no .0)

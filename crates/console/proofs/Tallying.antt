@@ -19,13 +19,13 @@ use Rattle.tallies.proofs.DepthLaws.{highest-layers}
 use Rattle.tallies.proofs.InParts.{layers-append, after-fits}
 use Rattle.laying.specs.Verdict.{circuitOf}
 use Rattle.laying.proofs.Demands.{demand-2-fits}
-use Rattle.stretches.specs.Cut.{Each}
+use Rattle.sets.specs.Lists.{All}
 use Rattle.stretches.specs.Stretches.{stretchesOf, endAt, stretchAt, restFrom}
 use Rattle.stretches.specs.Tests.{judgedStretches}
 use Rattle.stretches.specs.Asked.{Accepts}
 use Rattle.stretches.specs.Laid.{stretchRecords, jobRecords}
 use Rattle.stretches.specs.Parts.{hadamardAt, partAt, laidFrom}
-use Rattle.stretches.proofs.Eachs.{each-head, each-tail}
+use Rattle.sets.proofs.Lists.{all-head, all-tail}
 use Rattle.stretches.proofs.Going.{rest-start, behind-some, behind-none, end-hadamard}
 use Rattle.stretches.proofs.Judging.{lent-step, lent-within}
 use Rattle.stretches.proofs.Records.{stretch-gates}
@@ -66,26 +66,26 @@ module _ (n : ℕ) (couplers xs : List ℕ) where
   abbrev none : List ℕ
   none = replicate mostQubits 0
 
-  pub record Counting (k c t : ℕ) (L : List ℕ) : Type 0 where
+  pub record CountingStretches (k c t : ℕ) (L : List ℕ) : Type 0 where
     pub within : k ≤ length xs + 1
-    pub accepts : Each (Accepts n couplers) (restFrom n xs k)
+    pub accepts : All (Accepts n couplers) (restFrom n xs k)
     pub cnots : c + cnotsOf (later k) ≡ cnotsOf G
     pub rotations : t + rotationsOf (later k) ≡ rotationsOf G
     pub layers : layersFrom (later k) L ≡ layersFrom G none
-    pub few : (c ≤ 10764 * k) × (t ≤ 10764 * k) × (highest L ≤ 10764 * k)
+    pub few : (c ≤ largest * k) × (t ≤ largest * k) × (highest L ≤ largest * k)
 
-  pub counting-none : Each (Accepts n couplers) (stretchesOf n xs) → (L : List ℕ) → L ≡ none → Counting 0 0 0 L
+  pub counting-none : All (Accepts n couplers) (stretchesOf n xs) → (L : List ℕ) → L ≡ none → CountingStretches 0 0 0 L
   unfolding highest
   counting-none a L e = record {
     within = omega arith;
-    accepts = subst (Each (Accepts n couplers)) (sym (rest-start n xs)) a;
+    accepts = subst (All (Accepts n couplers)) (sym (rest-start n xs)) a;
     cnots = omega (arith, ap (λ (x : List ℕ). cnotsOf (gatesOf n x)) (parts-all n couplers xs));
     rotations = omega (arith, ap (λ (x : List ℕ). rotationsOf (gatesOf n x)) (parts-all n couplers xs));
     layers = ap (λ (x : List ℕ). layersFrom (gatesOf n x) L) (parts-all n couplers xs) ∙ ap (layersFrom G) e;
     few = (omega arith, omega arith, omega (arith, ap highest e));
   }
 
-  pub counting-end : (k c t : ℕ) (L : List ℕ) → length xs < k → Counting k c t L → (c ≡ cnotsOf G) × (t ≡ rotationsOf G) × (highest L ≡ depthOf G)
+  pub counting-end : (k c t : ℕ) (L : List ℕ) → length xs < k → CountingStretches k c t L → (c ≡ cnotsOf G) × (t ≡ rotationsOf G) × (highest L ≡ depthOf G)
   unfolding cnotsOf rotationsOf tally layersFrom depthOf
   counting-end k c t L l r =
       let e : later k ≡ [] = ap (gatesOf n) (parts-none n couplers xs k l) in (
@@ -94,7 +94,7 @@ module _ (n : ℕ) (couplers xs : List ℕ) where
         ap highest (sym (ap (λ (gs : List Gate). layersFrom gs L) e) ∙ r .layers),
       )
 
-  module _ (k c t : ℕ) (L : List ℕ) (r : Counting k c t L) (l : k ≤ length xs) (s : List ℕ) (e : s ≡ stretchAt n xs k) where
+  module _ (k c t : ℕ) (L : List ℕ) (r : CountingStretches k c t L) (l : k ≤ length xs) (s : List ℕ) (e : s ≡ stretchAt n xs k) where
     abbrev next : ℕ
     next = k + length s + 1
 
@@ -104,11 +104,11 @@ module _ (n : ℕ) (couplers xs : List ℕ) where
     abbrev H : List Gate
     H = gatesOf n (hadamardAt n xs k)
 
-    all : Each (Accepts n couplers) (s ∷ restFrom n xs next)
-    all = subst (Each (Accepts n couplers)) (lent-step n xs k s e l) (r .accepts)
+    all : All (Accepts n couplers) (s ∷ restFrom n xs next)
+    all = subst (All (Accepts n couplers)) (lent-step n xs k s e l) (r .accepts)
 
     pub counting-accepts : Accepts n couplers s
-    counting-accepts = each-head (Accepts n couplers) s (restFrom n xs next) all
+    counting-accepts = all-head (Accepts n couplers) s (restFrom n xs next) all
 
     later-step : later k ≡ (S ++ H) ++ later next
     unfolding partAt
@@ -117,7 +117,7 @@ module _ (n : ℕ) (couplers xs : List ℕ) where
         ∙ map-append (gateOf n) (stretchRecords n couplers s ++ hadamardAt n xs k) (laidFrom n couplers xs next)
         ∙ ap (λ (x : List Gate). x ++ later next) (map-append (gateOf n) (stretchRecords n couplers s) (hadamardAt n xs k))
 
-    short : length S ≤ 10764
+    short : length S ≤ largest
     unfolding boundOf
     short = omega (arith, length-map (stretchRecords n couplers s) (gateOf n), length-map (circuitOf n couplers s) recordOf, demand-2-fits n couplers s largest counting-accepts)
 
@@ -142,12 +142,14 @@ module _ (n : ℕ) (couplers xs : List ℕ) where
         same = stretch-gates n couplers s largest counting-accepts
 
         layers-are : L′ ≡ layersFrom S L
+        unfolding boundOf
         layers-are = d ∙ after-fits S L (omega (arith, r .few .2, short, l, most))
 
-        pub counting-next : Counting next c′ t′ L′
+        pub counting-next : CountingStretches next c′ t′ L′
+        unfolding boundOf
         counting-next = record {
           within = omega (arith, lent-within n xs k s e l);
-          accepts = each-tail (Accepts n couplers) s (restFrom n xs next) all;
+          accepts = all-tail (Accepts n couplers) s (restFrom n xs next) all;
           cnots = omega (arith, r .cnots, cnots-step, a, ap cnotsOf same);
           rotations = omega (arith, r .rotations, rotations-step, b, ap rotationsOf same);
           layers = ap (layersFrom (later next)) layers-are ∙ layers-step ∙ r .layers;

@@ -1,10 +1,9 @@
 -- What is printed at a time goes into the memory that is lent, whole: every line, and the front of every job, which the writer accepts. Assumes nothing.
 use mathlib.Core.Path.{_≡_, sym, ap, ap₂, subst, _∙_}
-use mathlib.Core.Bool.{Bool, true}
+use mathlib.Core.Bool.{Bool}
 use mathlib.Core.List.{List, []}
 use Prim.Native.Nat.{ℕ, _*_, _^_, _≤_, _<_}
 use native.Mathlib.Omega.{arith}
-use lib.Dec.{leb}
 use lib.ListN.{length, length-map}
 use borrow.Author.Tests.{le-leb}
 use Rattle.sets.specs.Pick.{pick}
@@ -25,8 +24,7 @@ use Rattle.stretches.specs.Tests.{judgedStretches}
 use Rattle.stretches.specs.Laid.{jobRecords}
 use Rattle.stretches.proofs.Passing.{job-passed, job-few}
 use Rattle.lines.specs.Lines.{textOf, refusalText, countsText}
-use Rattle.lines.specs.Lent.{onto, lineLength, lineAfter}
-use Rattle.lines.proofs.Writes.{width-most}
+use Rattle.lines.proofs.Writes.{Fitted, fitted-front, width-most}
 use Rattle.reading.proofs.Sizes.{line-two, line-three, text-most}
 use Rattle.text.specs.Writings.{judgedText}
 use Rattle.text.proofs.Judging.{judged-room}
@@ -54,7 +52,7 @@ number-few (Angle k) = omega arith
 number-few (Statement k) = omega arith
 number-few Unversioned = omega arith
 
-pub refusal-fits : (v : Verdict) → placeOf v < 2 ^ 64 → length (refusalOf v) ≤ mostPrinted
+refusal-fits : (v : Verdict) → placeOf v < 2 ^ 64 → length (refusalOf v) ≤ mostPrinted
 unfolding refusalOf refusalText
 refusal-fits v h =
     omega (arith, line-two 120 (numberOf v) (placeOf v), width-most 19 (numberOf v) (omega (arith, number-few v)), width-most 19 (placeOf v) (word (placeOf v) h))
@@ -64,19 +62,17 @@ unfolding countsText
 counts-fit c r d hc hr hd =
     omega (arith, line-three 115 c r d, width-most 19 c (word c hc), width-most 19 r (word r hr), width-most 19 d (word d hd))
 
--- a line for which there is room is printed whole
-module _ (out out′ : List ℕ) (n : ℕ) (lent : length out ≡ mostPrinted) where
-  pub line-whole : (s : List ℕ) → length s ≤ mostPrinted → (n ≡ lineLength s (length out)) × (out′ ≡ lineAfter s out) → Prints s out n out′
-  line-whole s h p =
-      let b : leb (length s) (length out) ≡ true = le-leb (length s) (length out) (omega arith) in
-      record { lent = lent; bytes = p .0 ∙ ap (λ (t : Bool). pick t (length s) 0) b; memory = p .1 ∙ ap (λ (t : Bool). pick t (onto s out) out) b }
+-- a text for which there is room is printed whole
+module _ (room : ℕ) (out out′ : List ℕ) (n : ℕ) (lent : length out ≡ room) where
+  pub text-whole : (s : List ℕ) → length s ≤ room → Fitted out 0 s out′ n → Prints room s out n out′
+  text-whole s h p =
+      let w = fitted-front out s (omega (arith, h, lent)) p in
+      record { lent = lent; bytes = w .0; memory = w .1 }
 
-  pub refusal-whole : (v : Verdict) (k p : ℕ) → k ≡ numberOf v → p ≡ placeOf v → p < 2 ^ 64
-      → (n ≡ lineLength (refusalText k p) (length out)) × (out′ ≡ lineAfter (refusalText k p) out) → Prints (refusalOf v) out n out′
+  pub refusal-whole : (v : Verdict) (k p : ℕ) → mostPrinted ≤ room → k ≡ numberOf v → p ≡ placeOf v → p < 2 ^ 64 → Fitted out 0 (refusalText k p) out′ n → Prints room (refusalOf v) out n out′
   unfolding refusalOf
-  refusal-whole v k p e d h q =
-      line-whole (refusalOf v) (refusal-fits v (omega arith))
-      (subst (λ (s : List ℕ). (n ≡ lineLength s (length out)) × (out′ ≡ lineAfter s out)) (ap₂ refusalText e d) q)
+  refusal-whole v k p m e d h q =
+      text-whole (refusalOf v) (omega (arith, m, refusal-fits v (omega (arith, d, h)))) (subst (λ (s : List ℕ). Fitted out 0 s out′ n) (ap₂ refusalText e d) q)
 
 -- ---- a job that passed tests 1 to 7
 

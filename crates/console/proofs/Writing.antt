@@ -10,7 +10,8 @@ use Rattle.chip.specs.declared.couplers.Ordered.{Ordered}
 use Rattle.chip.specs.Ordered.{orderedOf, orderedList}
 use Rattle.chip.proofs.Order.{ordered-take, ordered-len}
 use Rattle.lines.specs.Lines.{textOf}
-use Rattle.text.specs.Writings.{judgedText, writingOf, textAfter}
+use Rattle.reading.specs.Readings.{lentAfter}
+use Rattle.text.specs.Writings.{judgedText, writingOf, writeVerdict}
 use Rattle.text.specs.declared.write.Writing.{Writing}
 use Rattle.text.specs.declared.write.Writing.the-variants.{Written, Refused}
 use Rattle.text.proofs.Judging.{writing-yes}
@@ -34,15 +35,15 @@ module _ (near : List ℕ) (o : Ordered) (e : o ≡ orderedOf near) where
 -- ---- the writer accepts the couplers es and the gates gs; as fs the couplers were handed to it
 
 module _ (n : ℕ) (es fs gs out out′ : List ℕ) (w : Writing) (same : fs ≡ es) (room : length out ≡ mostPrinted) (yes : numberOf (judgedText n es gs mostPrinted) ≡ 0)
-    (e : w ≡ writingOf n fs gs (length out)) (m : out′ ≡ textAfter w (textOf n fs gs) out) where
+    (e : w ≡ writingOf n fs gs (length out)) (m : out′ ≡ lentAfter (writeVerdict w) (textOf n fs gs) out) where
   whole : w ≡ Written (length (textOf n es gs))
   whole = e ∙ ap (λ (x : List ℕ). writingOf n x gs (length out)) same ∙ ap (writingOf n es gs) room ∙ sym (writing-yes n es gs mostPrinted yes)
 
-  pub job-written : (k : ℕ) → w ≡ Written k → Prints (textOf n es gs) out k out′
+  pub job-written : (k : ℕ) → w ≡ Written k → Prints mostPrinted (textOf n es gs) out k out′
   job-written k d = record {
     lent = room;
     bytes = cc (whole, d);
-    memory = m ∙ ap (λ (x : Writing). textAfter x (textOf n fs gs) out) d ∙ ap (λ (x : List ℕ). textAfter (Written k) (textOf n x gs) out) same;
+    memory = m ∙ ap (λ (x : Writing). lentAfter (writeVerdict x) (textOf n fs gs) out) d ∙ ap (λ (x : List ℕ). lentAfter (writeVerdict (Written k)) (textOf n x gs) out) same;
   }
 
   pub never-refused : (v : Verdict) → w ≡ Refused v → ⊥

@@ -15,20 +15,19 @@ use Rattle.stretches.specs.Stretches.{stretchAt}
 use Rattle.stretches.specs.Tests.{judgedStretches}
 use Rattle.stretches.specs.Laid.{stretchRecords}
 use Rattle.stretches.specs.Parts.{hadamardAt}
-use Rattle.lines.specs.Lines.{recordsText, textOf}
+use Rattle.lines.specs.Lines.{textOf}
 use Rattle.reading.specs.Parsing.{parsed}
-use Rattle.reading.specs.Readings.{couplersIn, gatesIn, jobIn, readJob, judgedReading, readingOf, listAfter}
-use Rattle.console.specs.Printed.{mostCouplerLines, mostGateLines, Prints, unless}
+use Rattle.reading.specs.Readings.{couplersIn, gatesIn, jobIn, readJob, judgedReading, readingOf, readVerdict, lentAfter}
+use Rattle.console.specs.Printed.{mostCouplerLines, mostGateLines, mostPrinted, Prints, unless, printedFor}
 use Rattle.console.specs.declared.printing.Begun.{Begun}
 
 -- ---- the front: a refusal, or the `q` line and the couplers. No refusal comes behind it
 
-unfoldable pub headJob : ℕ → List ℕ → List ℕ → List ℕ
-headJob n couplers gates = unless (judgedStretches n couplers gates) (textOf n (orderedList (nearOf n couplers)) [])
+unfoldable pub frontJob : ℕ → List ℕ → List ℕ → List ℕ
+frontJob n couplers gates = unless (judgedStretches n couplers gates) (textOf n (orderedList (nearOf n couplers)) [])
 
-unfoldable pub headText : List ℕ → List ℕ
-headText s =
-    unless (judgedReading s mostCouplerLines mostGateLines) (headJob (jobIn (parsed s) .qubits) (couplersIn (parsed s)) (gatesIn (parsed s)))
+unfoldable pub frontText : List ℕ → List ℕ
+frontText s = printedFor frontJob s
 
 -- the place where the first part begins: 0, or above the number of gates where the job is refused
 unfoldable pub firstPart : ℕ → List ℕ → List ℕ → ℕ
@@ -41,18 +40,18 @@ firstOfText s =
 
 -- what beginning leaves: the front in `out`, the job's lists at the front of theirs, and the place of the first part
 pub record Begins (s couplers gates out : List ℕ) (r : Begun) (couplers′ gates′ out′ : List ℕ) : Type 0 where
-  pub prints : Prints (headText s) out (r .bytes) out′
+  pub prints : Prints mostPrinted (frontText s) out (r .bytes) out′
   pub job : r .job ≡ readJob (readingOf s mostCouplerLines mostGateLines)
   pub from : r .from ≡ firstOfText s
-  pub couplers-read : couplers′ ≡ listAfter (readingOf s mostCouplerLines mostGateLines) (couplersIn (parsed s)) couplers
-  pub gates-read : gates′ ≡ listAfter (readingOf s mostCouplerLines mostGateLines) (gatesIn (parsed s)) gates
+  pub couplers-read : couplers′ ≡ lentAfter (readVerdict (readingOf s mostCouplerLines mostGateLines)) (couplersIn (parsed s)) couplers
+  pub gates-read : gates′ ≡ lentAfter (readVerdict (readingOf s mostCouplerLines mostGateLines)) (gatesIn (parsed s)) gates
 
--- ---- the part of the stretch that begins at k: its lines, and that of the Hadamard behind it; nothing above the number of gates
+-- ---- the part of the stretch that begins at k: its gates, and the Hadamard behind it, as `text` writes records; nothing above the number of gates
 
-unfoldable pub partText : ℕ → List ℕ → List ℕ → ℕ → List ℕ
-partText n couplers gates k =
+unfoldable pub partText : (List ℕ → List ℕ) → ℕ → List ℕ → List ℕ → ℕ → List ℕ
+partText text n couplers gates k =
     pick (leb k (length gates))
-    (unless (verdictOf n couplers (stretchAt n gates k) largest) (recordsText (stretchRecords n couplers (stretchAt n gates k) ++ hadamardAt n gates k))) []
+    (unless (verdictOf n couplers (stretchAt n gates k) largest) (text (stretchRecords n couplers (stretchAt n gates k) ++ hadamardAt n gates k))) []
 
 -- where the next one begins
 unfoldable pub nextPart : ℕ → List ℕ → ℕ → ℕ
@@ -63,6 +62,6 @@ unfoldable pub sharePart : ℕ → List ℕ → List ℕ → ℕ → ℕ
 sharePart n couplers gates k = pick (leb k (length gates)) (phaseIn (answered n couplers (stretchAt n gates k) largest)) 0
 
 -- f parts one behind another, the first of which begins at k: how the program goes
-unfoldable pub partsFrom : ℕ → List ℕ → List ℕ → ℕ → ℕ → List ℕ
-partsFrom n couplers gates zero k = []
-partsFrom n couplers gates (suc f) k = partText n couplers gates k ++ partsFrom n couplers gates f (nextPart n gates k)
+unfoldable pub partsFrom : (List ℕ → List ℕ) → ℕ → List ℕ → List ℕ → ℕ → ℕ → List ℕ
+partsFrom text n couplers gates zero k = []
+partsFrom text n couplers gates (suc f) k = partText text n couplers gates k ++ partsFrom text n couplers gates f (nextPart n gates k)

@@ -33,9 +33,9 @@ mostGateLines = 16383
 abbrev pub mostPrinted : ℕ
 mostPrinted = 6 + 12 * mostCouplers + 12 * largest
 
--- s is printed whole into the memory that is lent: r bytes at its front; what lies behind them stays
-pub record Prints (s out : List ℕ) (r : ℕ) (out′ : List ℕ) : Type 0 where
-  pub lent : length out ≡ mostPrinted
+-- s is printed whole into `room` bytes of lent memory: r bytes at its front; what lies behind them stays
+pub record Prints (room : ℕ) (s out : List ℕ) (r : ℕ) (out′ : List ℕ) : Type 0 where
+  pub lent : length out ≡ room
   pub bytes : r ≡ length s
   pub memory : out′ ≡ onto s out
 
@@ -59,12 +59,15 @@ countedJob n couplers gates =
     let laid = gatesOf n (jobRecords n couplers gates) in
     unless (judgedStretches n couplers gates) (countsText (cnotsOf laid) (rotationsOf laid) (depthOf laid))
 
+-- what a program prints for a text: what it says of the job, unless reading refuses
+abbrev pub printedFor : (ℕ → List ℕ → List ℕ → List ℕ) → List ℕ → List ℕ
+printedFor said s =
+    unless (judgedReading s mostCouplerLines mostGateLines) (said (jobIn (parsed s) .qubits) (couplersIn (parsed s)) (gatesIn (parsed s)))
+
 -- "The laying program reads a job"
 unfoldable pub laidText : List ℕ → List ℕ
-laidText s =
-    unless (judgedReading s mostCouplerLines mostGateLines) (laidJob (jobIn (parsed s) .qubits) (couplersIn (parsed s)) (gatesIn (parsed s)))
+laidText s = printedFor laidJob s
 
 -- "The counting program lays the same input"
 unfoldable pub countedText : List ℕ → List ℕ
-countedText s =
-    unless (judgedReading s mostCouplerLines mostGateLines) (countedJob (jobIn (parsed s) .qubits) (couplersIn (parsed s)) (gatesIn (parsed s)))
+countedText s = printedFor countedJob s

@@ -21,12 +21,12 @@ ghost use Rattle.gates.specs.Layout.{gatesOf};
 ghost use Rattle.gates.specs.Limits.{mostGates};
 ghost use Rattle.tallies.specs.Tally.{cnotsOf, rotationsOf, highest, layersAfter, depthOf, largest};
 ghost use Rattle.laying.specs.Verdict.{circuitOf};
-ghost use Rattle.stretches.specs.Cut.{Each};
+ghost use Rattle.sets.specs.Lists.{All};
 ghost use Rattle.stretches.specs.Stretches.{stretchesOf};
 ghost use Rattle.stretches.specs.Asked.{Accepts};
 ghost use Rattle.stretches.specs.Laid.{stretchRecords, jobRecords};
 ghost use Rattle.reading.specs.Limits.{mostBytes};
-ghost use Rattle.console.specs.Printed.{Prints, countedJob, countedText};
+ghost use Rattle.console.specs.Printed.{mostPrinted, Prints, countedJob, countedText};
 
 // What is counted so far, and the layer of the last CNOT on each wire.
 struct Counts {
@@ -62,7 +62,7 @@ fn count_stretch(n: usize, couplers: &[u32], stretch: &[u32], counts: Counts) ->
 
 // The whole laid list, in which a Hadamard is no CNOT and no rotation and takes no layer.
 fn count_stretches(n: usize, couplers: &[u32], gates: &[u32]) -> Counts
-    requires { ⌜ Each (Accepts n (now couplers)) (stretchesOf n (now gates)) × (length (now gates) ≤ mostGates) ⌝ }
+    requires { ⌜ All (Accepts n (now couplers)) (stretchesOf n (now gates)) × (length (now gates) ≤ mostGates) ⌝ }
     ensures { λ r. ⌜ (r .cnots ≡ cnotsOf (gatesOf n (jobRecords n (now (couplers .entry)) (now (gates .entry))))) × (r .rotations ≡ rotationsOf (gatesOf n (jobRecords n (now (couplers .entry)) (now (gates .entry))))) × (highest (r .layers .last) ≡ depthOf (gatesOf n (jobRecords n (now (couplers .entry)) (now (gates .entry))))) ⌝ }
 {
     let mut counts = Counts {
@@ -80,7 +80,7 @@ fn count_stretches(n: usize, couplers: &[u32], gates: &[u32]) -> Counts
 }
 
 fn count_job(n: usize, couplers: &[u32], gates: &[u32], out: &mut [u8; OUTPUT]) -> usize
-    ensures { λ r. ⌜ Prints (countedJob n (now (couplers .entry)) (now (gates .entry))) (now (out .entry)) r (now (out .exit)) ⌝ }
+    ensures { λ r. ⌜ Prints mostPrinted (countedJob n (now (couplers .entry)) (now (gates .entry))) (now (out .entry)) r (now (out .exit)) ⌝ }
 {
     let verdict = judge::judge(n, couplers, gates);
     if verdict::number(verdict) != 0 {
@@ -94,7 +94,7 @@ fn count_job(n: usize, couplers: &[u32], gates: &[u32], out: &mut [u8; OUTPUT]) 
 // `len` bytes of `input` were read.
 pub fn count_text(input: &[u8; INPUT], len: usize, out: &mut [u8; OUTPUT]) -> usize
     ensures { λ r. ⌜ length (now (input .entry)) ≡ mostBytes + 1 ⌝ }
-    ensures { λ r. ⌜ Prints (countedText (take len (now (input .entry)))) (now (out .entry)) r (now (out .exit)) ⌝ }
+    ensures { λ r. ⌜ Prints mostPrinted (countedText (take len (now (input .entry)))) (now (out .entry)) r (now (out .exit)) ⌝ }
 {
     let mut couplers = [0u32; COUPLER_LINES];
     let mut gates = [0u32; GATE_LINES];

@@ -32,7 +32,7 @@ ghost use Rattle.lines.specs.Lines.{recordsText, textOf};
 ghost use Rattle.reading.specs.Limits.{mostBytes};
 ghost use Rattle.text.specs.Writings.{judgedText};
 ghost use Rattle.console.specs.Printed.{mostGateLines, mostPrinted, Prints, unless};
-ghost use Rattle.console.specs.Parts.{headJob, firstPart, Begins, partText, nextPart, sharePart};
+ghost use Rattle.console.specs.Parts.{frontJob, firstPart, Begins, partText, nextPart, sharePart};
 
 // What was read, what is printed first, and where the first part begins, which is above the number of gates where the text or the job is refused.
 pub struct Begun {
@@ -48,22 +48,22 @@ struct Front {
 }
 
 // A part: how many bytes are printed, where the next one begins, and its share of the common phase.
-pub struct Part {
+pub struct LaidPart {
     pub bytes: usize,
     pub next: usize,
     pub phase: u32,
 }
 
 // What is printed for a stretch, and its common phase.
-struct Printed {
-    bytes: usize,
-    phase: u32,
+pub struct Printed {
+    pub bytes: usize,
+    pub phase: u32,
 }
 
 // The `q` line and the couplers in order. It asks that the writer accepts them, as it does those of every job that passes its tests.
 fn print_head(n: usize, couplers: &[u32], out: &mut [u8; OUTPUT]) -> usize
     requires { ⌜ numberOf (judgedText n (orderedList (nearOf n (now couplers))) [] mostPrinted) ≡ 0 ⌝ }
-    ensures { λ r. ⌜ Prints (textOf n (orderedList (nearOf n (now (couplers .entry)))) []) (now (out .entry)) r (now (out .exit)) ⌝ }
+    ensures { λ r. ⌜ Prints mostPrinted (textOf n (orderedList (nearOf n (now (couplers .entry)))) []) (now (out .entry)) r (now (out .exit)) ⌝ }
 {
     let ordered = couplers::in_order(couplers::near(couplers, n));
     let records = ordered.records;
@@ -76,7 +76,7 @@ fn print_head(n: usize, couplers: &[u32], out: &mut [u8; OUTPUT]) -> usize
 
 fn begin_job(n: usize, couplers: &[u32], gates: &[u32], out: &mut [u8; OUTPUT]) -> Front
     requires { ⌜ length (now gates) ≤ mostGateLines ⌝ }
-    ensures { λ r. ⌜ Prints (headJob n (now (couplers .entry)) (now (gates .entry))) (now (out .entry)) (r .bytes) (now (out .exit)) × (r .from ≡ firstPart n (now (couplers .entry)) (now (gates .entry))) ⌝ }
+    ensures { λ r. ⌜ Prints mostPrinted (frontJob n (now (couplers .entry)) (now (gates .entry))) (now (out .entry)) (r .bytes) (now (out .exit)) × (r .from ≡ firstPart n (now (couplers .entry)) (now (gates .entry))) ⌝ }
 {
     let verdict = judge::judge(n, couplers, gates);
     if verdict::number(verdict) != 0 {
@@ -144,7 +144,7 @@ fn print_part(
     out: &mut [u8; OUTPUT],
 ) -> Printed
     requires { ⌜ length (now hadamard) ≤ 1 ⌝ }
-    ensures { λ r. ⌜ Prints (unless (verdictOf n (now (couplers .entry)) (now (stretch .entry)) largest) (recordsText (stretchRecords n (now (couplers .entry)) (now (stretch .entry)) ++ now (hadamard .entry)))) (now (out .entry)) (r .bytes) (now (out .exit)) × (r .phase ≡ phaseIn (answered n (now (couplers .entry)) (now (stretch .entry)) largest)) ⌝ }
+    ensures { λ r. ⌜ Prints mostPrinted (unless (verdictOf n (now (couplers .entry)) (now (stretch .entry)) largest) (recordsText (stretchRecords n (now (couplers .entry)) (now (stretch .entry)) ++ now (hadamard .entry)))) (now (out .entry)) (r .bytes) (now (out .exit)) × (r .phase ≡ phaseIn (answered n (now (couplers .entry)) (now (stretch .entry)) largest)) ⌝ }
 {
     let mut laid = [0u32; tally::LARGEST];
     match lay::lay(n, couplers, stretch, &mut laid) {
@@ -173,11 +173,11 @@ pub fn lay_part(
     gates: &[u32],
     from: usize,
     out: &mut [u8; OUTPUT],
-) -> Part
-    ensures { λ r. ⌜ Prints (partText n (now (couplers .entry)) (now (gates .entry)) from) (now (out .entry)) (r .bytes) (now (out .exit)) × (r .next ≡ nextPart n (now (gates .entry)) from) × (r .phase ≡ sharePart n (now (couplers .entry)) (now (gates .entry)) from) ⌝ }
+) -> LaidPart
+    ensures { λ r. ⌜ Prints mostPrinted (partText recordsText n (now (couplers .entry)) (now (gates .entry)) from) (now (out .entry)) (r .bytes) (now (out .exit)) × (r .next ≡ nextPart n (now (gates .entry)) from) × (r .phase ≡ sharePart n (now (couplers .entry)) (now (gates .entry)) from) ⌝ }
 {
     if gates.len() < from {
-        return Part {
+        return LaidPart {
             bytes: records::put_records(out, 0, &gates[..0]),
             next: from,
             phase: 0,
@@ -185,7 +185,7 @@ pub fn lay_part(
     }
     let stretch = cut::stretch_at(n, gates, from);
     let printed = print_part(n, couplers, stretch, cut::hadamard_at(n, gates, from), out);
-    Part {
+    LaidPart {
         bytes: printed.bytes,
         next: from + stretch.len() + 1,
         phase: printed.phase,

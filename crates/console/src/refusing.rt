@@ -5,11 +5,11 @@ use verdicts::verdict;
 use verdicts::verdict::Verdict;
 ghost use mathlib.Core.Path.{_≡_};
 ghost use lib.ListN.{take};
-ghost use Rattle.console.specs.Printed.{Prints, refusalOf};
+ghost use Rattle.console.specs.Printed.{mostPrinted, Prints, refusalOf};
 
 // The number of bytes printed; what lies behind them in the lent memory stays.
 pub(crate) fn print_refusal(v: Verdict, out: &mut [u8; OUTPUT]) -> usize
-    ensures { λ r. ⌜ Prints (refusalOf v) (now (out .entry)) r (now (out .exit)) ⌝ }
+    ensures { λ r. ⌜ Prints mostPrinted (refusalOf v) (now (out .entry)) r (now (out .exit)) ⌝ }
 {
     print::refusal(verdict::number(v), verdict::place(v), out)
 }

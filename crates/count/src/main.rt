@@ -1,4 +1,5 @@
 // The counting program: a job's text from standard input, one line about the laid job to standard output.
+// It knows `console`, and alone with the other programs the operating system.
 use libc::STDIN_FILENO;
 use libc::STDOUT_FILENO;
 

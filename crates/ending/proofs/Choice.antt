@@ -1,18 +1,16 @@
 -- The cheapest choice is a choice: the ending of the definition is an ending. Assumes nothing.
-use mathlib.Core.Path.{_≡_, refl, sym, ap, ap₂, _∙_, subst}
-use mathlib.Core.Logic.{_⊎_, inl, inr}
-use mathlib.Core.Bool.{Bool, true, false}
-use mathlib.Core.List.{List, [], _++_, map}
-use Prim.Native.Nat.{ℕ, zero, suc, _+_, _*_, _-_, _/_, _%_, _^_, _≤_, _<_}
+use mathlib.Core.Path.{_≡_, refl, sym, ap, _∙_, subst}
+use mathlib.Core.Bool.{Bool, true, false, not}
+use mathlib.Core.List.{List, [], _∷_, _++_, map}
+use Prim.Native.Nat.{ℕ, zero, suc, _+_, _-_, _^_, _≤_, _<_}
 use native.Mathlib.Omega.{arith}
 use native.Mathlib.Decide.{ℕ-discrete}
 use lib.Bits.{bitXor, xor-lt}
 use lib.Count.{ones}
-use lib.Dec.{eqb, ltb}
-use lib.ListN.{length, getD, length-append}
+use lib.Dec.{ltb}
+use lib.ListN.{length, length-append}
 use lib.Pow.{pow-lt}
-use borrow.Author.Tests.{lt-ltb}
-use Rattle.sets.specs.Pick.{pick, both}
+use Rattle.sets.specs.Pick.{pick}
 use Rattle.sets.specs.Bit.{In}
 use Rattle.sets.specs.Size.{sizeOf, onlyOf}
 use Rattle.sets.proofs.Members.{in-lt, some-bit}
@@ -22,183 +20,198 @@ use Rattle.chip.specs.Graph.{Symm, Joined}
 use Rattle.spares.specs.Spare.{spareOf}
 use Rattle.spares.proofs.Spares.{spare-in, spare-joined, spare-other}
 use Rattle.gates.specs.declared.gate.Gate.{Gate}
-use Rattle.gathering.specs.Gather.{turns, flip, Within, gatherOf}
-use Rattle.gathering.proofs.GatherWorks.{coupled-within, gather-few}
-use Rattle.ending.specs.Rows.{played}
-use Rattle.ending.specs.Clear.{followOf, rowsFirst, mirrorFirst, outOf, leastFrom, cheapestOf}
+use Rattle.gathering.specs.Gather.{turns, exchanged}
+use Rattle.gathering.proofs.GatherWorks.{gather-few}
+use Rattle.ending.specs.declared.clearing.Clearing.{Clearing}
+use Rattle.ending.specs.declared.clearing.Best.{Best}
+use Rattle.ending.specs.declared.clearing.Best.the-variants.{Nothing, Take}
+use Rattle.ending.specs.Mirror.{seen}
+use Rattle.ending.specs.Clear.{rowAt, firstMoves, secondMoves, outOf, costOf, choicesAt, choicesFrom, cheaperOf, cheapestIn, cheapestOf}
 use Rattle.ending.specs.Closing.{endingFrom, endingOf}
 use Rattle.ending.specs.Ends.{Ready, TakesOut, Ends, last, out}
-use Rattle.ending.proofs.Turning.{flip-length, flip-within, all-played}
-use Rattle.ending.proofs.Taking.{rows-first, mirror-first}
+use Rattle.ending.proofs.Turning.{exchanged-length}
+use Rattle.ending.proofs.Taking.{out-takes}
 use Rattle.ending.proofs.Endings.{ready-taken}
-use Rattle.sets.proofs.Deciding.{never}
 
--- ---- the least
+-- ---- the cheapest
 
-module _ (ok : ℕ → Bool) (cost : ℕ → ℕ) where
-  least-step : (d r b w : ℕ)
-      → leastFrom ok cost (suc d) r b w ≡ leastFrom ok cost d (r + 1) (pick (both (ok r) (ltb (cost r) w)) r b) (pick (both (ok r) (ltb (cost r) w)) (cost r) w)
-  unfolding leastFrom
-  least-step d r b w = refl
+cheapest-append : (cost : Clearing → ℕ) (b : Best) (xs ys : List Clearing) → cheapestIn cost b (xs ++ ys) ≡ cheapestIn cost (cheapestIn cost b xs) ys
+unfolding cheapestIn
+cheapest-append cost b [] ys = refl
+cheapest-append cost b (ch ∷ xs) ys = cheapest-append cost (cheaperOf ch (cost ch) b) xs ys
 
-  least-zero : (r b w : ℕ) → leastFrom ok cost 0 r b w ≡ b
-  unfolding leastFrom
-  least-zero r b w = refl
+module _ (near : List ℕ) (Q : ℕ) (cost : Clearing → ℕ) where
+  pub from-step : (d v : ℕ) (b : Best) → cheapestIn cost b (choicesFrom near Q (suc d) v) ≡ cheapestIn cost (cheapestIn cost b (choicesAt near Q v)) (choicesFrom near Q d (v + 1))
+  unfolding choicesFrom
+  from-step d v b = cheapest-append cost b (choicesAt near Q v) (choicesFrom near Q d (v + 1))
 
-  -- one of the numbers to try has the property and costs less than w
-  abbrev Some : ℕ → ℕ → ℕ → Type 0
-  Some d r w = (k : ℕ) × (r ≤ k) × (k < r + d) × (ok k ≡ true) × (cost k < w)
+  -- where one is taken, its qubit can be spared
+  abbrev Spared : Best → Type 0
+  Spared Nothing = Unit {0}
+  Spared (Take ch n) = (ch .qubit < 20) × (spareOf near Q (ch .qubit) ≡ true)
 
-  -- what holds of every number with the property holds of the least
-  pub least-has : (P : ℕ → Type 0) (d r b w : ℕ) → ((k : ℕ) → k < r + d → ok k ≡ true → P k) → P b ⊎ Some d r w → P (leastFrom ok cost d r b w)
-  least-has P zero r b w f (inl p) = subst P (sym (least-zero r b w)) p
-  least-has P zero r b w f (inr s) = absurd (omega (arith, s .1, s .2))
-  least-has P (suc d) r b w f h =
-      subst P (sym (least-step d r b w)) (go (ok r) (ltb (cost r) w) refl refl h (λ b w. least-has P d (r + 1) b w (λ k l. f k (omega arith))))
+  cheaper-fit : (ch : Clearing) (b : Best) → ch .qubit < 20 → spareOf near Q (ch .qubit) ≡ true → Spared b → Spared (cheaperOf ch (cost ch) b)
+  cheaper-fit ch Nothing l e h = (l, e)
+  cheaper-fit ch (Take best m) l e h = go (ltb (cost ch) m)
     where
-      keep : (both (ok r) (ltb (cost r) w) ≡ false) → P b ⊎ Some (suc d) r w → P b ⊎ Some d (r + 1) w
-      keep n (inl p) = inl p
-      keep n (inr s) = inr (s .0, past (ℕ-discrete (s .0) r), omega (arith, s .2), s .3, s .4)
-        where
-          past : Dec (s .0 ≡ r) → r + 1 ≤ s .0
-          past (yes e) =
-              absurd (never (ap₂ both (ap ok (sym e) ∙ s .3) (lt-ltb (cost r) w (subst (λ (m : ℕ). cost m < w) e (s .4)))) n)
-          past (no q) = omega (arith, s .1)
+      go : (t : Bool) → Spared (pick t (Take ch (cost ch)) (Take best m))
+      go true = (l, e)
+      go false = h
 
-      go : (s t : Bool) → ok r ≡ s → ltb (cost r) w ≡ t → P b ⊎ Some (suc d) r w
-          → ((b w : ℕ) → P b ⊎ Some d (r + 1) w → P (leastFrom ok cost d (r + 1) b w))
-          → P (leastFrom ok cost d (r + 1) (pick (both (ok r) (ltb (cost r) w)) r b) (pick (both (ok r) (ltb (cost r) w)) (cost r) w))
-      go true true p q h ih = rw (p, q) (ih r (cost r) (inl (f r (omega arith) p)))
-      go true false p q h ih = let n : both (ok r) (ltb (cost r) w) ≡ false = ap₂ both p q in rw n (ih b w (keep n h))
-      go false t p q h ih = let n : both (ok r) (ltb (cost r) w) ≡ false = ap (λ (s : Bool). both s (ltb (cost r) w)) p in rw n (ih b w (keep n h))
+  at-fit : (v : ℕ) (b : Best) → v < 20 → Spared b → Spared (cheapestIn cost b (choicesAt near Q v))
+  unfolding choicesAt cheapestIn
+  at-fit v b l h = go (spareOf near Q v) refl
+    where
+      rows : Clearing
+      rows = record { qubit = v; mirrored = false }
+
+      mirror : Clearing
+      mirror = record { qubit = v; mirrored = true }
+
+      go : (s : Bool) → spareOf near Q v ≡ s → Spared (cheapestIn cost b (pick s (rows ∷ mirror ∷ []) []))
+      go true e = cheaper-fit mirror (cheaperOf rows (cost rows) b) l e (cheaper-fit rows b l e h)
+      go false e = h
+
+  from-fit : (d v : ℕ) (b : Best) → v + d ≤ 20 → Spared b → Spared (cheapestIn cost b (choicesFrom near Q d v))
+  unfolding choicesFrom cheapestIn
+  from-fit zero v b l h = h
+  from-fit (suc d) v b l h = subst Spared (sym (from-step d v b)) (from-fit d (v + 1) (cheapestIn cost b (choicesAt near Q v)) (omega arith) (at-fit v b (omega arith) h))
+
+  -- one is taken
+  abbrev Taken : Best → Type 0
+  Taken b = (ch : Clearing) × (n : ℕ) × (b ≡ Take ch n)
+
+  cheaper-some : (ch : Clearing) (b : Best) → Taken (cheaperOf ch (cost ch) b)
+  cheaper-some ch Nothing = (ch, cost ch, refl)
+  cheaper-some ch (Take best m) = go (ltb (cost ch) m)
+    where
+      go : (t : Bool) → Taken (pick t (Take ch (cost ch)) (Take best m))
+      go true = (ch, cost ch, refl)
+      go false = (best, m, refl)
+
+  in-some : (b : Best) (chs : List Clearing) → Taken b → Taken (cheapestIn cost b chs)
+  unfolding cheapestIn
+  in-some b [] h = h
+  in-some b (ch ∷ chs) h = in-some (cheaperOf ch (cost ch) b) chs (cheaper-some ch b)
+
+  at-some : (v : ℕ) (b : Best) → spareOf near Q v ≡ true → Taken (cheapestIn cost b (choicesAt near Q v))
+  unfolding choicesAt cheapestIn
+  at-some v b e = rw e (cheaper-some (record { qubit = v; mirrored = true }) (cheaperOf (record { qubit = v; mirrored = false }) (cost (record { qubit = v; mirrored = false })) b))
+
+  from-some : (w d v : ℕ) (b : Best) → spareOf near Q w ≡ true → v ≤ w → w < v + d → Taken (cheapestIn cost b (choicesFrom near Q d v))
+  from-some w zero v b e l m = absurd (omega arith)
+  from-some w (suc d) v b e l m = subst Taken (sym (from-step d v b)) (go (ℕ-discrete v w) (from-some w d (v + 1) (cheapestIn cost b (choicesAt near Q v)) e))
+    where
+      go : Dec (v ≡ w) → (v + 1 ≤ w → w < v + 1 + d → Taken (cheapestIn cost (cheapestIn cost b (choicesAt near Q v)) (choicesFrom near Q d (v + 1))))
+          → Taken (cheapestIn cost (cheapestIn cost b (choicesAt near Q v)) (choicesFrom near Q d (v + 1)))
+      go (yes i) ih = in-some (cheapestIn cost b (choicesAt near Q v)) (choicesFrom near Q d (v + 1)) (at-some v b (ap (spareOf near Q) i ∙ e))
+      go (no i) ih = ih (omega arith) (omega arith)
 
 -- ---- what a choice costs, whatever the sets
 
-pub out-few : (near : List ℕ) (Q : ℕ) (N C : List ℕ) (k : ℕ) → length (outOf near Q N C k) ≤ 76
-unfolding outOf rowsFirst mirrorFirst followOf
-out-few near Q N C k = go (eqb (k % 2) 0)
-  where
-    v : ℕ
-    v = k / 2
+pub seen-length : (b : Bool) (gs : List Gate) → length (seen b gs) ≡ length gs
+seen-length true gs = exchanged-length gs
+seen-length false gs = refl
 
-    rows : (x y : ℕ) → length (rowsFirst near Q v x y) ≤ 76
-    rows x y =
-        omega (
-          arith,
-          length-append (gatherOf near Q v x) (flip (followOf near Q v x y)),
-          flip-length (followOf near Q v x y),
-          gather-few near Q v x,
-          gather-few near Q v (played (flip (gatherOf near Q v x)) y),
-        )
+module _ (near : List ℕ) (Q : ℕ) (N C : List ℕ) (ch : Clearing) where
+  pub out-length : length (outOf near Q N C ch) ≡ length (firstMoves near Q N C ch) + length (secondMoves near Q N C ch)
+  unfolding outOf
+  out-length =
+      let F : List Gate = firstMoves near Q N C ch in
+      let S : List Gate = secondMoves near Q N C ch in
+      seen-length (ch .mirrored) (F ++ exchanged S) ∙ length-append F (exchanged S) ∙ ap (λ (n : ℕ). length F + n) (exchanged-length S)
 
-    mirror : (x y : ℕ) → length (mirrorFirst near Q v x y) ≤ 76
-    mirror x y =
-        omega (
-          arith,
-          length-append (flip (gatherOf near Q v y)) (followOf near Q v y x),
-          flip-length (gatherOf near Q v y),
-          gather-few near Q v y,
-          gather-few near Q v (played (flip (gatherOf near Q v y)) x),
-        )
+  pub first-few : length (firstMoves near Q N C ch) ≤ 38
+  unfolding firstMoves
+  first-few = gather-few near Q (ch .qubit) (rowAt N C (ch .qubit) (ch .mirrored))
 
-    go : (b : Bool) → length (pick b (rowsFirst near Q v (getD N v 0) (getD C v 0)) (mirrorFirst near Q v (getD N v 0) (getD C v 0))) ≤ 76
-    go true = rows (getD N v 0) (getD C v 0)
-    go false = mirror (getD N v 0) (getD C v 0)
+  pub second-few : length (secondMoves near Q N C ch) ≤ 38
+  unfolding secondMoves
+  second-few = gather-few near Q (ch .qubit) (turns (exchanged (firstMoves near Q N C ch)) (rowAt N C (ch .qubit) (not (ch .mirrored))))
+
+  pub out-few : length (outOf near Q N C ch) ≤ 76
+  out-few = omega (arith, out-length, first-few, second-few)
 
 -- ---- the definition's choice
 
-module _ (near : List ℕ) (Q : ℕ) (sy : Symm near) (low : Q < 2 ^ 20) (j : Joined near Q) (N C : List ℕ) where
-  pub cheapest-spare : 2 ≤ ones Q → (cheapestOf near Q N C < 40) × (spareOf near Q (cheapestOf near Q N C / 2) ≡ true)
-  unfolding cheapestOf
-  cheapest-spare two =
-      let s = some-bit Q (λ (z : Q ≡ 0). omega (arith, ap ones z, ones-of-zero)) in
-      let r = spare-other near Q low sy j (s .0) (s .1) two in
-      let half : r .0 * 2 / 2 ≡ r .0 = omega arith in
-      least-has (λ k. spareOf near Q (k / 2)) (λ k. length (outOf near Q N C k)) (λ k. (k < 40) × (spareOf near Q (k / 2) ≡ true)) 40 0 40 77
-      (λ k l e. (omega arith, e))
-      (inr (
-        r .0 * 2,
-        omega arith,
-        omega (arith, in-lt 20 Q (r .0) low (spare-in near Q low (r .0) (r .2))),
-        ap (spareOf near Q) half ∙ r .2,
-        omega (arith, out-few near Q N C (r .0 * 2)),
-      ))
+-- what is taken can be spared
+pub cheapest-fit : (near : List ℕ) (Q : ℕ) (N C : List ℕ) (ch : Clearing) (n : ℕ) → Take ch n ≡ cheapestOf near Q N C → (ch .qubit < 20) × (spareOf near Q (ch .qubit) ≡ true)
+unfolding cheapestOf
+cheapest-fit near Q N C ch n e =
+    let cost : Clearing → ℕ = costOf near Q N C in
+    subst (Spared near Q cost) (sym e) (from-fit near Q cost 20 0 Nothing (omega arith) tt)
 
-  pub out-takes : (k : ℕ) → In (k / 2) Q → Ready Q N C → TakesOut near Q (k / 2) N C (outOf near Q N C k)
-  unfolding outOf
-  out-takes k h r = go (eqb (k % 2) 0)
-    where
-      v : ℕ
-      v = k / 2
-
-      go : (b : Bool) → TakesOut near Q v N C (pick b (rowsFirst near Q v (getD N v 0) (getD C v 0)) (mirrorFirst near Q v (getD N v 0) (getD C v 0)))
-      go true = rows-first near Q v sy low j h N C r
-      go false = mirror-first near Q v sy low j h N C r
+cheapest-some : (near : List ℕ) (Q : ℕ) → Symm near → Q < 2 ^ 20 → Joined near Q → (N C : List ℕ) → 2 ≤ ones Q → (ch : Clearing) × (n : ℕ) × (cheapestOf near Q N C ≡ Take ch n)
+unfolding cheapestOf
+cheapest-some near Q sy low j N C two =
+    let s = some-bit Q (λ (z : Q ≡ 0). omega (arith, ap ones z, ones-of-zero)) in
+    let r = spare-other near Q low sy j (s .0) (s .1) two in
+    from-some near Q (costOf near Q N C) (r .0) 20 0 Nothing (r .2) (omega arith) (omega (arith, in-lt 20 Q (r .0) low (spare-in near Q low (r .0) (r .2))))
 
 pub ending-zero : (near : List ℕ) (Q : ℕ) (N C : List ℕ) → endingFrom near 0 Q N C ≡ []
 unfolding endingFrom
 ending-zero near Q N C = refl
 
-pub ending-suc : (near : List ℕ) (f Q : ℕ) (N C : List ℕ) → endingFrom near (suc f) Q N C
-    ≡ pick (ltb (cheapestOf near Q N C) 40)
-    (outOf near Q N C (cheapestOf near Q N C)
-    ++ endingFrom near f (bitXor Q (onlyOf (cheapestOf near Q N C / 2))) (map (played (outOf near Q N C (cheapestOf near Q N C))) N)
-    (map (played (flip (outOf near Q N C (cheapestOf near Q N C)))) C))
-    []
-unfolding endingFrom
-ending-suc near f Q N C = refl
+module _ (near : List ℕ) (f Q : ℕ) (N C : List ℕ) where
+  pub ending-stays : Nothing ≡ cheapestOf near Q N C → endingFrom near (suc f) Q N C ≡ []
+  unfolding endingFrom
+  ending-stays e = rw (sym e)
+
+  pub ending-takes : (ch : Clearing) (n : ℕ) → Take ch n ≡ cheapestOf near Q N C → endingFrom near (suc f) Q N C
+      ≡ outOf near Q N C ch
+      ++ endingFrom near f (bitXor Q (onlyOf (ch .qubit))) (map (turns (outOf near Q N C ch)) N) (map (turns (exchanged (outOf near Q N C ch))) C)
+  unfolding endingFrom
+  ending-takes ch n e = rw (sym e)
 
 from-ends : (near : List ℕ) → Symm near → (f Q : ℕ) (N C : List ℕ) → Q < 2 ^ 20 → Joined near Q → Ready Q N C → ones Q - 1 ≡ f → Ends near Q N C (endingFrom near f Q N C)
 from-ends near sy zero Q N C low j r e = last {Q = Q} (omega arith) (ending-zero near Q N C)
 from-ends near sy (suc f) Q N C low j r e =
     out v L M hv jP t
-    (subst (λ (M′ : List Gate). Ends near P (map (turns L) N) (map (turns (flip L)) C) M′) (sym same)
-    (from-ends near sy f P (map (turns L) N) (map (turns (flip L)) C) lowP jP (ready-taken near Q v N C L hv t r) (omega (arith, ones-drop v Q hv))))
+    (subst (λ (M′ : List Gate). Ends near P (map (turns L) N) (map (turns (exchanged L)) C) M′) (sym same)
+    (from-ends near sy f P (map (turns L) N) (map (turns (exchanged L)) C) lowP jP (ready-taken near Q low v N C L hv t r) (omega (arith, ones-drop v Q hv))))
     list
   where
-    k : ℕ
-    k = cheapestOf near Q N C
+    c : (ch : Clearing) × (n : ℕ) × (cheapestOf near Q N C ≡ Take ch n)
+    c = cheapest-some near Q sy low j N C (omega arith)
 
-    c : (k < 40) × (spareOf near Q (k / 2) ≡ true)
-    c = cheapest-spare near Q sy low j N C (omega arith)
+    ch : Clearing
+    ch = c .0
 
     v : ℕ
-    v = k / 2
+    v = ch .qubit
+
+    spare : spareOf near Q v ≡ true
+    spare = cheapest-fit near Q N C ch (c .1) (sym (c .2)) .1
 
     hv : In v Q
-    hv = spare-in near Q low v (c .1)
+    hv = spare-in near Q low v spare
 
     P : ℕ
     P = bitXor Q (2 ^ v)
 
     jP : Joined near P
-    jP = spare-joined near Q low sy v (c .1)
+    jP = spare-joined near Q low sy v spare
 
     lowP : P < 2 ^ 20
     lowP = xor-lt 20 Q (2 ^ v) low (pow-lt (in-lt 20 Q v low hv))
 
     L : List Gate
-    L = outOf near Q N C k
+    L = outOf near Q N C ch
 
     t : TakesOut near Q v N C L
-    t = out-takes near Q sy low j N C k hv r
+    t = out-takes near Q sy low j N C ch hv r
 
     M : List Gate
-    M = endingFrom near f (bitXor Q (onlyOf v)) (map (played L) N) (map (played (flip L)) C)
+    M = endingFrom near f (bitXor Q (onlyOf v)) (map (turns L) N) (map (turns (exchanged L)) C)
 
     only : onlyOf v ≡ 2 ^ v
     only = only-is v (omega (arith, in-lt 20 Q v low hv))
 
-    inL : Within near Q L
-    inL = coupled-within near Q L (t .coupled)
-
-    same : M ≡ endingFrom near f P (map (turns L) N) (map (turns (flip L)) C)
-    same =
-        ap (λ (m : ℕ). endingFrom near f (bitXor Q m) (map (played L) N) (map (played (flip L)) C)) only
-        ∙ ap₂ (endingFrom near f P) (all-played near Q low L N inL) (all-played near Q low (flip L) C (flip-within near Q sy L inL))
+    same : M ≡ endingFrom near f P (map (turns L) N) (map (turns (exchanged L)) C)
+    same = ap (λ (m : ℕ). endingFrom near f (bitXor Q m) (map (turns L) N) (map (turns (exchanged L)) C)) only
 
     list : endingFrom near (suc f) Q N C ≡ L ++ M
-    list = ending-suc near f Q N C ∙ ap (λ (b : Bool). pick b (L ++ M) []) (lt-ltb k 40 (c .0))
+    list = ending-takes near f Q N C ch (c .1) (sym (c .2))
 
 -- the ending of the definition is one
 pub ending-ends : (near : List ℕ) (Q : ℕ) (N C : List ℕ) → Symm near → Q < 2 ^ 20 → Joined near Q → Ready Q N C → Ends near Q N C (endingOf near Q N C)

@@ -1,5 +1,5 @@
 -- The closing of an island: every wire bears what was asked, for either closing and any ending in it. Assumes nothing.
-use mathlib.Core.Path.{_≡_, refl, sym, ap, ap₂, _∙_, subst}
+use mathlib.Core.Path.{_≡_, refl, sym, ap, ap₂, _∙_}
 use mathlib.Core.Bool.{Bool, true, false}
 use mathlib.Core.List.{List, [], _∷_, _++_, map}
 use Prim.Native.Nat.{ℕ, _^_, _≤_, _<_}
@@ -25,94 +25,101 @@ use Rattle.gates.specs.declared.gate.Gate.{Gate}
 use Rattle.gates.specs.declared.gate.Gate.the-variants.{Cnot, Rotation, X, Bad}
 use Rattle.gates.specs.Layout.{Good}
 use Rattle.circuit.specs.Circuit.{run}
-use Rattle.gates.specs.All.{All}
+use Rattle.sets.specs.Lists.{All}
 use Rattle.tallies.specs.Tally.{tally, oneCnot, oneRotation, cnotsOf, rotationsOf}
-use Rattle.gathering.specs.Gather.{turns, flip, Coupled, Within}
-use Rattle.gathering.proofs.GatherWorks.{turns-append, coupled-append, coupled-within}
+use Rattle.chip.specs.Inside.{Coupled, Inside}
+use Rattle.gathering.specs.Gather.{turns, exchanged}
+use Rattle.sets.proofs.Lists.{all-append}
+use Rattle.chip.proofs.Insides.{coupled-inside}
+use Rattle.gathering.proofs.GatherWorks.{turns-append}
+use Rattle.columns.proofs.Inside.{outside-keeps}
 use Rattle.gathering.proofs.OrderParts.{sub-lt}
 use Rattle.ending.specs.Closing.{endingOf, onwardOf, backOf, backFirst, closingOf}
 use Rattle.ending.specs.Ends.{Ready, Ends, Ended, Closes}
-use Rattle.ending.proofs.Turning.{within-append, flip-within, turns-sub, comb-turns, wires-out, all-played, turns-zero, row-turned, comb-own}
+use Rattle.ending.proofs.Turning.{turns-sub, comb-turns, turns-zero, row-turned, comb-own}
 use Rattle.ending.proofs.Endings.{ready-turns, ends-right, ends-none, spent-is}
 use Rattle.ending.proofs.Choice.{ending-ends}
 
 -- behind the gates gs, the CNOTs M bring each row of Q to its own wire
-pub record Brings (near : List ℕ) (Q : ℕ) (N : List ℕ) (gs M : List Gate) : Type 0 where
-  pub coupled : Coupled near Q M
+pub record BringsHome (near : List ℕ) (Q : ℕ) (N : List ℕ) (gs M : List Gate) : Type 0 where
+  pub coupled : All (Coupled near Q) M
   pub right : (i : ℕ) → In i Q → turns (gs ++ M) (getD N i 0) ≡ 2 ^ i
 
 -- ---- CNOTs in reverse undo themselves
 
 module _ (near : List ℕ) (Q : ℕ) where
-  pub back-undoes : (gs : List Gate) (x : ℕ) → Within near Q gs → turns (backOf gs) (turns gs x) ≡ x
+  pub back-undoes : (gs : List Gate) (x : ℕ) → All (Inside near Q) gs → turns (backOf gs) (turns gs x) ≡ x
+  unfolding All
   back-undoes [] x h = refl
   back-undoes (Cnot c t ∷ gs) x h =
-      turns-append (backOf gs) (Cnot c t ∷ []) (turns gs (turn x c t)) ∙ ap (λ (m : ℕ). turn m c t) (back-undoes gs (turn x c t) (h .1)) ∙ turn-back x c t (h .0 .2)
-  back-undoes (Rotation q a ∷ gs) x h = back-undoes gs x h
-  back-undoes (X q ∷ gs) x h = back-undoes gs x h
-  back-undoes (Bad ∷ gs) x h = back-undoes gs x h
+      turns-append (backOf gs) (Cnot c t ∷ []) (turns gs (turn c t x)) ∙ ap (turn c t) (back-undoes gs (turn c t x) (h .1)) ∙ turn-back x c t (h .0 .2)
+  back-undoes (Rotation q a ∷ gs) x h = back-undoes gs x (h .1)
+  back-undoes (X q ∷ gs) x h = absurd (h .0)
+  back-undoes (Bad ∷ gs) x h = absurd (h .0)
 
-  undoes-back : (gs : List Gate) (x : ℕ) → Within near Q gs → turns gs (turns (backOf gs) x) ≡ x
+  undoes-back : (gs : List Gate) (x : ℕ) → All (Inside near Q) gs → turns gs (turns (backOf gs) x) ≡ x
+  unfolding All
   undoes-back [] x h = refl
   undoes-back (Cnot c t ∷ gs) x h =
-      ap (λ (m : ℕ). turns gs (turn m c t)) (turns-append (backOf gs) (Cnot c t ∷ []) x) ∙ ap (turns gs) (turn-back (turns (backOf gs) x) c t (h .0 .2)) ∙ undoes-back gs x (h .1)
-  undoes-back (Rotation q a ∷ gs) x h = undoes-back gs x h
-  undoes-back (X q ∷ gs) x h = undoes-back gs x h
-  undoes-back (Bad ∷ gs) x h = undoes-back gs x h
+      ap (λ (m : ℕ). turns gs (turn c t m)) (turns-append (backOf gs) (Cnot c t ∷ []) x) ∙ ap (turns gs) (turn-back (turns (backOf gs) x) c t (h .0 .2)) ∙ undoes-back gs x (h .1)
+  undoes-back (Rotation q a ∷ gs) x h = undoes-back gs x (h .1)
+  undoes-back (X q ∷ gs) x h = absurd (h .0)
+  undoes-back (Bad ∷ gs) x h = absurd (h .0)
 
-  pub back-coupled : (gs : List Gate) → Within near Q gs → Coupled near Q (backOf gs)
+  pub back-coupled : (gs : List Gate) → All (Inside near Q) gs → All (Coupled near Q) (backOf gs)
+  unfolding All
   back-coupled [] h = tt
-  back-coupled (Cnot c t ∷ gs) h = coupled-append near Q (backOf gs) (Cnot c t ∷ []) (back-coupled gs (h .1)) (h .0, tt)
-  back-coupled (Rotation q a ∷ gs) h = back-coupled gs h
-  back-coupled (X q ∷ gs) h = back-coupled gs h
-  back-coupled (Bad ∷ gs) h = back-coupled gs h
+  back-coupled (Cnot c t ∷ gs) h = all-append (Coupled near Q) (backOf gs) (Cnot c t ∷ []) (back-coupled gs (h .1)) (h .0, tt)
+  back-coupled (Rotation q a ∷ gs) h = back-coupled gs (h .1)
+  back-coupled (X q ∷ gs) h = absurd (h .0)
+  back-coupled (Bad ∷ gs) h = absurd (h .0)
 
   -- ---- either closing, with any ending
 
   -- the ending from where the wires stand
-  pub onward-brings : (N C : List ℕ) (gs E : List Gate) → Within near Q gs → Ready Q N C → Ends near Q (map (turns gs) N) (map (turns (flip gs)) C) E → Brings near Q N gs E
-  onward-brings N C gs E h r d =
-      let e : Ended near Q (map (turns gs) N) E = ends-right (ready-turns near Q N C gs h r) d in
+  pub onward-brings : Q < 2 ^ 20 → (N C : List ℕ) (gs E : List Gate) → All (Inside near Q) gs → Ready Q N C → Ends near Q (map (turns gs) N) (map (turns (exchanged gs)) C) E → BringsHome near Q N gs E
+  onward-brings low N C gs E h r d =
+      let e : Ended near Q (map (turns gs) N) E = ends-right low (ready-turns near Q low N C gs h r) d in
       record {
         coupled = e .coupled;
         right = λ i k. turns-append gs E (getD N i 0) ∙ ap (turns E) (sym (row-turned gs N i)) ∙ e .right i k;
       }
 
   -- the laid CNOTs in reverse, then the ending from the start
-  pub back-brings : (N C : List ℕ) (gs E : List Gate) → Within near Q gs → Ready Q N C → Ends near Q N C E → Brings near Q N gs (backOf gs ++ E)
-  back-brings N C gs E h r d =
-      let e : Ended near Q N E = ends-right r d in
+  pub back-brings : Q < 2 ^ 20 → (N C : List ℕ) (gs E : List Gate) → All (Inside near Q) gs → Ready Q N C → Ends near Q N C E → BringsHome near Q N gs (backOf gs ++ E)
+  back-brings low N C gs E h r d =
+      let e : Ended near Q N E = ends-right low r d in
       record {
-        coupled = coupled-append near Q (backOf gs) E (back-coupled gs h) (e .coupled);
+        coupled = all-append (Coupled near Q) (backOf gs) E (back-coupled gs h) (e .coupled);
         right = λ i k. turns-append gs (backOf gs ++ E) (getD N i 0) ∙ turns-append (backOf gs) E (turns gs (getD N i 0))
             ∙ ap (turns E) (back-undoes gs (getD N i 0) h) ∙ e .right i k;
       }
 
   -- ---- gates on couplers inside Q are CNOTs on 20 qubits
 
-  coupled-good : Q < 2 ^ 20 → (L : List Gate) → Coupled near Q L → All (Good 20) L
+  coupled-good : Q < 2 ^ 20 → (L : List Gate) → All (Coupled near Q) L → All (Good 20) L
   unfolding All Good
   coupled-good low [] h = tt
   coupled-good low (Cnot c t ∷ gs) h = ((in-lt 20 Q c low (h .0 .0), in-lt 20 Q t low (h .0 .1), h .0 .2), coupled-good low gs (h .1))
-  coupled-good low (Rotation q a ∷ gs) h = absurd h
-  coupled-good low (X q ∷ gs) h = absurd h
-  coupled-good low (Bad ∷ gs) h = absurd h
+  coupled-good low (Rotation q a ∷ gs) h = absurd (h .0)
+  coupled-good low (X q ∷ gs) h = absurd (h .0)
+  coupled-good low (Bad ∷ gs) h = absurd (h .0)
 
-  coupled-rotations : (L : List Gate) → Coupled near Q L → tally oneRotation L ≡ 0
-  unfolding tally
+  coupled-rotations : (L : List Gate) → All (Coupled near Q) L → tally oneRotation L ≡ 0
+  unfolding All tally
   coupled-rotations [] h = refl
   coupled-rotations (Cnot c t ∷ gs) h = omega (arith, coupled-rotations gs (h .1))
-  coupled-rotations (Rotation q a ∷ gs) h = absurd h
-  coupled-rotations (X q ∷ gs) h = absurd h
-  coupled-rotations (Bad ∷ gs) h = absurd h
+  coupled-rotations (Rotation q a ∷ gs) h = absurd (h .0)
+  coupled-rotations (X q ∷ gs) h = absurd (h .0)
+  coupled-rotations (Bad ∷ gs) h = absurd (h .0)
 
-  coupled-cnots : (L : List Gate) → Coupled near Q L → tally oneCnot L ≡ length L
-  unfolding tally
+  coupled-cnots : (L : List Gate) → All (Coupled near Q) L → tally oneCnot L ≡ length L
+  unfolding All tally
   coupled-cnots [] h = refl
   coupled-cnots (Cnot c t ∷ gs) h = omega (arith, coupled-cnots gs (h .1))
-  coupled-cnots (Rotation q a ∷ gs) h = absurd h
-  coupled-cnots (X q ∷ gs) h = absurd h
-  coupled-cnots (Bad ∷ gs) h = absurd h
+  coupled-cnots (Rotation q a ∷ gs) h = absurd (h .0)
+  coupled-cnots (X q ∷ gs) h = absurd (h .0)
+  coupled-cnots (Bad ∷ gs) h = absurd (h .0)
 
 -- ---- rows and wires
 
@@ -124,15 +131,15 @@ module _ (near : List ℕ) (Q : ℕ) (low : Q < 2 ^ 20) (W : List ℕ) (size : l
   stood x f = comb-own 20 x W size (sub-lt x Q 20 f low) (λ i h. own i (f i h))
 
   -- rows that came to their own wires: every wire bears the parity asked for
-  pub wires-right : (N : List ℕ) (gs M : List Gate) → Within near Q gs → Brings near Q N gs M → (i : ℕ) → In i Q → Sub (getD N i 0) Q
+  pub wires-right : (N : List ℕ) (gs M : List Gate) → All (Inside near Q) gs → BringsHome near Q N gs M → (i : ℕ) → In i Q → Sub (getD N i 0) Q
       → getD (run (gs ++ M) W) i 0 ≡ getD N i 0
   wires-right N gs M h b i k f =
       let g : List Gate = gs ++ M in
       sym (comb-pow (run g W) i) ∙ ap (λ (m : ℕ). comb m (run g W)) (sym (b .right i k))
-      ∙ comb-turns near Q g (getD N i 0) W (within-append near Q gs M h (coupled-within near Q M (b .coupled))) reach ∙ stood (getD N i 0) f
+      ∙ comb-turns near Q low g (getD N i 0) W (all-append (Inside near Q) gs M h (coupled-inside near Q M (b .coupled))) reach ∙ stood (getD N i 0) f
 
   -- and the other way: a wire that bears the parity asked for has its row at home
-  row-home : (x : ℕ) (gs : List Gate) (i : ℕ) → Within near Q gs → In i Q → Sub x Q → getD (run gs W) i 0 ≡ x → turns gs x ≡ 2 ^ i
+  row-home : (x : ℕ) (gs : List Gate) (i : ℕ) → All (Inside near Q) gs → In i Q → Sub x Q → getD (run gs W) i 0 ≡ x → turns gs x ≡ 2 ^ i
   row-home x gs i h k f e =
       sym (xor-cancel (turns gs x) (2 ^ i)) ∙ ap (λ (m : ℕ). bitXor m (2 ^ i)) zero-y ∙ xor-zero-l (2 ^ i)
     where
@@ -145,15 +152,15 @@ module _ (near : List ℕ) (Q : ℕ) (low : Q < 2 ^ 20) (W : List ℕ) (size : l
       none : comb y (run gs W) ≡ 0
       none =
           comb-xor (run gs W) (turns gs x) (2 ^ i)
-          ∙ ap₂ bitXor (comb-turns near Q gs x W h reach ∙ stood x f) (comb-pow (run gs W) i ∙ e) ∙ xor-self x
+          ∙ ap₂ bitXor (comb-turns near Q low gs x W h reach ∙ stood x f) (comb-pow (run gs W) i ∙ e) ∙ xor-self x
 
       z : ℕ
       z = turns (backOf gs) y
 
       zero-z : z ≡ 0
       zero-z =
-          sym (stood z (turns-sub near Q (backOf gs) y (coupled-within near Q (backOf gs) (back-coupled near Q gs h)) sub-y))
-          ∙ sym (comb-turns near Q gs z W h reach) ∙ ap (λ (m : ℕ). comb m (run gs W)) (undoes-back near Q gs y h) ∙ none
+          sym (stood z (turns-sub near Q (backOf gs) y (coupled-inside near Q (backOf gs) (back-coupled near Q gs h)) sub-y))
+          ∙ sym (comb-turns near Q low gs z W h reach) ∙ ap (λ (m : ℕ). comb m (run gs W)) (undoes-back near Q gs y h) ∙ none
 
       zero-y : y ≡ 0
       zero-y = sym (undoes-back near Q gs y h) ∙ ap (turns gs) zero-z ∙ turns-zero gs
@@ -172,23 +179,18 @@ mirror-home Q N C r own j h =
 
 -- ---- the definition
 
-module _ (near : List ℕ) (Q : ℕ) (N C : List ℕ) (gs : List Gate) (sy : Symm near) (low : Q < 2 ^ 20) (j : Joined near Q) (r : Ready Q N C) (h : Within near Q gs) where
-  rows-played : onwardOf near Q N C gs ≡ endingOf near Q (map (turns gs) N) (map (turns (flip gs)) C)
+module _ (near : List ℕ) (Q : ℕ) (N C : List ℕ) (gs : List Gate) (sy : Symm near) (low : Q < 2 ^ 20) (j : Joined near Q) (r : Ready Q N C) (h : All (Inside near Q) gs) where
+  onward-ends : Ends near Q (map (turns gs) N) (map (turns (exchanged gs)) C) (onwardOf near Q N C gs)
   unfolding onwardOf
-  rows-played = ap₂ (endingOf near Q) (all-played near Q low gs N h) (all-played near Q low (flip gs) C (flip-within near Q sy gs h))
+  onward-ends = ending-ends near Q (map (turns gs) N) (map (turns (exchanged gs)) C) sy low j (ready-turns near Q low N C gs h r)
 
-  onward-ends : Ends near Q (map (turns gs) N) (map (turns (flip gs)) C) (onwardOf near Q N C gs)
-  onward-ends =
-      subst (Ends near Q (map (turns gs) N) (map (turns (flip gs)) C)) (sym rows-played)
-      (ending-ends near Q (map (turns gs) N) (map (turns (flip gs)) C) sy low j (ready-turns near Q N C gs h r))
-
-  closing-brings : Brings near Q N gs (closingOf near Q N C gs)
+  closing-brings : BringsHome near Q N gs (closingOf near Q N C gs)
   unfolding closingOf backFirst
   closing-brings = go (ltb (length (backFirst near Q N C gs)) (length (onwardOf near Q N C gs)))
     where
-      go : (b : Bool) → Brings near Q N gs (pick b (backFirst near Q N C gs) (onwardOf near Q N C gs))
-      go true = back-brings near Q N C gs (endingOf near Q N C) h r (ending-ends near Q N C sy low j r)
-      go false = onward-brings near Q N C gs (onwardOf near Q N C gs) h r onward-ends
+      go : (b : Bool) → BringsHome near Q N gs (pick b (backFirst near Q N C gs) (onwardOf near Q N C gs))
+      go true = back-brings near Q low N C gs (endingOf near Q N C) h r (ending-ends near Q N C sy low j r)
+      go false = onward-brings near Q low N C gs (onwardOf near Q N C gs) h r onward-ends
 
   -- "onward in a tie, so the bound holds"
   closing-least : length (closingOf near Q N C gs) ≤ length (onwardOf near Q N C gs)
@@ -203,7 +205,7 @@ module _ (near : List ℕ) (Q : ℕ) (N C : List ℕ) (gs : List Gate) (sy : Sym
   closing-still : ((i : ℕ) → In i Q → turns gs (getD N i 0) ≡ 2 ^ i) → closingOf near Q N C gs ≡ []
   closing-still own =
       let at : (i : ℕ) → In i Q → getD (map (turns gs) N) i 0 ≡ 2 ^ i = λ i k. row-turned gs N i ∙ own i k in
-      let e : onwardOf near Q N C gs ≡ [] = ends-none onward-ends at (mirror-home Q (map (turns gs) N) (map (turns (flip gs)) C) (ready-turns near Q N C gs h r) at) in
+      let e : onwardOf near Q N C gs ≡ [] = ends-none onward-ends at (mirror-home Q (map (turns gs) N) (map (turns (exchanged gs)) C) (ready-turns near Q low N C gs h r) at) in
       empty (closingOf near Q N C gs) (omega (arith, closing-least, ap length e))
     where
       empty : (l : List Gate) → length l ≤ 0 → l ≡ []
@@ -217,7 +219,7 @@ module _ (near : List ℕ) (Q : ℕ) (N C : List ℕ) (gs : List Gate) (sy : Sym
       record {
         coupled = b .coupled;
         right = λ W size own i k. wires-right near Q low W size own N gs M h b i k (r .rows i k);
-        others = λ W i z. wires-out near Q (gs ++ M) W i (within-append near Q gs M h (coupled-within near Q M (b .coupled))) z;
+        others = λ W i z. outside-keeps near Q i z (gs ++ M) W (all-append (Inside near Q) gs M h (coupled-inside near Q M (b .coupled)));
         good = coupled-good near Q low M (b .coupled);
         rotations = coupled-rotations near Q M (b .coupled);
         cnots = coupled-cnots near Q M (b .coupled);
@@ -228,8 +230,8 @@ module _ (near : List ℕ) (Q : ℕ) (N C : List ℕ) (gs : List Gate) (sy : Sym
       M : List Gate
       M = closingOf near Q N C gs
 
-      b : Brings near Q N gs M
+      b : BringsHome near Q N gs M
       b = closing-brings
 
       e : Ended near Q (map (turns gs) N) (onwardOf near Q N C gs)
-      e = ends-right (ready-turns near Q N C gs h r) onward-ends
+      e = ends-right low (ready-turns near Q low N C gs h r) onward-ends

@@ -4,7 +4,7 @@ pub mod Endings
 pub mod Choice
 pub mod Closings
 pub mod Mirrors
-pub mod Playing
+pub mod Loops
 pub mod Writing
 pub mod Choosing
 pub mod Recursion

@@ -20,11 +20,11 @@ use Rattle.gates.specs.declared.gate.Gate.{Gate}
 use Rattle.gates.specs.declared.gate.Gate.the-variants.{Cnot, Rotation, X, Bad}
 use Rattle.gates.specs.Layout.{Good}
 use Rattle.circuit.specs.Circuit.{step, run, start, finalOf}
-use Rattle.gates.specs.All.{All}
-use Rattle.gates.proofs.Alls.{all-map}
+use Rattle.sets.specs.Lists.{All}
+use Rattle.sets.proofs.Lists.{all-map}
 use Rattle.circuit.proofs.Steps.{cnot-target, cnot-other, step-length}
 use Rattle.circuit.proofs.Circuits.{run-length, start-length, final-is, start-at}
-use Rattle.gathering.specs.Gather.{turns, flip}
+use Rattle.gathering.specs.Gather.{turns, exchanged}
 use Rattle.ending.specs.Mirror.{mirrorsOf, mirrorOf, Bordered}
 use Rattle.ending.specs.Ends.{Ready}
 use Rattle.gathering.proofs.OrderParts.{bits-lt}
@@ -84,7 +84,7 @@ paired-cnot n W D c t ne hc ht lw ld r =
         ∙ omega (arith, r .nul i t h ht (λ z. e (sym z)), ap (λ (m : ℕ). o i m) f, r .nul i j h k g)
     apart i j h k g (no e) (no q) = ap₂ dot (Wo i e) (Do j q) ∙ r .nul i j h k g
 
-paired-run : (gs : List Gate) (W D : List ℕ) → length W ≡ 20 → length D ≡ 20 → All (Good 20) gs → Paired 20 W D → Paired 20 (run gs W) (run (flip gs) D)
+paired-run : (gs : List Gate) (W D : List ℕ) → length W ≡ 20 → length D ≡ 20 → All (Good 20) gs → Paired 20 W D → Paired 20 (run gs W) (run (exchanged gs) D)
 unfolding All Good run step
 paired-run [] W D lw ld g p = p
 paired-run (Cnot c t ∷ gs) W D lw ld g p =
@@ -117,7 +117,7 @@ comb-good : (gs : List Gate) (x : ℕ) (W : List ℕ) → length W ≡ 20 → Al
 unfolding All Good run step
 comb-good [] x W l g = refl
 comb-good (Cnot c t ∷ gs) x W l g =
-    comb-good gs (turn x c t) (cnot c t W) (step-length (Cnot c t) W ∙ l) (g .1) ∙ comb-turn W x c t (g .0 .2) (omega (arith, l, g .0 .1))
+    comb-good gs (turn c t x) (cnot c t W) (step-length (Cnot c t) W ∙ l) (g .1) ∙ comb-turn W x c t (omega (arith, g .0 .0)) (g .0 .2) (omega (arith, l, g .0 .1))
 comb-good (Rotation q a ∷ gs) x W l g = comb-good gs x W l (g .1)
 comb-good (X q ∷ gs) x W l g = comb-good gs x W l (g .1)
 comb-good (Bad ∷ gs) x W l g = absurd (g .0)
@@ -173,7 +173,7 @@ small-start i = at (decLt i 20)
 
 pub mirror-small : (gs : List Gate) (j : ℕ) → mirrorOf gs j < 2 ^ 20
 unfolding mirrorOf mirrorsOf Small
-mirror-small gs j = small-run (flip gs) start small-start j
+mirror-small gs j = small-run (exchanged gs) start small-start j
 
 -- ---- the mirror is determined by the final parities
 

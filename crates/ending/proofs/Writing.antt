@@ -15,8 +15,8 @@ use Rattle.circuit.specs.Circuit.{run}
 use Rattle.circuit.proofs.Circuits.{run-append}
 use Rattle.emitting.specs.Emit.{emit, emitAt}
 use Rattle.emitting.proofs.Emitting.{emit-none, emit-at-none, emit-append, emit-at-append}
-use Rattle.gathering.specs.Gather.{flip, cnotsIn}
-use Rattle.gathering.proofs.GatherCode.{cnots-step, cnots-none}
+use Rattle.gathering.specs.Gather.{exchanged, cnotsFrom}
+use Rattle.gathering.proofs.GatherCode.{cnots-from-step, cnots-from-none}
 use Rattle.ending.specs.Closing.{backOf}
 use Rattle.ending.specs.Mirror.{mirrorsOf}
 
@@ -59,14 +59,14 @@ written-none out at gs e = (sym (ap (emit out at) e ∙ emit-none out at), sym (
 
 -- ---- moves of an array
 
-pub moves-more : (to by : List ℕ) (n i : ℕ) → i < n → cnotsIn to by i (n - i) ≡ (Cnot (getD to i 0) (getD by i 0) ∷ []) ++ cnotsIn to by (i + 1) (n - (i + 1))
-moves-more to by n i l = ap (cnotsIn to by i) (omega arith) ∙ cnots-step to by i (n - (i + 1))
+pub moves-more : (to by : List ℕ) (n i : ℕ) → i < n → cnotsFrom to by i (n - i) ≡ (Cnot (getD to i 0) (getD by i 0) ∷ []) ++ cnotsFrom to by (i + 1) (n - (i + 1))
+moves-more to by n i l = ap (cnotsFrom to by i) (omega arith) ∙ cnots-from-step to by i (n - (i + 1))
 
-pub moves-done : (to by : List ℕ) (n i : ℕ) → n ≤ i → cnotsIn to by i (n - i) ≡ []
-moves-done to by n i l = ap (cnotsIn to by i) (omega arith) ∙ cnots-none to by i
+pub moves-done : (to by : List ℕ) (n i : ℕ) → n ≤ i → cnotsFrom to by i (n - i) ≡ []
+moves-done to by n i l = ap (cnotsFrom to by i) (omega arith) ∙ cnots-from-none to by i
 
-pub moves-all : (to by : List ℕ) (n : ℕ) → cnotsIn to by 0 (n - 0) ≡ cnotsIn to by 0 n
-moves-all to by n = ap (cnotsIn to by 0) (omega arith)
+pub moves-all : (to by : List ℕ) (n : ℕ) → cnotsFrom to by 0 (n - 0) ≡ cnotsFrom to by 0 n
+moves-all to by n = ap (cnotsFrom to by 0) (omega arith)
 
 -- ---- CNOTs in reverse
 
@@ -129,26 +129,26 @@ module _ (laid : List ℕ) where
 
 -- ---- the mirror
 
-flip-cons : (g : Gate) (gs : List Gate) → flip (g ∷ gs) ≡ flip (g ∷ []) ++ flip gs
-flip-cons (Cnot c t) gs = refl
-flip-cons (Rotation q a) gs = refl
-flip-cons (X q) gs = refl
-flip-cons Bad gs = refl
+exchanged-cons : (g : Gate) (gs : List Gate) → exchanged (g ∷ gs) ≡ exchanged (g ∷ []) ++ exchanged gs
+exchanged-cons (Cnot c t) gs = refl
+exchanged-cons (Rotation q a) gs = refl
+exchanged-cons (X q) gs = refl
+exchanged-cons Bad gs = refl
 
 module _ (n : ℕ) (gates : List ℕ) where
-  pub mirror-start : (w : Wires) → w ≡ wiresOf [] → run (flip (gatesOf n gates)) (w .parity) ≡ mirrorsOf (gatesOf n gates)
+  pub mirror-start : (w : Wires) → w ≡ wiresOf [] → run (exchanged (gatesOf n gates)) (w .parity) ≡ mirrorsOf (gatesOf n gates)
   unfolding mirrorsOf wiresOf run
-  mirror-start w e = ap (λ (u : Wires). run (flip (gatesOf n gates)) (u .parity)) e
+  mirror-start w e = ap (λ (u : Wires). run (exchanged (gatesOf n gates)) (u .parity)) e
 
-  pub mirror-next : (i : ℕ) (all next : List ℕ) (g : Gate) → i < length gates → g ≡ gateOf n (getD gates i 0) → next ≡ run (flip (g ∷ [])) all
-      → run (flip (gatesOf n (drop i gates))) all ≡ mirrorsOf (gatesOf n gates) → run (flip (gatesOf n (drop (i + 1) gates))) next ≡ mirrorsOf (gatesOf n gates)
+  pub mirror-next : (i : ℕ) (all next : List ℕ) (g : Gate) → i < length gates → g ≡ gateOf n (getD gates i 0) → next ≡ run (exchanged (g ∷ [])) all
+      → run (exchanged (gatesOf n (drop i gates))) all ≡ mirrorsOf (gatesOf n gates) → run (exchanged (gatesOf n (drop (i + 1) gates))) next ≡ mirrorsOf (gatesOf n gates)
   mirror-next i all next g l e en h =
-      ap (run (flip (gatesOf n (drop (i + 1) gates)))) en
-      ∙ sym (run-append (flip (g ∷ [])) (flip (gatesOf n (drop (i + 1) gates))) all)
-      ∙ ap (λ (l : List Gate). run l all) (sym (flip-cons g (gatesOf n (drop (i + 1) gates))))
-      ∙ ap (λ (x : Gate). run (flip (x ∷ gatesOf n (drop (i + 1) gates))) all) e
-      ∙ ap (λ (xs : List ℕ). run (flip (gatesOf n xs)) all) (sym (next-drop gates i l)) ∙ h
+      ap (run (exchanged (gatesOf n (drop (i + 1) gates)))) en
+      ∙ sym (run-append (exchanged (g ∷ [])) (exchanged (gatesOf n (drop (i + 1) gates))) all)
+      ∙ ap (λ (l : List Gate). run l all) (sym (exchanged-cons g (gatesOf n (drop (i + 1) gates))))
+      ∙ ap (λ (x : Gate). run (exchanged (x ∷ gatesOf n (drop (i + 1) gates))) all) e
+      ∙ ap (λ (xs : List ℕ). run (exchanged (gatesOf n xs)) all) (sym (next-drop gates i l)) ∙ h
 
-  pub mirror-end : (i : ℕ) (all : List ℕ) → length gates ≤ i → run (flip (gatesOf n (drop i gates))) all ≡ mirrorsOf (gatesOf n gates) → all ≡ mirrorsOf (gatesOf n gates)
+  pub mirror-end : (i : ℕ) (all : List ℕ) → length gates ≤ i → run (exchanged (gatesOf n (drop i gates))) all ≡ mirrorsOf (gatesOf n gates) → all ≡ mirrorsOf (gatesOf n gates)
   unfolding run
-  mirror-end i all l h = sym (ap (λ (xs : List ℕ). run (flip (gatesOf n xs)) all) (drop-of-length-le gates l)) ∙ h
+  mirror-end i all l h = sym (ap (λ (xs : List ℕ). run (exchanged (gatesOf n xs)) all) (drop-of-length-le gates l)) ∙ h

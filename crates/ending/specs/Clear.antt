@@ -1,45 +1,63 @@
 -- One qubit is taken out of the island: its row and its mirror row are cleared (document 01, "taking one qubit out of the island"; docs/LAYING.md).
-use mathlib.Core.Bool.{Bool}
-use mathlib.Core.List.{List, _++_}
-use Prim.Native.Nat.{ℕ, zero, suc, _+_, _/_, _%_}
-use lib.Dec.{eqb, ltb}
+use mathlib.Core.Bool.{Bool, true, false, not}
+use mathlib.Core.List.{List, [], _∷_, _++_}
+use Prim.Native.Nat.{ℕ, zero, suc, _+_}
+use lib.Dec.{ltb}
 use lib.ListN.{getD, length}
-use Rattle.sets.specs.Pick.{pick, both}
+use Rattle.sets.specs.Pick.{pick}
 use Rattle.spares.specs.Spare.{spareOf}
+use Rattle.gates.specs.Limits.{mostQubits}
 use Rattle.gates.specs.declared.gate.Gate.{Gate}
-use Rattle.gathering.specs.Gather.{flip, gatherOf}
-use Rattle.ending.specs.Rows.{played}
+use Rattle.gathering.specs.Gather.{exchanged, gatherOf, turns}
+use Rattle.ending.specs.declared.clearing.Clearing.{Clearing}
+use Rattle.ending.specs.declared.clearing.Best.{Best}
+use Rattle.ending.specs.declared.clearing.Best.the-variants.{Nothing, Take}
+use Rattle.ending.specs.Mirror.{seen}
 
--- "clear rows at v": N_v, here x, is gathered at v. Then the mirror row y is cleared as the first moves left it
-unfoldable pub followOf : List ℕ → ℕ → ℕ → ℕ → ℕ → List Gate
-followOf near Q v x y = gatherOf near Q v (played (flip (gatherOf near Q v x)) y)
+-- ---- the CNOTs of a choice
 
--- a move "u by p" on the mirror rows is CNOT p,u
-unfoldable pub rowsFirst : List ℕ → ℕ → ℕ → ℕ → ℕ → List Gate
-rowsFirst near Q v x y = gatherOf near Q v x ++ flip (followOf near Q v x y)
+-- the asked row of v, or its mirror row
+unfoldable pub rowAt : List ℕ → List ℕ → ℕ → Bool → ℕ
+rowAt N C v b = pick b (getD C v 0) (getD N v 0)
 
-unfoldable pub mirrorFirst : List ℕ → ℕ → ℕ → ℕ → ℕ → List Gate
-mirrorFirst near Q v x y = flip (gatherOf near Q v y) ++ followOf near Q v y x
+-- "clear rows at v": N_v is gathered at v, or the mirror row of v where that one comes first
+unfoldable pub firstMoves : List ℕ → ℕ → List ℕ → List ℕ → Clearing → List Gate
+firstMoves near Q N C ch = gatherOf near Q (ch .qubit) (rowAt N C (ch .qubit) (ch .mirrored))
 
--- the choices: 2 v is rows first at v, 2 v + 1 mirror first
-unfoldable pub outOf : List ℕ → ℕ → List ℕ → List ℕ → ℕ → List Gate
-outOf near Q N C k =
-    pick (eqb (k % 2) 0) (rowsFirst near Q (k / 2) (getD N (k / 2) 0) (getD C (k / 2) 0)) (mirrorFirst near Q (k / 2) (getD N (k / 2) 0) (getD C (k / 2) 0))
+-- then the other one as those moves left it
+unfoldable pub secondMoves : List ℕ → ℕ → List ℕ → List ℕ → Clearing → List Gate
+secondMoves near Q N C ch = gatherOf near Q (ch .qubit) (turns (exchanged (firstMoves near Q N C ch)) (rowAt N C (ch .qubit) (not (ch .mirrored))))
 
--- its first part and its second
-unfoldable pub leadOf : List ℕ → ℕ → List ℕ → List ℕ → ℕ → List Gate
-leadOf near Q N C k = pick (eqb (k % 2) 0) (gatherOf near Q (k / 2) (getD N (k / 2) 0)) (flip (gatherOf near Q (k / 2) (getD C (k / 2) 0)))
+-- all its CNOTs: a move "u by p" on the mirror rows is CNOT p,u
+unfoldable pub outOf : List ℕ → ℕ → List ℕ → List ℕ → Clearing → List Gate
+outOf near Q N C ch = seen (ch .mirrored) (firstMoves near Q N C ch ++ exchanged (secondMoves near Q N C ch))
 
-unfoldable pub trailOf : List ℕ → ℕ → List ℕ → List ℕ → ℕ → List Gate
-trailOf near Q N C k =
-    pick (eqb (k % 2) 0) (flip (followOf near Q (k / 2) (getD N (k / 2) 0) (getD C (k / 2) 0))) (followOf near Q (k / 2) (getD C (k / 2) 0) (getD N (k / 2) 0))
+-- how many they are
+unfoldable pub costOf : List ℕ → ℕ → List ℕ → List ℕ → Clearing → ℕ
+costOf near Q N C ch = length (outOf near Q N C ch)
 
--- the cheapest of the d numbers from r on: the one with the property and least cost, the first in a tie. So far it is b, of cost w
-unfoldable pub leastFrom : (ℕ → Bool) → (ℕ → ℕ) → ℕ → ℕ → ℕ → ℕ → ℕ
-leastFrom ok cost zero r b w = b
-leastFrom ok cost (suc d) r b w =
-    leastFrom ok cost d (r + 1) (pick (both (ok r) (ltb (cost r) w)) r b) (pick (both (ok r) (ltb (cost r) w)) (cost r) w)
+-- ---- the cheapest choice
 
--- "over the spare qubits v of Q ascending and the two orders, the one with fewest CNOTs, the first in a tie"; 40 where there is no spare qubit
-unfoldable pub cheapestOf : List ℕ → ℕ → List ℕ → List ℕ → ℕ
-cheapestOf near Q N C = leastFrom (λ k. spareOf near Q (k / 2)) (λ k. length (outOf near Q N C k)) 40 0 40 77
+-- both orders at v, where it can be spared: rows first, then mirror first
+unfoldable pub choicesAt : List ℕ → ℕ → ℕ → List Clearing
+choicesAt near Q v =
+    pick (spareOf near Q v) (record { qubit = v; mirrored = false } ∷ record { qubit = v; mirrored = true } ∷ []) []
+
+-- and at each of the d qubits from v on
+unfoldable pub choicesFrom : List ℕ → ℕ → ℕ → ℕ → List Clearing
+choicesFrom near Q zero v = []
+choicesFrom near Q (suc d) v = choicesAt near Q v ++ choicesFrom near Q d (v + 1)
+
+-- ch, of n CNOTs, if that is fewer than the best one so far has; else that one
+abbrev pub cheaperOf : Clearing → ℕ → Best → Best
+cheaperOf ch n Nothing = Take ch n
+cheaperOf ch n (Take best m) = pick (ltb n m) (Take ch n) (Take best m)
+
+-- the cheapest of the choices, the first in a tie, where b is the best one so far
+unfoldable pub cheapestIn : (Clearing → ℕ) → Best → List Clearing → Best
+cheapestIn cost b [] = b
+cheapestIn cost b (ch ∷ chs) = cheapestIn cost (cheaperOf ch (cost ch) b) chs
+
+-- "over the spare qubits v of Q ascending and the two orders, the one with fewest CNOTs, the first in a tie"
+unfoldable pub cheapestOf : List ℕ → ℕ → List ℕ → List ℕ → Best
+cheapestOf near Q N C = cheapestIn (costOf near Q N C) Nothing (choicesFrom near Q mostQubits 0)

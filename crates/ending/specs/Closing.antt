@@ -1,6 +1,6 @@
 -- The ending and the closing of an island (document 01, "An ending of CNOTs brings the wires to the asked parities"; docs/LAYING.md).
 use mathlib.Core.List.{List, [], _∷_, _++_, map}
-use Prim.Native.Nat.{ℕ, zero, suc, _-_, _/_}
+use Prim.Native.Nat.{ℕ, zero, suc, _-_}
 use lib.Bits.{bitXor}
 use lib.Dec.{ltb}
 use lib.ListN.{length}
@@ -8,18 +8,24 @@ use Rattle.sets.specs.Pick.{pick}
 use Rattle.sets.specs.Size.{sizeOf, onlyOf}
 use Rattle.gates.specs.declared.gate.Gate.{Gate}
 use Rattle.gates.specs.declared.gate.Gate.the-variants.{Cnot, Rotation, X, Bad}
-use Rattle.gathering.specs.Gather.{flip}
-use Rattle.ending.specs.Rows.{played}
+use Rattle.gathering.specs.Gather.{exchanged, turns}
+use Rattle.ending.specs.declared.clearing.Clearing.{Clearing}
+use Rattle.ending.specs.declared.clearing.Best.{Best}
+use Rattle.ending.specs.declared.clearing.Best.the-variants.{Nothing, Take}
 use Rattle.ending.specs.Clear.{outOf, cheapestOf}
+
+-- what the choice that is taken asks for; nothing where there is none
+abbrev pub taking : Best → (Clearing → List Gate) → List Gate
+taking Nothing f = []
+taking (Take ch n) f = f ch
 
 -- "taking one qubit out of the island and then doing the same for what remains": f qubits are taken out of Q
 unfoldable pub endingFrom : List ℕ → ℕ → ℕ → List ℕ → List ℕ → List Gate
 endingFrom near zero Q N C = []
 endingFrom near (suc f) Q N C =
-    let k = cheapestOf near Q N C in
-    let L = outOf near Q N C k in
-    let rest = endingFrom near f (bitXor Q (onlyOf (k / 2))) (map (played L) N) (map (played (flip L)) C) in
-    pick (ltb k 40) (L ++ rest) []
+    taking (cheapestOf near Q N C) λ ch.
+    let L = outOf near Q N C ch in
+    L ++ endingFrom near f (bitXor Q (onlyOf (ch .qubit))) (map (turns L) N) (map (turns (exchanged L)) C)
 
 -- "one member left: done"
 unfoldable pub endingOf : List ℕ → ℕ → List ℕ → List ℕ → List Gate
@@ -27,7 +33,7 @@ endingOf near Q N C = endingFrom near (sizeOf Q - 1) Q N C
 
 -- from where the wires stand after the gates gs
 unfoldable pub onwardOf : List ℕ → ℕ → List ℕ → List ℕ → List Gate → List Gate
-onwardOf near Q N C gs = endingOf near Q (map (played gs) N) (map (played (flip gs)) C)
+onwardOf near Q N C gs = endingOf near Q (map (turns gs) N) (map (turns (exchanged gs)) C)
 
 -- the CNOTs of gs in reverse
 abbrev pub backOf : List Gate → List Gate

@@ -13,9 +13,11 @@ use Rattle.chip.specs.Graph.{Joined}
 use Rattle.gates.specs.declared.gate.Gate.{Gate}
 use Rattle.gates.specs.Layout.{Good}
 use Rattle.circuit.specs.Circuit.{run}
-use Rattle.gates.specs.All.{All}
+use Rattle.sets.specs.Lists.{All}
+use Rattle.gates.specs.Limits.{mostQubits}
 use Rattle.tallies.specs.Tally.{cnotsOf, rotationsOf}
-use Rattle.gathering.specs.Gather.{turns, flip, Coupled}
+use Rattle.chip.specs.Inside.{Coupled}
+use Rattle.gathering.specs.Gather.{turns, exchanged}
 
 -- asked rows N and mirror rows C of the island Q: inside it, and row i meets mirror row j in an odd number of wires exactly where i is j
 pub record Ready (Q : ℕ) (N C : List ℕ) : Type 0 where
@@ -26,17 +28,17 @@ pub record Ready (Q : ℕ) (N C : List ℕ) : Type 0 where
 
 -- the CNOTs L bring row and mirror row of v to {v}
 pub record TakesOut (near : List ℕ) (Q v : ℕ) (N C : List ℕ) (L : List Gate) : Type 0 where
-  pub coupled : Coupled near Q L
+  pub coupled : All (Coupled near Q) L
   pub short : length L + 4 ≤ 4 * ones Q
   pub row : turns L (getD N v 0) ≡ 2 ^ v
-  pub mirror : turns (flip L) (getD C v 0) ≡ 2 ^ v
+  pub mirror : turns (exchanged L) (getD C v 0) ≡ 2 ^ v
   pub still : getD N v 0 ≡ 2 ^ v → getD C v 0 ≡ 2 ^ v → L ≡ []
 
 -- "An ending of CNOTs": qubit after qubit is taken out until one is left, any spare qubit by any such list
 pub data Ends (near : List ℕ) : ℕ → List ℕ → List ℕ → List Gate → Type 0 where
   last : {Q : ℕ} {N C : List ℕ} {R : List Gate} → ones Q ≤ 1 → R ≡ [] → Ends near Q N C R
   out : {Q : ℕ} {N C : List ℕ} {R : List Gate} (v : ℕ) (L M : List Gate) → In v Q → Joined near (bitXor Q (2 ^ v)) → TakesOut near Q v N C L
-      → Ends near (bitXor Q (2 ^ v)) (map (turns L) N) (map (turns (flip L)) C) M → R ≡ L ++ M → Ends near Q N C R
+      → Ends near (bitXor Q (2 ^ v)) (map (turns L) N) (map (turns (exchanged L)) C) M → R ≡ L ++ M → Ends near Q N C R
 
 -- 4 (n - 1) + .. + 4
 abbrev pub spent : ℕ → ℕ
@@ -45,18 +47,18 @@ spent (suc n) = spent n + 4 * n
 
 -- what every ending does: each row of Q comes to its own wire
 pub record Ended (near : List ℕ) (Q : ℕ) (N : List ℕ) (L : List Gate) : Type 0 where
-  pub coupled : Coupled near Q L
+  pub coupled : All (Coupled near Q) L
   pub short : length L ≤ spent (ones Q)
   pub right : (i : ℕ) → In i Q → turns L (getD N i 0) ≡ 2 ^ i
 
 -- what the closing M of an island Q does behind the gates gs that were laid on it: N has the parities asked for
 pub record Closes (near : List ℕ) (Q : ℕ) (N : List ℕ) (gs M : List Gate) : Type 0 where
-  pub coupled : Coupled near Q M
-  pub right : (W : List ℕ) → length W ≡ 20 → ((i : ℕ) → In i Q → getD W i 0 ≡ 2 ^ i) → (i : ℕ) → In i Q → getD (run (gs ++ M) W) i 0 ≡ getD N i 0
+  pub coupled : All (Coupled near Q) M
+  pub right : (W : List ℕ) → length W ≡ mostQubits → ((i : ℕ) → In i Q → getD W i 0 ≡ 2 ^ i) → (i : ℕ) → In i Q → getD (run (gs ++ M) W) i 0 ≡ getD N i 0
   pub others : (W : List ℕ) (i : ℕ) → bit Q i ≡ 0 → getD (run (gs ++ M) W) i 0 ≡ getD W i 0
-  pub good : All (Good 20) M
+  pub good : All (Good mostQubits) M
   pub rotations : rotationsOf M ≡ 0
   pub cnots : cnotsOf M ≡ length M
   pub short : length M ≤ 2 * (sizeOf Q * (sizeOf Q - 1))
-  pub still : (W : List ℕ) → length W ≡ 20 → ((i : ℕ) → In i Q → getD W i 0 ≡ 2 ^ i)
+  pub still : (W : List ℕ) → length W ≡ mostQubits → ((i : ℕ) → In i Q → getD W i 0 ≡ 2 ^ i)
       → ((i : ℕ) → In i Q → getD (run gs W) i 0 ≡ getD N i 0) → M ≡ []

@@ -1,4 +1,3 @@
-pub mod Rows
 pub mod Mirror
 pub mod Clear
 pub mod Held

@@ -1,5 +1,7 @@
 // The ending of an island, and its closing behind what was laid on it.
 use crate::clearing;
+use crate::clearing::Best;
+use crate::clearing::Clearing;
 use crate::rows;
 use emitting::emit;
 use gates::gate;
@@ -12,13 +14,13 @@ ghost use Prim.Native.Nat.{_≤_, _<_};
 ghost use lib.Dec.{ltb};
 ghost use lib.ListN.{length};
 ghost use Rattle.gates.specs.Layout.{gatesOf};
-ghost use Rattle.emitting.specs.Emit.{emit, emitAt};
-ghost use Rattle.gathering.specs.Gather.{cnotsIn};
+ghost use Rattle.emitting.specs.Emit.{Emits};
+ghost use Rattle.gathering.specs.Gather.{cnotsFrom, mostMoves};
 ghost use Rattle.ending.specs.Clear.{outOf};
 ghost use Rattle.ending.specs.Closing.{endingOf, backOf, backFirst, closingOf};
 
-// What 31 qubits taken out, each by 76 CNOTs, would lay.
-const ROOM: usize = 2356;
+// What 31 qubits taken out, each by two gatherings, would lay.
+const ROOM: usize = 31 * 2 * gather::MOST;
 
 fn put_moves(
     out: &mut [u32],
@@ -27,8 +29,8 @@ fn put_moves(
     by: [usize; gather::MOST],
     n: usize,
 ) -> usize
-    requires { ⌜ n ≤ 38 ⌝ }
-    ensures { λ r. ⌜ (now (out .exit) ≡ emit (now (out .entry)) at (cnotsIn to by 0 n)) × (r ≡ emitAt (now (out .entry)) at (cnotsIn to by 0 n)) ⌝ }
+    requires { ⌜ n ≤ mostMoves ⌝ }
+    ensures { λ r. ⌜ Emits (now (out .entry)) at (cnotsFrom to by 0 n) (now (out .exit)) r ⌝ }
 {
     let mut next = at;
     for i in 0..n {
@@ -37,24 +39,24 @@ fn put_moves(
     next
 }
 
-// Choice k is laid.
+// A choice is laid.
 fn put_out(
     near: [u32; Job::QUBITS],
     set: u32,
     asked: [u32; Job::QUBITS],
     mirror: [u32; Job::QUBITS],
-    k: usize,
+    choice: Clearing,
     out: &mut [u32],
     at: usize,
 ) -> usize
-    requires { ⌜ k < 40 ⌝ }
-    ensures { λ r. ⌜ (now (out .exit) ≡ emit (now (out .entry)) at (outOf near set asked mirror k)) × (r ≡ emitAt (now (out .entry)) at (outOf near set asked mirror k)) ⌝ }
+    requires { ⌜ choice .qubit < 20 ⌝ }
+    ensures { λ r. ⌜ Emits (now (out .entry)) at (outOf near set asked mirror choice) (now (out .exit)) r ⌝ }
 {
-    let first = clearing::lead(near, set, asked, mirror, k);
+    let first = clearing::lead(near, set, asked, mirror, choice);
     let to = first.to;
     let by = first.by;
     let mid = put_moves(out, at, to, by, first.len);
-    let second = clearing::trail(near, set, asked, mirror, k);
+    let second = clearing::trail(near, set, asked, mirror, choice);
     let to_then = second.to;
     let by_then = second.by;
     put_moves(out, mid, to_then, by_then, second.len)
@@ -69,27 +71,28 @@ fn ending(
     out: &mut [u32],
     at: usize,
 ) -> usize
-    ensures { λ r. ⌜ (now (out .exit) ≡ emit (now (out .entry)) at (endingOf near set asked mirror)) × (r ≡ emitAt (now (out .entry)) at (endingOf near set asked mirror)) ⌝ }
+    ensures { λ r. ⌜ Emits (now (out .entry)) at (endingOf near set asked mirror) (now (out .exit)) r ⌝ }
 {
     if sets::size(set) < 2 {
         return at;
     }
-    let k = clearing::cheapest(near, set, asked, mirror);
-    if clearing::CHOICES <= k {
-        return at;
+    match clearing::cheapest(near, set, asked, mirror) {
+        Best::Nothing => at,
+        Best::Take { choice, cost: _ } => {
+            let next = put_out(near, set, asked, mirror, choice, out, at);
+            let rest = clearing::taken(near, set, asked, mirror, choice);
+            let asked_rest = rest.asked;
+            let mirror_rest = rest.mirror;
+            ending(
+                near,
+                set ^ sets::only(choice.qubit),
+                asked_rest,
+                mirror_rest,
+                out,
+                next,
+            )
+        }
     }
-    let next = put_out(near, set, asked, mirror, k, out, at);
-    let rest = clearing::taken(near, set, asked, mirror, k);
-    let asked_rest = rest.asked;
-    let mirror_rest = rest.mirror;
-    ending(
-        near,
-        set ^ sets::only(k / 2),
-        asked_rest,
-        mirror_rest,
-        out,
-        next,
-    )
 }
 
 // How many CNOTs the ending has: it is laid into memory of its own.
@@ -107,7 +110,7 @@ fn length_of(
 
 // A gate is laid if it is a CNOT.
 fn put_cnot_of(out: &mut [u32], at: usize, g: Gate) -> usize
-    ensures { λ r. ⌜ (now (out .exit) ≡ emit (now (out .entry)) at (backOf (g ∷ []))) × (r ≡ emitAt (now (out .entry)) at (backOf (g ∷ []))) ⌝ }
+    ensures { λ r. ⌜ Emits (now (out .entry)) at (backOf (g ∷ [])) (now (out .exit)) r ⌝ }
 {
     match g {
         Gate::Cnot { control, target } => emit::put_cnot(out, at, control, target),
@@ -119,7 +122,7 @@ fn put_cnot_of(out: &mut [u32], at: usize, g: Gate) -> usize
 
 // The CNOTs of the records in reverse.
 fn put_back(out: &mut [u32], at: usize, laid: &[u32]) -> usize
-    ensures { λ r. ⌜ (now (out .exit) ≡ emit (now (out .entry)) at (backOf (gatesOf 20 (now (laid .entry))))) × (r ≡ emitAt (now (out .entry)) at (backOf (gatesOf 20 (now (laid .entry))))) ⌝ }
+    ensures { λ r. ⌜ Emits (now (out .entry)) at (backOf (gatesOf 20 (now (laid .entry)))) (now (out .exit)) r ⌝ }
 {
     let mut next = at;
     let mut k = laid.len();
@@ -185,7 +188,7 @@ pub fn close(
     out: &mut [u32],
     at: usize,
 ) -> usize
-    ensures { λ r. ⌜ (now (out .exit) ≡ emit (now (out .entry)) at (closingOf near set asked mirror (gatesOf 20 (now (laid .entry))))) × (r ≡ emitAt (now (out .entry)) at (closingOf near set asked mirror (gatesOf 20 (now (laid .entry))))) ⌝ }
+    ensures { λ r. ⌜ Emits (now (out .entry)) at (closingOf near set asked mirror (gatesOf 20 (now (laid .entry)))) (now (out .exit)) r ⌝ }
 {
     let asked_now = rows::replayed_all(asked, laid, false);
     let mirror_now = rows::replayed_all(mirror, laid, true);

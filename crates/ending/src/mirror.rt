@@ -8,11 +8,11 @@ ghost use mathlib.Core.Path.{_≡_};
 ghost use mathlib.Core.List.{[], _∷_};
 ghost use Rattle.circuit.specs.Circuit.{run};
 ghost use Rattle.gates.specs.Layout.{gatesOf};
-ghost use Rattle.gathering.specs.Gather.{flip};
+ghost use Rattle.gathering.specs.Gather.{exchanged};
 ghost use Rattle.ending.specs.Mirror.{mirrorsOf};
 
 fn after(rows: [u32; Job::QUBITS], g: Gate) -> [u32; Job::QUBITS]
-    ensures { λ r. ⌜ r ≡ run (flip (g ∷ [])) rows ⌝ }
+    ensures { λ r. ⌜ r ≡ run (exchanged (g ∷ [])) rows ⌝ }
 {
     match g {
         Gate::Cnot { control, target } => wires::joined(rows, target, control),

@@ -20,8 +20,8 @@ use Rattle.sets.proofs.Storing.{map-append}
 use Rattle.gates.specs.declared.gate.Gate.{Gate}
 use Rattle.gates.specs.declared.gate.Gate.the-variants.{X}
 use Rattle.gates.specs.Limits.{mostQubits}
-use Rattle.gates.specs.All.{All}
-use Rattle.gates.proofs.Alls.{all-none, all-one, all-append}
+use Rattle.sets.specs.Lists.{All}
+use Rattle.sets.proofs.Lists.{all-none, all-one, all-append}
 use Rattle.tallies.specs.Tally.{tally}
 use Rattle.circuit.specs.Circuit.{step, run, gives, given}
 use Rattle.circuit.specs.Flips.{flipStep, flipRun}

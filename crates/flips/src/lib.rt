@@ -1,10 +1,11 @@
-// The X gates of an island: one on each of its wires that is asked to end flipped.
+// The X gates of an island: one on each of its wires that is asked to end flipped. It knows
+// circuits, and nothing of what is laid before them.
 use circuit::wires;
 use emitting::emit;
 use gates::gate::Gate;
 use gates::job::Job;
 ghost use mathlib.Core.Path.{_≡_};
-ghost use Rattle.emitting.specs.Emit.{emit, emitAt};
+ghost use Rattle.emitting.specs.Emit.{Emits};
 ghost use Rattle.flips.specs.Xs.{asksFlip, xsOn};
 
 // Whether wire q of the set is to end flipped.
@@ -20,7 +21,7 @@ fn asks_flip(set: u32, flip: [u32; Job::QUBITS], q: usize) -> bool
 
 // Behind what is laid, by ascending qubit.
 pub fn put_xs(set: u32, flip: [u32; Job::QUBITS], out: &mut [u32], at: usize) -> usize
-    ensures { λ r. ⌜ (now (out .exit) ≡ emit (now (out .entry)) at (xsOn set flip)) × (r ≡ emitAt (now (out .entry)) at (xsOn set flip)) ⌝ }
+    ensures { λ r. ⌜ Emits (now (out .entry)) at (xsOn set flip) (now (out .exit)) r ⌝ }
 {
     let mut next = at;
     for q in 0..Job::QUBITS {

@@ -8,6 +8,6 @@ pub record Example : Type 1 where
   pub says : Type 0
 
 -- all of them hold
-unfoldable pub True : List Example → Type 0
-True [] = Unit {0}
-True (e ∷ es) = e .says × True es
+unfoldable pub AllHold : List Example → Type 0
+AllHold [] = Unit {0}
+AllHold (e ∷ es) = e .says × AllHold es

@@ -1,4 +1,5 @@
-// Jobs, gates and couplers, and the records that hold them. Everything above rests on what stands here.
+// Jobs, gates and couplers, the records that hold them, and the limits of a job. It knows sets, and
+// nothing of what a gate does.
 pub mod coupler;
 pub mod gate;
 pub mod hadamard;

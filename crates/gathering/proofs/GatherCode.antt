@@ -20,9 +20,9 @@ use Rattle.gathering.specs.declared.gather.Order.{Order}
 use Rattle.gathering.specs.declared.gather.Moves.{Moves}
 use Rattle.gathering.specs.declared.gather.Gathering.{Gathering}
 use Rattle.gathering.specs.Order.{orderOf, orderIn}
-use Rattle.gathering.specs.Gather.{flip, movesAt, leftAt, gatherFrom, gatherOf, alongOf, controlOf, targetOf, movesIn, Stepped, cnotsIn}
+use Rattle.gathering.specs.Gather.{exchanged, movesAt, leftAt, gatherFrom, gatherOf, alongOf, controlOf, targetOf, movesIn, Stepped, cnotsFrom}
 use Rattle.gathering.proofs.OrderGrows.{order-few}
-use Rattle.gathering.proofs.GatherWorks.{gather-step, gather-none, moves-few, gather-from-few, gather-few}
+use Rattle.gathering.proofs.GatherWorks.{gather-step, gather-none, moves-few, gather-few}
 use Rattle.sets.proofs.Storing.{sets-append, map-append}
 
 -- ---- one step
@@ -196,17 +196,17 @@ module _ (near qs to by : List ℕ) (len k E x : ℕ) (all : List Gate) (g : Gat
 
 -- ---- moves read back
 
-pub cnots-step : (to by : List ℕ) (k n : ℕ) → cnotsIn to by k (suc n) ≡ Cnot (getD to k 0) (getD by k 0) ∷ cnotsIn to by (k + 1) n
-unfolding cnotsIn
-cnots-step to by k n = refl
+pub cnots-from-step : (to by : List ℕ) (k n : ℕ) → cnotsFrom to by k (suc n) ≡ Cnot (getD to k 0) (getD by k 0) ∷ cnotsFrom to by (k + 1) n
+unfolding cnotsFrom
+cnots-from-step to by k n = refl
 
-pub cnots-none : (to by : List ℕ) (k : ℕ) → cnotsIn to by k 0 ≡ []
-unfolding cnotsIn
-cnots-none to by k = refl
+pub cnots-from-none : (to by : List ℕ) (k : ℕ) → cnotsFrom to by k 0 ≡ []
+unfolding cnotsFrom
+cnots-from-none to by k = refl
 
 -- the arrays changed over are the moves with control and target changed over
-pub cnots-flip : (to by : List ℕ) (k n : ℕ) → cnotsIn by to k n ≡ flip (cnotsIn to by k n)
-unfolding cnotsIn
+pub cnots-flip : (to by : List ℕ) (k n : ℕ) → cnotsFrom by to k n ≡ exchanged (cnotsFrom to by k n)
+unfolding cnotsFrom
 cnots-flip to by k zero = refl
 cnots-flip to by k (suc n) = ap (λ (l : List Gate). Cnot (getD by k 0) (getD to k 0) ∷ l) (cnots-flip to by (k + 1) n)
 
@@ -218,23 +218,23 @@ Plain (Rotation q a ∷ gs) = ⊥
 Plain (X q ∷ gs) = ⊥
 Plain (Bad ∷ gs) = ⊥
 
-cnots-back : (gs : List Gate) (to by : List ℕ) (k : ℕ) → Plain gs → ((j : ℕ) → j < length gs → getD to (k + j) 0 ≡ getD (map controlOf gs) j 0)
-    → ((j : ℕ) → j < length gs → getD by (k + j) 0 ≡ getD (map targetOf gs) j 0) → cnotsIn to by k (length gs) ≡ gs
-unfolding cnotsIn
-cnots-back [] to by k p f g = refl
-cnots-back (Cnot c t ∷ gs) to by k p f g =
+cnots-from-back : (gs : List Gate) (to by : List ℕ) (k : ℕ) → Plain gs → ((j : ℕ) → j < length gs → getD to (k + j) 0 ≡ getD (map controlOf gs) j 0)
+    → ((j : ℕ) → j < length gs → getD by (k + j) 0 ≡ getD (map targetOf gs) j 0) → cnotsFrom to by k (length gs) ≡ gs
+unfolding cnotsFrom
+cnots-from-back [] to by k p f g = refl
+cnots-from-back (Cnot c t ∷ gs) to by k p f g =
     ap₂ (λ (e : Gate) (l : List Gate). e ∷ l)
     (ap₂ Cnot (ap (λ (i : ℕ). getD to i 0) (omega arith) ∙ f 0 (omega arith)) (ap (λ (i : ℕ). getD by i 0) (omega arith) ∙ g 0 (omega arith)))
-    (cnots-back gs to by (k + 1) p
+    (cnots-from-back gs to by (k + 1) p
     (λ j l. ap (λ (i : ℕ). getD to i 0) (omega arith) ∙ f (suc j) (omega arith))
     (λ j l. ap (λ (i : ℕ). getD by i 0) (omega arith) ∙ g (suc j) (omega arith)))
-cnots-back (Rotation q a ∷ gs) to by k p f g = absurd p
-cnots-back (X q ∷ gs) to by k p f g = absurd p
-cnots-back (Bad ∷ gs) to by k p f g = absurd p
+cnots-from-back (Rotation q a ∷ gs) to by k p f g = absurd p
+cnots-from-back (X q ∷ gs) to by k p f g = absurd p
+cnots-from-back (Bad ∷ gs) to by k p f g = absurd p
 
-pub moves-back : (gs : List Gate) → Plain gs → length gs ≤ 38 → cnotsIn (movesIn gs .to) (movesIn gs .by) 0 (movesIn gs .len) ≡ gs
+pub moves-back : (gs : List Gate) → Plain gs → length gs ≤ 38 → cnotsFrom (movesIn gs .to) (movesIn gs .by) 0 (movesIn gs .len) ≡ gs
 unfolding movesIn
-moves-back gs p l = cnots-back gs (sets (replicate 38 0) 0 (map controlOf gs)) (sets (replicate 38 0) 0 (map targetOf gs)) 0 p (at controlOf) (at targetOf)
+moves-back gs p l = cnots-from-back gs (sets (replicate 38 0) 0 (map controlOf gs)) (sets (replicate 38 0) 0 (map targetOf gs)) 0 p (at controlOf) (at targetOf)
   where
     at : (f : Gate → ℕ) (j : ℕ) → j < length gs → getD (sets (replicate 38 0) 0 (map f gs)) (0 + j) 0 ≡ getD (map f gs) j 0
     at f j h = sets-at (replicate 38 0) 0 (map f gs) j (omega (arith, length-map gs f)) (omega (arith, length-map gs f, length-replicate {A = ℕ} 38 0))
@@ -264,20 +264,12 @@ from-plain near os (suc k) S x =
     let a : ℕ = bitAnd (getD near u 0) E in
     subst Plain (sym (gather-step near os k S x)) (plain-append (movesAt a u x) (gatherFrom near os k E (leftAt a u x)) (moves-plain a u x) (from-plain near os k E (leftAt a u x)))
 
-pub along-plain : (near : List ℕ) (Q : ℕ) (o : Order) (x : ℕ) → Plain (alongOf near Q o x)
-unfolding alongOf
-along-plain near Q o x = from-plain near (o .qubit) (min (o .len) 20 - 1) Q x
-
-pub along-few : (near : List ℕ) (Q : ℕ) (o : Order) (x : ℕ) → length (alongOf near Q o x) ≤ 38
-unfolding alongOf
-along-few near Q o x = omega (arith, gather-from-few near (o .qubit) (min (o .len) 20 - 1) Q x)
-
 pub gather-plain : (near : List ℕ) (Q v x : ℕ) → Plain (gatherOf near Q v x)
 unfolding gatherOf
 gather-plain near Q v x = from-plain near (orderOf near Q v) (length (orderOf near Q v) - 1) Q x
 
 -- what `gather` gives is read back as it was
-pub gather-back : (near : List ℕ) (Q v x : ℕ) → cnotsIn (movesIn (gatherOf near Q v x) .to) (movesIn (gatherOf near Q v x) .by) 0 (movesIn (gatherOf near Q v x) .len) ≡ gatherOf near Q v x
+pub gather-back : (near : List ℕ) (Q v x : ℕ) → cnotsFrom (movesIn (gatherOf near Q v x) .to) (movesIn (gatherOf near Q v x) .by) 0 (movesIn (gatherOf near Q v x) .len) ≡ gatherOf near Q v x
 gather-back near Q v x = moves-back (gatherOf near Q v x) (gather-plain near Q v x) (gather-few near Q v x)
 
 pub moves-len : (gs : List Gate) → movesIn gs .len ≡ length gs

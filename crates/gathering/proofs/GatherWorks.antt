@@ -26,8 +26,12 @@ use Rattle.sets.proofs.Words.{has-true, has-false, out-has, lowest-in, only-is}
 use Rattle.chip.specs.Graph.{Near, Symm, Joined}
 use Rattle.gates.specs.declared.gate.Gate.{Gate}
 use Rattle.gates.specs.declared.gate.Gate.the-variants.{Cnot, Rotation, X, Bad}
+use Rattle.sets.specs.Lists.{All}
+use Rattle.sets.proofs.Lists.{all-none, all-append}
+use Rattle.chip.specs.Inside.{Coupled}
+use Rattle.chip.proofs.Insides.{coupled-up}
 use Rattle.gathering.specs.Order.{orderOf, Along, root, then}
-use Rattle.gathering.specs.Gather.{turns, Coupled, Within, Spares, movesAt, leftAt, gatherFrom, gatherOf, Gathers}
+use Rattle.gathering.specs.Gather.{turns, Spares, movesAt, leftAt, gatherFrom, gatherOf, Gathers}
 use Rattle.gathering.proofs.OrderParts.{sub-lt}
 use Rattle.gathering.proofs.OrderGrows.{order-along, order-first, order-few, along-in, along-once}
 
@@ -35,49 +39,21 @@ use Rattle.gathering.proofs.OrderGrows.{order-along, order-first, order
 
 pub turns-append : (L M : List Gate) (x : ℕ) → turns (L ++ M) x ≡ turns M (turns L x)
 turns-append [] M x = refl
-turns-append (Cnot c t ∷ gs) M x = turns-append gs M (turn x c t)
+turns-append (Cnot c t ∷ gs) M x = turns-append gs M (turn c t x)
 turns-append (Rotation q a ∷ gs) M x = turns-append gs M x
 turns-append (X q ∷ gs) M x = turns-append gs M x
 turns-append (Bad ∷ gs) M x = turns-append gs M x
-
-pub coupled-append : (near : List ℕ) (Q : ℕ) (L M : List Gate) → Coupled near Q L → Coupled near Q M → Coupled near Q (L ++ M)
-coupled-append near Q [] M h k = k
-coupled-append near Q (Cnot c t ∷ gs) M h k = (h .0, coupled-append near Q gs M (h .1) k)
-coupled-append near Q (Rotation q a ∷ gs) M h k = absurd h
-coupled-append near Q (X q ∷ gs) M h k = absurd h
-coupled-append near Q (Bad ∷ gs) M h k = absurd h
-
-pub coupled-up : (near : List ℕ) (S R : ℕ) → Sub S R → (L : List Gate) → Coupled near S L → Coupled near R L
-coupled-up near S R f [] h = tt
-coupled-up near S R f (Cnot c t ∷ gs) h = ((f c (h .0 .0), f t (h .0 .1), h .0 .2, h .0 .3), coupled-up near S R f gs (h .1))
-coupled-up near S R f (Rotation q a ∷ gs) h = absurd h
-coupled-up near S R f (X q ∷ gs) h = absurd h
-coupled-up near S R f (Bad ∷ gs) h = absurd h
-
-pub coupled-within : (near : List ℕ) (Q : ℕ) (L : List Gate) → Coupled near Q L → Within near Q L
-coupled-within near Q [] h = tt
-coupled-within near Q (Cnot c t ∷ gs) h = (h .0, coupled-within near Q gs (h .1))
-coupled-within near Q (Rotation q a ∷ gs) h = absurd h
-coupled-within near Q (X q ∷ gs) h = absurd h
-coupled-within near Q (Bad ∷ gs) h = absurd h
-
-pub spares-append : (v : ℕ) (L M : List Gate) → Spares v L → Spares v M → Spares v (L ++ M)
-spares-append v [] M h k = k
-spares-append v (Cnot c t ∷ gs) M h k = (h .0, spares-append v gs M (h .1) k)
-spares-append v (Rotation q a ∷ gs) M h k = spares-append v gs M h k
-spares-append v (X q ∷ gs) M h k = spares-append v gs M h k
-spares-append v (Bad ∷ gs) M h k = spares-append v gs M h k
 
 -- ---- one member is taken out
 
 -- the moves L make y of x: u is gone, what is left is in E and not empty
 record Took (near : List ℕ) (E S u x : ℕ) (L : List Gate) (y : ℕ) : Type 0 where
-  coupled : Coupled near S L
+  coupled : All (Coupled near S) L
   short : length L ≤ 2
   to : turns L x ≡ y
   part : Sub y E
   some : y ≢ 0
-  spares : (v : ℕ) → In v E → In v x → Spares v L × In v y
+  spares : (v : ℕ) → In v E → In v x → All (Spares v) L × In v y
 
 module _ (near : List ℕ) (E S u : ℕ) (sy : Symm near) (low : S < 2 ^ 20) (z : bit E u ≡ 0) (e : S ≡ bitXor E (2 ^ u)) where
   uS : In u S
@@ -97,11 +73,12 @@ module _ (near : List ℕ) (E S u : ℕ) (sy : Symm near) (low : S < 2 ^ 20) (z 
 
   -- u is taken out where a neighbour p is in the set too
   clear : (x p : ℕ) → Sub x S → In u x → In p E → Near near u p → In p x → Took near E S u x (Cnot u p ∷ []) (bitXor x (2 ^ u))
+  unfolding All
   clear x p f hu hp n px =
       record {
         coupled = ((uS, up p hp, apart p hp, n), tt);
         short = omega arith;
-        to = turn-on x u p px;
+        to = turn-on x u p (small u uS) px;
         part = λ i h. within i h (put-cases E u i (subst (In i) e (f i (was i h))));
         some = λ (o : bitXor x (2 ^ u) ≡ 0). omega (arith, pin, ap (λ (m : ℕ). bit m p) o, bit-of-zero p);
         spares = λ v hv hx. ((apart v hv, tt), put-other x u v (λ d. apart v hv (sym d)) ∙ hx);
@@ -123,6 +100,7 @@ module _ (near : List ℕ) (E S u : ℕ) (sy : Symm near) (low : S < 2 ^ 20) (z 
   -- where it is not, it is put in first
   both : (x p : ℕ) → Sub x S → In u x → In p E → Near near u p → bit x p ≡ 0
       → Took near E S u x (Cnot p u ∷ Cnot u p ∷ []) (bitXor (bitXor x (2 ^ p)) (2 ^ u))
+  unfolding All
   both x p f hu hp n o =
       let y : ℕ = bitXor x (2 ^ p) in
       let sub : Sub y S = λ i h. in-y i (put-cases x p i h) in
@@ -130,7 +108,7 @@ module _ (near : List ℕ) (E S u : ℕ) (sy : Symm near) (low : S < 2 ^ 20) (z 
       record {
         coupled = ((up p hp, uS, (λ d. apart p hp (sym d)), sy u p n), t .coupled);
         short = omega arith;
-        to = ap (λ (m : ℕ). turn m u p) (turn-on x p u hu) ∙ t .to;
+        to = ap (λ (m : ℕ). turn u p m) (turn-on x p u (small p (up p hp)) hu) ∙ t .to;
         part = t .part;
         some = t .some;
         spares = λ v hv hx.
@@ -145,6 +123,7 @@ module _ (near : List ℕ) (E S u : ℕ) (sy : Symm near) (low : S < 2 ^ 20) (z 
 
   -- u is not in the set: nothing to do
   skip : (x : ℕ) → Sub x S → x ≢ 0 → bit x u ≡ 0 → Took near E S u x [] x
+  unfolding All
   skip x f ne o =
       record {
         coupled = tt;
@@ -214,10 +193,10 @@ pub gathers-along : {near os : List ℕ} {k S : ℕ} → Symm near → S < 2 ^ 2
 gathers-along {near} {os} {k} {S} sy low (root e) x f ne =
     rw gather-none
     (record {
-      coupled = tt;
+      coupled = all-none (Coupled near S);
       short = omega (arith, ap ones e, ones-pow (getD os 0 0));
       done = single-sub (getD os 0 0) x (λ i h. subst (In i) e (f i h)) ne;
-      spares = λ h. tt;
+      spares = λ h. all-none (Spares (getD os 0 0));
     })
 gathers-along {near} {os} {S = S} sy low (then {k = k} {E = E} w a z hw n e) x f ne =
     go (gathers-along sy (sub-lt E S 20 (up near E S (getD os (suc k) 0) sy low z e) low) a)
@@ -254,10 +233,10 @@ gathers-along {near} {os} {S = S} sy low (then {k = k} {E = E} w a z hw n e) x f
         let r : Gathers near v E y M = ih y (t .part) (t .some) in
         subst (Gathers near v S x) (sym list)
         (record {
-          coupled = coupled-append near S L M (t .coupled) (coupled-up near E S (up near E S u sy low z e) M (r .coupled));
+          coupled = all-append (Coupled near S) L M (t .coupled) (coupled-up near E S (up near E S u sy low z e) M (r .coupled));
           short = omega (arith, r .short, t .short, length-append L M, ap ones e, ones-put u E z);
           done = turns-append L M x ∙ ap (turns M) (t .to) ∙ r .done;
-          spares = λ h. let s = t .spares v (along-in a 0 (omega arith)) h in spares-append v L M (s .0) (r .spares (s .1));
+          spares = λ h. let s = t .spares v (along-in a 0 (omega arith)) h in all-append (Spares v) L M (s .0) (r .spares (s .1));
         })
 
 -- "a non-empty set x inside Q becomes {v} with at most 2(|Q|-1) moves, each along a coupler inside Q"

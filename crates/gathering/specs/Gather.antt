@@ -12,9 +12,11 @@ use Rattle.sets.specs.Pick.{pick}
 use Rattle.sets.specs.Bit.{has, In}
 use Rattle.sets.specs.Size.{lowestOf, onlyOf}
 use Rattle.sets.specs.Columns.{turn}
-use Rattle.chip.specs.Graph.{Near}
+use Rattle.chip.specs.Inside.{Coupled}
+use Rattle.gates.specs.Limits.{mostQubits}
 use Rattle.gates.specs.declared.gate.Gate.{Gate}
 use Rattle.gates.specs.declared.gate.Gate.the-variants.{Cnot, Rotation, X, Bad}
+use Rattle.sets.specs.Lists.{All}
 use Rattle.gathering.specs.declared.gather.Order.{Order}
 use Rattle.gathering.specs.declared.gather.Moves.{Moves}
 use Rattle.gathering.specs.declared.gather.Gathering.{Gathering}
@@ -25,46 +27,25 @@ use Rattle.gathering.specs.Order.{orderOf}
 -- "A laid CNOT adds the target's row to the control's row": what a list of gates makes of a column or an asked row
 abbrev pub turns : List Gate → ℕ → ℕ
 turns [] x = x
-turns (Cnot c t ∷ gs) x = turns gs (turn x c t)
+turns (Cnot c t ∷ gs) x = turns gs (turn c t x)
 turns (Rotation q a ∷ gs) x = turns gs x
 turns (X q ∷ gs) x = turns gs x
 turns (Bad ∷ gs) x = turns gs x
 
 -- control and target change places: what is done to the rows so is done to the mirror rows
-abbrev pub flip : List Gate → List Gate
-flip [] = []
-flip (Cnot c t ∷ gs) = Cnot t c ∷ flip gs
-flip (Rotation q a ∷ gs) = Rotation q a ∷ flip gs
-flip (X q ∷ gs) = X q ∷ flip gs
-flip (Bad ∷ gs) = Bad ∷ flip gs
+abbrev pub exchanged : List Gate → List Gate
+exchanged [] = []
+exchanged (Cnot c t ∷ gs) = Cnot t c ∷ exchanged gs
+exchanged (Rotation q a ∷ gs) = Rotation q a ∷ exchanged gs
+exchanged (X q ∷ gs) = X q ∷ exchanged gs
+exchanged (Bad ∷ gs) = Bad ∷ exchanged gs
 
--- a CNOT on a coupler whose ends are in Q
-abbrev pub On : List ℕ → ℕ → ℕ → ℕ → Type 0
-On near Q c t = In c Q × In t Q × (c ≢ t) × Near near c t
-
--- nothing but CNOTs, each on a coupler inside Q
-abbrev pub Coupled : List ℕ → ℕ → List Gate → Type 0
-Coupled near Q [] = Unit {0}
-Coupled near Q (Cnot c t ∷ gs) = On near Q c t × Coupled near Q gs
-Coupled near Q (Rotation q a ∷ gs) = ⊥
-Coupled near Q (X q ∷ gs) = ⊥
-Coupled near Q (Bad ∷ gs) = ⊥
-
--- every CNOT is on a coupler inside Q; other gates are free
-abbrev pub Within : List ℕ → ℕ → List Gate → Type 0
-Within near Q [] = Unit {0}
-Within near Q (Cnot c t ∷ gs) = On near Q c t × Within near Q gs
-Within near Q (Rotation q a ∷ gs) = Within near Q gs
-Within near Q (X q ∷ gs) = Within near Q gs
-Within near Q (Bad ∷ gs) = Within near Q gs
-
--- v is the control of none: the sets' bit v stays
-abbrev pub Spares : ℕ → List Gate → Type 0
-Spares v [] = Unit {0}
-Spares v (Cnot c t ∷ gs) = (c ≢ v) × Spares v gs
-Spares v (Rotation q a ∷ gs) = Spares v gs
-Spares v (X q ∷ gs) = Spares v gs
-Spares v (Bad ∷ gs) = Spares v gs
+-- v is not the control of the gate: the sets' bit v stays
+abbrev pub Spares : ℕ → Gate → Type 0
+Spares v (Cnot c t) = c ≢ v
+Spares v (Rotation q a) = Unit {0}
+Spares v (X q) = Unit {0}
+Spares v Bad = Unit {0}
 
 -- ---- gathering
 
@@ -97,14 +78,18 @@ gatherOf near Q v x = gatherFrom near (orderOf near Q v) (length (orderOf near Q
 
 -- the same along an order as the code holds it
 unfoldable pub alongOf : List ℕ → ℕ → Order → ℕ → List Gate
-alongOf near Q o x = gatherFrom near (o .qubit) (min (o .len) 20 - 1) Q x
+alongOf near Q o x = gatherFrom near (o .qubit) (min (o .len) mostQubits - 1) Q x
 
 -- the moves L bring x to v alone, by two for each other member of S at most; v itself stays if it is in x
 pub record Gathers (near : List ℕ) (v S x : ℕ) (L : List Gate) : Type 0 where
-  pub coupled : Coupled near S L
+  pub coupled : All (Coupled near S) L
   pub short : length L + 2 ≤ 2 * ones S
   pub done : turns L x ≡ 2 ^ v
-  pub spares : In v x → Spares v L
+  pub spares : In v x → All (Spares v) L
+
+-- no gathering has more moves: two for each of 20 qubits but one
+abbrev pub mostMoves : ℕ
+mostMoves = 2 * (mostQubits - 1)
 
 -- ---- as the code holds moves: the changed qubits and those they are changed by, in front; 0 behind them
 
@@ -122,8 +107,8 @@ targetOf Bad = 0
 
 unfoldable pub movesIn : List Gate → Moves
 movesIn gs = record {
-  to = sets (replicate 38 0) 0 (map controlOf gs);
-  by = sets (replicate 38 0) 0 (map targetOf gs);
+  to = sets (replicate mostMoves 0) 0 (map controlOf gs);
+  by = sets (replicate mostMoves 0) 0 (map targetOf gs);
   len = length gs;
 }
 
@@ -135,6 +120,6 @@ pub record Stepped (to by : List ℕ) (len a u x : ℕ) (ts bs : List ℕ) (r : 
   pub left : r .x ≡ leftAt a u x
 
 -- n moves from place k on, as CNOTs
-unfoldable pub cnotsIn : List ℕ → List ℕ → ℕ → ℕ → List Gate
-cnotsIn to by k zero = []
-cnotsIn to by k (suc n) = Cnot (getD to k 0) (getD by k 0) ∷ cnotsIn to by (k + 1) n
+unfoldable pub cnotsFrom : List ℕ → List ℕ → ℕ → ℕ → List Gate
+cnotsFrom to by k zero = []
+cnotsFrom to by k (suc n) = Cnot (getD to k 0) (getD by k 0) ∷ cnotsFrom to by (k + 1) n

@@ -1,7 +1,7 @@
 -- The members of a connected set by distance inside it from one of them, then by number (our own order for gathering; docs/LAYING.md).
 use mathlib.Core.Path.{_≡_}
 use mathlib.Core.List.{List, [], _∷_}
-use Prim.Native.Nat.{ℕ, zero, suc, _^_}
+use Prim.Native.Nat.{ℕ, zero, suc, _^_, _-_}
 use lib.Bits.{bitXor}
 use lib.Dec.{eqb}
 use lib.ListN.{getD, length, replicate}
@@ -9,6 +9,7 @@ use lib.Seq.{sets}
 use Rattle.sets.specs.Pick.{pick}
 use Rattle.sets.specs.Bit.{bit, In}
 use Rattle.sets.specs.Size.{lowestOf, onlyOf}
+use Rattle.gates.specs.Limits.{mostQubits}
 use Rattle.chip.specs.Graph.{Near, grow}
 use Rattle.gathering.specs.declared.gather.Order.{Order}
 
@@ -31,7 +32,7 @@ orderFrom near Q (suc k) S L =
 
 -- "the members of Q by distance from v inside Q, then by number (v first)"
 unfoldable pub orderOf : List ℕ → ℕ → ℕ → List ℕ
-orderOf near Q v = v ∷ orderFrom near Q 19 (onlyOf v) 0
+orderOf near Q v = v ∷ orderFrom near Q (mostQubits - 1) (onlyOf v) 0
 
 -- the first k + 1 numbers of os are the members of S, each once, and each after the first has a neighbour before it
 pub data Along (near os : List ℕ) : ℕ → ℕ → Type 0 where
@@ -41,4 +42,4 @@ pub data Along (near os : List ℕ) : ℕ → ℕ → Type 0 where
 
 -- as the code holds it: the numbers in front, 0 behind them
 unfoldable pub orderIn : List ℕ → Order
-orderIn os = record { qubit = sets (replicate 20 0) 0 os; len = length os }
+orderIn os = record { qubit = sets (replicate mostQubits 0) 0 os; len = length os }

@@ -153,15 +153,15 @@ unfolding islandOf
 island-lt near q h = closure-lt near everyQubit 20 20 (2 ^ q) (lit< tt) (pow-lt h)
 
 -- the islands of the qubits below q stand in `all`
-pub record Found (near : List ℕ) (q : ℕ) (all : List ℕ) : Type 0 where
+pub record IslesFound (near : List ℕ) (q : ℕ) (all : List ℕ) : Type 0 where
   pub long : length all ≡ 20
   pub each : (k : ℕ) → k < q → getD all k 0 ≡ islandOf near k
 
-pub found-none : (near all : List ℕ) → length all ≡ 20 → Found near 0 all
+pub found-none : (near all : List ℕ) → length all ≡ 20 → IslesFound near 0 all
 found-none near all l = record { long = l; each = λ k h. absurd (omega arith) }
 
 -- x is what the search finds from q, d the set of q alone
-pub found-next : (near : List ℕ) (q : ℕ) (all : List ℕ) (d x : ℕ) → q < 20 → Found near q all → d ≡ onlyOf q → x ≡ closure near everyQubit 20 d → Found near (q + 1) (set all q x)
+pub found-next : (near : List ℕ) (q : ℕ) (all : List ℕ) (d x : ℕ) → q < 20 → IslesFound near q all → d ≡ onlyOf q → x ≡ closure near everyQubit 20 d → IslesFound near (q + 1) (set all q x)
 unfolding islandOf
 found-next near q all d x h f e ex = record {
   long = length-set all q x ∙ f .long;
@@ -170,7 +170,7 @@ found-next near q all d x h f e ex = record {
       (getD-set-same all q x 0 (omega (arith, f .long)) ∙ ex ∙ ap (closure near everyQubit 20) (e ∙ only-is q (omega arith)));
 }
 
-pub found-all : (near : List ℕ) (q : ℕ) (all : List ℕ) → 20 ≤ q → Found near q all → all ≡ islandsOf near
+pub found-all : (near : List ℕ) (q : ℕ) (all : List ℕ) → 20 ≤ q → IslesFound near q all → all ≡ islandsOf near
 found-all near q all h f =
     ext-getD 0 all (islandsOf near) (f .long ∙ sym (length-islands near))
     (λ k l. f .each k (omega (arith, f .long)) ∙ sym (getD-islands near k (omega (arith, f .long))))

@@ -1,2 +1,2 @@
-// The islands of a chip.
+// The islands of a chip. It knows the graph alone.
 pub mod islands;

@@ -1,5 +1,5 @@
 -- Tests 1 to 8 as the code makes them. Assumes nothing.
-use mathlib.Core.Path.{_≡_, refl, sym, ap, ap₂, _∙_, subst}
+use mathlib.Core.Path.{_≡_, refl, sym, ap, _∙_, subst}
 use mathlib.Core.Bool.{Bool, true, false}
 use mathlib.Core.List.{List}
 use Prim.Native.Nat.{ℕ, zero, suc, _+_, _≤_, _<_}
@@ -30,7 +30,7 @@ use Rattle.meaning.proofs.Terms.{termTable, terms-table}
 use Rattle.table.proofs.Keeping.{take-padded}
 use Rattle.chip.specs.Couplers.{nearOf}
 use Rattle.isles.specs.Islands.{islandsOf}
-use Rattle.judging.specs.Tests.{judgedCount, judgedParities, strayAt, scattered, judgedReach, judgedRoom, judgedMeaning, verdictOf, judgedInside, verdictOn}
+use Rattle.judging.specs.Tests.{judgedCount, judgedParities, strayAt, scattered, judgedReach, judgedRoom, judgedMeaning, verdictOf, verdictOn}
 
 -- ---- 6
 
@@ -101,8 +101,8 @@ module _ (n : ℕ) (islands ys : List ℕ) (room : ℕ) (t : Told) (e : t ≡ to
   unfolding toldOf
   fed-is = ap (λ (u : Told). u .fed) e
 
-  pub told-over : t .fed < length ys → ManyParities (t .fed) ≡ judgedInside n islands gs room
-  unfolding judgedInside
+  pub told-over : t .fed < length ys → ManyParities (t .fed) ≡ judgedMeaning n islands gs room
+  unfolding judgedMeaning
   told-over h = rw (parities-fail gs (omega (arith, fed-is, long))) (ap ManyParities fed-is)
 
   module _ (all : length ys ≤ t .fed) where
@@ -125,8 +125,8 @@ module _ (n : ℕ) (islands ys : List ℕ) (room : ℕ) (t : Told) (e : t ≡ to
       stray-is : w ≡ strayAt n islands (run gs start)
       stray-is = s ∙ ap (strayAt n islands) wires-are
 
-      pub told-stray : w < n → Unreachable w ≡ judgedInside n islands gs room
-      unfolding judgedInside
+      pub told-stray : w < n → Unreachable w ≡ judgedMeaning n islands gs room
+      unfolding judgedMeaning
       told-stray h = rw (parities-pass gs whole, reach-stray n islands gs (subst (λ (k : ℕ). k < n) stray-is h)) (ap Unreachable stray-is)
 
       module _ (none : n ≤ w) (u : Sums) (v : u ≡ termsIn (t .meaning .sums)) where
@@ -151,21 +151,21 @@ module _ (n : ℕ) (islands ys : List ℕ) (room : ℕ) (t : Told) (e : t ≡ to
           scattered-is : scattered islands (terms gs) ≡ b
           scattered-is = sym (c ∙ ap (scattered islands) terms-are)
 
-          pub told-scattered : b ≡ true → Unreachable n ≡ judgedInside n islands gs room
-          unfolding judgedInside
+          pub told-scattered : b ≡ true → Unreachable n ≡ judgedMeaning n islands gs room
+          unfolding judgedMeaning
           told-scattered y = rw (parities-pass gs whole, reach-scattered n islands gs clear (scattered-is ∙ y))
 
           module _ (y : b ≡ false) (B : ℕ) (m : B ≡ boundOf n (u .len)) where
             bound-is : B ≡ boundOf n (length (terms gs))
             bound-is = m ∙ ap (boundOf n) count-is
 
-            pub told-short : room < B → Room ≡ judgedInside n islands gs room
-            unfolding judgedInside
+            pub told-short : room < B → Room ≡ judgedMeaning n islands gs room
+            unfolding judgedMeaning
             told-short h =
                 rw (parities-pass gs whole, reach-pass n islands gs clear (scattered-is ∙ y), room-fail n gs room (subst (λ (k : ℕ). room < k) bound-is h))
 
-            pub told-pass : B ≤ room → Accepted ≡ judgedInside n islands gs room
-            unfolding judgedInside
+            pub told-pass : B ≤ room → Accepted ≡ judgedMeaning n islands gs room
+            unfolding judgedMeaning
             told-pass h =
                 rw (parities-pass gs whole, reach-pass n islands gs clear (scattered-is ∙ y), room-pass n gs room (subst (λ (k : ℕ). k ≤ room) bound-is h))
 
@@ -183,7 +183,7 @@ qubits-few n e = go (leb 1 n) (leb n 20) refl refl e
 module _ (n : ℕ) (xs islands ys : List ℕ) (room : ℕ) where
   -- on the islands of the job's own couplers it is the job's verdict
   pub verdict-found : (near : List ℕ) → near ≡ nearOf n xs → islands ≡ islandsOf near → (v : Verdict) → v ≡ verdictOn n xs islands ys room → v ≡ verdictOf n xs ys room
-  unfolding verdictOn judgedInside verdictOf judgedMeaning
+  unfolding verdictOf
   verdict-found near d i v e = e ∙ ap (λ (all : List ℕ). verdictOn n xs all ys room) (i ∙ ap islandsOf d)
 
   pub job-qubits : (numberOf (judgedQubits n) ≡ 0 → ⊥) → judgedQubits n ≡ verdictOn n xs islands ys room
@@ -212,6 +212,6 @@ module _ (n : ℕ) (xs islands ys : List ℕ) (room : ℕ) where
         unfolding verdictOn
         job-gates d = then-stop (judgedGates n ys) _ d ∙ then-on (judgedCount ys) _ count-zero ∙ then-on (judgedCouplers n xs) _ b ∙ then-on (judgedQubits n) _ a
 
-        pub job-inside : numberOf (judgedGates n ys) ≡ 0 → judgedInside n islands (gatesOf n ys) room ≡ verdictOn n xs islands ys room
+        pub job-inside : numberOf (judgedGates n ys) ≡ 0 → judgedMeaning n islands (gatesOf n ys) room ≡ verdictOn n xs islands ys room
         unfolding verdictOn
         job-inside d = then-on (judgedGates n ys) _ d ∙ then-on (judgedCount ys) _ count-zero ∙ then-on (judgedCouplers n xs) _ b ∙ then-on (judgedQubits n) _ a

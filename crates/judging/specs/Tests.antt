@@ -60,25 +60,17 @@ judgedReach n islands gs =
 unfoldable pub judgedRoom : ℕ → List Gate → ℕ → Verdict
 judgedRoom n gs room = pick (ltb room (boundOf n (length (terms gs)))) Room Accepted
 
--- ---- in order
+-- ---- in order, on the islands that are handed in, wherever they were found
 
 -- 6 to 8
 unfoldable pub judgedMeaning : ℕ → List ℕ → List Gate → ℕ → Verdict
-judgedMeaning n couplers gs room =
-    andThen (judgedParities gs) (andThen (judgedReach n (islandsOf (nearOf n couplers)) gs) (judgedRoom n gs room))
-
--- "Laying tests 1 to 9 in that order", 9 being gone with request E7
-unfoldable pub verdictOf : ℕ → List ℕ → List ℕ → ℕ → Verdict
-verdictOf n couplers gates room =
-    andThen (judgedQubits n) (andThen (judgedCouplers n couplers) (andThen (judgedCount gates) (andThen (judgedGates n gates) (judgedMeaning n couplers (gatesOf n gates) room))))
-
--- ---- in order, with the islands handed in, wherever they were found; on those of the job's own couplers this is `verdictOf`
-
--- 6 to 8
-unfoldable pub judgedInside : ℕ → List ℕ → List Gate → ℕ → Verdict
-judgedInside n islands gs room = andThen (judgedParities gs) (andThen (judgedReach n islands gs) (judgedRoom n gs room))
+judgedMeaning n islands gs room = andThen (judgedParities gs) (andThen (judgedReach n islands gs) (judgedRoom n gs room))
 
 -- 1 to 8
 unfoldable pub verdictOn : ℕ → List ℕ → List ℕ → List ℕ → ℕ → Verdict
 verdictOn n couplers islands gates room =
-    andThen (judgedQubits n) (andThen (judgedCouplers n couplers) (andThen (judgedCount gates) (andThen (judgedGates n gates) (judgedInside n islands (gatesOf n gates) room))))
+    andThen (judgedQubits n) (andThen (judgedCouplers n couplers) (andThen (judgedCount gates) (andThen (judgedGates n gates) (judgedMeaning n islands (gatesOf n gates) room))))
+
+-- "Laying tests 1 to 9 in that order", 9 being gone with request E7: on the islands of the job's own couplers
+unfoldable pub verdictOf : ℕ → List ℕ → List ℕ → ℕ → Verdict
+verdictOf n couplers gates room = verdictOn n couplers (islandsOf (nearOf n couplers)) gates room

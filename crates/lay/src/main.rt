@@ -1,4 +1,5 @@
 // The laying program: a job's text from standard input, the laid job's to standard output, stretch by stretch.
+// It knows `console`, and alone with the other programs the operating system.
 use libc::STDIN_FILENO;
 use libc::STDOUT_FILENO;
 

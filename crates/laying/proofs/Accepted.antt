@@ -8,11 +8,11 @@ use Rattle.gates.specs.declared.gate.Gate.{Gate}
 use Rattle.gates.specs.declared.gate.Gate.the-variants.{Cnot, Rotation, X, Bad}
 use Rattle.gates.specs.Layout.{gatesOf, Good}
 use Rattle.meaning.specs.Borne.{terms}
-use Rattle.gates.specs.All.{All}
+use Rattle.sets.specs.Lists.{All}
 use Rattle.gates.specs.Listed.{OnCoupler}
 use Rattle.meaning.specs.Same.{Alike, SameMeaning, Reachable}
 use Rattle.tallies.specs.Tally.{tally, oneCnot, oneRotation, cnotsOf, rotationsOf, xsOf, boundOf}
-use Rattle.gates.proofs.Alls.{all-map, all-append}
+use Rattle.sets.proofs.Lists.{all-map, all-append}
 use Rattle.meaning.proofs.Bearing.{terms-few}
 use Rattle.tallies.proofs.Tallies.{bound-most}
 use Rattle.circuit.specs.Circuit.{run, start, given, sumOf}
@@ -28,12 +28,12 @@ use Rattle.flips.specs.Xs.{xsOn}
 use Rattle.flips.proofs.Xs.{xs-all}
 use Rattle.chip.specs.Couplers.{nearOf}
 use Rattle.isles.specs.Islands.{islandOf}
-use Rattle.columns.specs.Terms.{Inside}
+use Rattle.chip.specs.Inside.{Inside}
 use Rattle.share.specs.Own.{ownSets}
 use Rattle.laying.specs.Islands.{laidTo}
 use Rattle.laying.specs.Laid.{onIsland, withFlips, laidOf}
 use Rattle.laying.specs.Layable.{Layable}
-use Rattle.ways.specs.Memory.{Fine}
+use Rattle.ways.specs.Memory.{FitsMemory}
 use Rattle.laying.specs.Verdict.{circuitOf}
 use Rattle.laying.specs.Demands.{xsAt}
 use Rattle.laying.proofs.Parting.{Parts}
@@ -171,8 +171,8 @@ module _ (n : ℕ) (xs ys : List ℕ) (job : Layable n xs ys) where
   unfolding boundOf
   circuit-bounded = omega (arith, good-length n C circuit-good, circuit-rotations, circuit-cnots, circuit-xs)
 
-  pub circuit-fine : Fine C
-  circuit-fine = record {
+  pub circuit-fits : FitsMemory C
+  circuit-fits = record {
     few = omega (arith, circuit-bounded, bound-most n (length (terms gs)) (job .few) (omega (arith, terms-few gs, job .fit)));
     good = all-map (Good n) (Good 20) (λ g h. good-up n 20 g (job .few) h) C circuit-good;
   }

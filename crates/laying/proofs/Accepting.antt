@@ -21,7 +21,7 @@ use Rattle.verdicts.specs.declared.verdict.Verdict.the-variants.{Accepted, Many
 use Rattle.gates.specs.Layout.{gatesOf, Good}
 use Rattle.circuit.specs.Circuit.{run, start, finalOf}
 use Rattle.meaning.specs.Borne.{Among, terms, overAt}
-use Rattle.gates.specs.All.{All}
+use Rattle.sets.specs.Lists.{All}
 use Rattle.tallies.specs.Tally.{boundOf}
 use Rattle.verdicts.specs.Verdicts.{numberOf, placeOf, judgedQubits, judgedCouplers, judgedGates}
 use Rattle.verdicts.proofs.Judged.{zero-accepted, then-zero}
@@ -33,9 +33,9 @@ use Rattle.chip.specs.Couplers.{nearOf}
 use Rattle.isles.specs.Islands.{islandOf, islandsOf}
 use Rattle.isles.proofs.Isles.{getD-islands}
 use Rattle.share.specs.Own.{insideOf}
-use Rattle.laying.specs.Reach.{Within}
+use Rattle.laying.specs.Reach.{MeaningInside}
 use Rattle.laying.specs.Layable.{Layable}
-use Rattle.judging.specs.Tests.{judgedCount, judgedParities, leavesAt, strayAt, scatters, scattered, judgedReach, judgedRoom, judgedMeaning, verdictOf}
+use Rattle.judging.specs.Tests.{judgedCount, judgedParities, leavesAt, strayAt, scatters, scattered, judgedReach, judgedRoom, judgedMeaning, verdictOf, verdictOn}
 use Rattle.laying.proofs.Parting.{inside-sub, sub-inside}
 use Rattle.laying.proofs.Job.{parts}
 use Rattle.judging.proofs.Judging.{over-le, over-few, reach-pass, qubits-few}
@@ -125,7 +125,7 @@ module _ (n : ℕ) (xs : List ℕ) (gs : List Gate) (few : n ≤ 20) (good : All
       let l : length (terms gs) ≤ firstOf (λ j. scatters isls (getD (terms gs) j 0)) (length (terms gs)) 0 = ltb-false _ _ e in
       first-before (λ j. scatters isls (getD (terms gs) j 0)) (length (terms gs)) 0 k (omega arith) (omega arith)
 
-  pub reach-within : numberOf (judgedReach n isls gs) ≡ 0 → Within n isl gs
+  pub reach-within : numberOf (judgedReach n isls gs) ≡ 0 → MeaningInside n isl gs
   reach-within e = let c = reach-clear e in record { finals = λ i h. stays-before i h (let l = c .0 in omega arith); terms = λ p t. each (c .1) p (term-among p gs t) }
     where
       each : scattered isls (terms gs) ≡ false → (p : ℕ) → Among p (terms gs) → (i : ℕ) × (i < n) × Sub p (isl i)
@@ -133,7 +133,7 @@ module _ (n : ℕ) (xs : List ℕ) (gs : List Gate) (few : n ≤ 20) (good : All
           let w = at-among p (terms gs) a in
           (lowestOf p, first p a, gathered p a (subst (λ (m : ℕ). scatters isls m ≡ false) (w .2) (none-scattered s (w .0) (w .1))))
 
-  pub within-reach : Within n isl gs → judgedReach n isls gs ≡ Accepted
+  pub within-reach : MeaningInside n isl gs → judgedReach n isls gs ≡ Accepted
   unfolding scattered strayAt
   within-reach w =
       reach-pass n isls gs
@@ -183,7 +183,7 @@ module _ (n : ℕ) (xs ys : List ℕ) (room : ℕ) (e : numberOf (verdictOf n xs
     lent : numberOf (judgedRoom n gs room) ≡ 0
 
   passed : Passed
-  unfolding verdictOf judgedMeaning
+  unfolding verdictOf verdictOn judgedMeaning
   passed =
       let a = then-zero (judgedQubits n) _ e in
       let b = then-zero (judgedCouplers n xs) _ (a .1) in
@@ -203,7 +203,7 @@ module _ (n : ℕ) (xs ys : List ℕ) (room : ℕ) (e : numberOf (verdictOf n xs
   pub job-layable : Layable n xs ys
   job-layable =
       let w : overAt gs ≡ length gs = parities-whole gs (passed .parities) in
-      record { few = passed .qubits; good = passed .drawn; whole = w; fit = over-few gs w; within = reach-within n xs gs (passed .qubits) (passed .drawn) (passed .reach) }
+      record { few = passed .qubits; good = passed .drawn; fit = over-few gs w; within = reach-within n xs gs (passed .qubits) (passed .drawn) (passed .reach) }
 
   pub job-room : boundOf n (length (terms gs)) ≤ room
   job-room = room-enough n gs room (passed .lent)

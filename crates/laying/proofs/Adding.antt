@@ -10,8 +10,8 @@ use lib.Count.{ones, ones-step}
 use Rattle.sets.specs.Bit.{bit}
 use Rattle.sets.proofs.Bits.{bit-zero, bit-suc}
 use Rattle.sets.proofs.Ones.{ones-of-zero}
-use Rattle.columns.specs.Tables.{sumTo}
-use Rattle.columns.proofs.Tabling.{sum-ext, sum-none}
+use Rattle.sets.specs.Tables.{sumTo}
+use Rattle.sets.proofs.Tabling.{sum-ext, sum-none}
 
 -- only the place j counts
 pub sum-one : (n : ℕ) (f : ℕ → ℕ) (j : ℕ) → j < n → ((k : ℕ) → k < n → k ≢ j → f k ≡ 0) → sumTo n f ≡ f j

@@ -2,7 +2,7 @@
 use mathlib.Core.Path.{_≡_, refl, sym, ap, ap₂, _∙_, subst}
 use mathlib.Core.Logic.{_≢_, _⊎_, inl, inr}
 use mathlib.Core.Bool.{Bool, true, false}
-use mathlib.Core.List.{List, [], _∷_, _++_, append-nil}
+use mathlib.Core.List.{List, [], _++_, append-nil}
 use Prim.Native.Nat.{ℕ, zero, suc, _≤_, _<_}
 use native.Mathlib.Omega.{arith}
 use native.Mathlib.Decide.{ℕ-discrete}
@@ -16,14 +16,14 @@ use Rattle.sets.proofs.Members.{in-and, and-in, sub-eq}
 use Rattle.sets.proofs.Words.{has-true, in-has, out-has}
 use Rattle.gates.specs.declared.gate.Gate.{Gate}
 use Rattle.gates.specs.declared.gate.Gate.the-variants.{Cnot, Rotation, X, Bad}
-use Rattle.gates.specs.All.{All}
-use Rattle.gates.proofs.Alls.{all-map, all-append}
+use Rattle.sets.specs.Lists.{All}
+use Rattle.sets.proofs.Lists.{all-map, all-append, those-none, those-append, those-every, those-no}
 use Rattle.flips.specs.Xs.{xsOn}
 use Rattle.flips.proofs.Xs.{xs-all}
 use Rattle.meaning.specs.Borne.{Among}
 use Rattle.meaning.proofs.Lists.{Up, ascending-same}
 use Rattle.chip.specs.Graph.{Near}
-use Rattle.columns.specs.Terms.{Inside}
+use Rattle.chip.specs.Inside.{Inside}
 use Rattle.share.specs.Own.{ownSets, ownTerms}
 use Rattle.laying.specs.Islands.{leads, laidTo}
 use Rattle.laying.specs.Demands.{isOn, gatesOn}
@@ -36,49 +36,41 @@ use Rattle.laying.proofs.Owning.{own-up, own-has, own-back}
 
 on-append : (S : ℕ) (g h : List Gate) → gatesOn S (g ++ h) ≡ gatesOn S g ++ gatesOn S h
 unfolding gatesOn
-on-append S [] h = refl
-on-append S (x ∷ g) h = go (isOn S x) (on-append S g h)
-  where
-    go : (b : Bool) → gatesOn S (g ++ h) ≡ gatesOn S g ++ gatesOn S h
-        → pick b (x ∷ gatesOn S (g ++ h)) (gatesOn S (g ++ h)) ≡ pick b (x ∷ gatesOn S g) (gatesOn S g) ++ gatesOn S h
-    go true e = ap (λ (l : List Gate). x ∷ l) e
-    go false e = e
+on-append S g h = those-append (isOn S) g h
 
 -- all qubits of a gate are in S
-abbrev pub On : ℕ → Gate → Type 0
-On S g = isOn S g ≡ true
+abbrev pub OnSet : ℕ → Gate → Type 0
+OnSet S g = isOn S g ≡ true
 
-on-all : (S : ℕ) (gs : List Gate) → All (On S) gs → gatesOn S gs ≡ gs
-unfolding gatesOn All
-on-all S [] a = refl
-on-all S (g ∷ gs) a = ap (λ (b : Bool). pick b (g ∷ gatesOn S gs) (gatesOn S gs)) (a .0) ∙ ap (λ (l : List Gate). g ∷ l) (on-all S gs (a .1))
+on-all : (S : ℕ) (gs : List Gate) → All (OnSet S) gs → gatesOn S gs ≡ gs
+unfolding gatesOn
+on-all S gs a = those-every (isOn S) gs a
 
-on-off : (S R : ℕ) → ((i : ℕ) → In i R → bit S i ≡ 0) → (g : Gate) → On R g → isOn S g ≡ false
+on-off : (S R : ℕ) → ((i : ℕ) → In i R → bit S i ≡ 0) → (g : Gate) → OnSet R g → isOn S g ≡ false
 unfolding isOn
 on-off S R off (Cnot c t) h = both-not (has S c) (has S t) (out-has S c (off c (has-true R c (both-true (has R c) (has R t) h .0))))
 on-off S R off (Rotation q a) h = out-has S q (off q (has-true R q h))
 on-off S R off (X q) h = out-has S q (off q (has-true R q h))
 on-off S R off Bad h = refl
 
-on-none : (S R : ℕ) → ((i : ℕ) → In i R → bit S i ≡ 0) → (gs : List Gate) → All (On R) gs → gatesOn S gs ≡ []
-unfolding gatesOn All
-on-none S R off [] a = refl
-on-none S R off (g ∷ gs) a = ap (λ (b : Bool). pick b (g ∷ gatesOn S gs) (gatesOn S gs)) (on-off S R off g (a .0)) ∙ on-none S R off gs (a .1)
+on-none : (S R : ℕ) → ((i : ℕ) → In i R → bit S i ≡ 0) → (gs : List Gate) → All (OnSet R) gs → gatesOn S gs ≡ []
+unfolding gatesOn
+on-none S R off gs a = those-no (isOn S) gs (all-map (OnSet R) (λ g. isOn S g ≡ false) (on-off S R off) gs a)
 
-pub inside-on : (near : List ℕ) (S : ℕ) (g : Gate) → Inside near S g → On S g
-unfolding isOn Inside
-inside-on near S (Cnot c t) h = both-yes (has S c) (has S t) (in-has S c (h .1)) (in-has S t (h .2))
+pub inside-on : (near : List ℕ) (S : ℕ) (g : Gate) → Inside near S g → OnSet S g
+unfolding isOn
+inside-on near S (Cnot c t) h = both-yes (has S c) (has S t) (in-has S c (h .0)) (in-has S t (h .1))
 inside-on near S (Rotation q a) h = in-has S q h
 inside-on near S (X q) h = absurd h
 inside-on near S Bad h = absurd h
 
 -- the gates of an island and the X gates behind them are on it
-pub flips-on : (near : List ℕ) (S : ℕ) (F : List ℕ) (gs : List Gate) → All (Inside near S) gs → All (On S) (gs ++ xsOn S F)
+pub flips-on : (near : List ℕ) (S : ℕ) (F : List ℕ) (gs : List Gate) → All (Inside near S) gs → All (OnSet S) (gs ++ xsOn S F)
 unfolding isOn
-flips-on near S F gs a = all-append (On S) gs (xsOn S F) (all-map (Inside near S) (On S) (inside-on near S) gs a) (xs-all S F (On S) (λ k m. in-has S k m))
+flips-on near S F gs a = all-append (OnSet S) gs (xsOn S F) (all-map (Inside near S) (OnSet S) (inside-on near S) gs a) (xs-all S F (OnSet S) (λ k m. in-has S k m))
 
 module _ (n : ℕ) (isl : ℕ → ℕ) (few : n ≤ 20) (parts : Parts n isl) (on : ℕ → List Gate)
-    (own : (q : ℕ) → q < n → All (On (isl q)) (on q)) (j : ℕ) (lj : j < n) (ej : leads isl j ≡ true) where
+    (own : (q : ℕ) → q < n → All (OnSet (isl q)) (on q)) (j : ℕ) (lj : j < n) (ej : leads isl j ≡ true) where
   apart : (q : ℕ) → q < n → leads isl q ≡ true → q ≢ j → (i : ℕ) → In i (isl q) → bit (isl j) i ≡ 0
   apart q l e ne i m = go (bit-cases (isl j) i)
     where
@@ -87,7 +79,7 @@ module _ (n : ℕ) (isl : ℕ → ℕ) (few : n ≤ 20) (parts : Parts n isl) (o
       go (inr k) = absurd (ne (sym (on-led n isl few parts q i l e m) ∙ on-led n isl few parts j i lj ej k))
 
   before : (k : ℕ) → k ≤ n → k ≤ j → gatesOn (isl j) (laidTo isl on k) ≡ []
-  before zero l b = unfold laidTo gatesOn in refl
+  before zero l b = unfold laidTo gatesOn in those-none (isOn (isl j))
   before (suc k) l b = go (leads isl k) refl (before k (omega arith) (omega arith))
     where
       go : (t : Bool) → leads isl k ≡ t → gatesOn (isl j) (laidTo isl on k) ≡ [] → gatesOn (isl j) (laidTo isl on (suc k)) ≡ []

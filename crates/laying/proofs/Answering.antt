@@ -22,10 +22,10 @@ use Rattle.laying.specs.Laid.{laidOf}
 use Rattle.laying.specs.Layable.{Layable}
 use Rattle.judging.specs.Tests.{verdictOf}
 use Rattle.laying.specs.Verdict.{circuitOf, countsOf, answered, outputOf}
-use Rattle.ways.proofs.Replaying.{zeros, gates-read, held-fine}
+use Rattle.ways.proofs.Replaying.{zeros, gates-read, memory-fits}
 use Rattle.ways.proofs.Owned.{part-held}
 use Rattle.laying.proofs.Accepting.{job-layable, job-room}
-use Rattle.laying.proofs.Accepted.{circuit-good, circuit-fine, circuit-bounded}
+use Rattle.laying.proofs.Accepted.{circuit-good, circuit-fits, circuit-bounded}
 
 module _ (n : ℕ) (xs ys : List ℕ) (out : List ℕ) where
   abbrev room : ℕ
@@ -63,13 +63,13 @@ module _ (n : ℕ) (xs ys : List ℕ) (out : List ℕ) where
       unfolding answered
       counts-are r phase d h =
           let f = job .few in
-          h ∙ ap₂ countsOf (ap₂ (λ (i : ℕ) (l : List ℕ). gatesOf n (take i l)) b a ∙ gates-read C (circuit-fine n xs ys job) n (omega arith) (circuit-good n xs ys job)) d
+          h ∙ ap₂ countsOf (ap₂ (λ (i : ℕ) (l : List ℕ). gatesOf n (take i l)) b a ∙ gates-read C (circuit-fits n xs ys job) n (omega arith) (circuit-good n xs ys job)) d
           ∙ sym (ap (λ (t : Bool). pick t (countsOf C (phaseOf (gatesOf n ys))) (Refused (verdictOf n xs ys room))) accepted)
 
       output-is : (out′ : List ℕ) → out′ ≡ emit out 0 (gatesOf 20 (take k laid)) → out′ ≡ outputOf n xs ys out
       unfolding outputOf
       output-is out′ h =
-          h ∙ ap (emit out 0) (part-held C laid k a b ∙ held-fine C (circuit-fine n xs ys job))
+          h ∙ ap (emit out 0) (part-held C laid k a b ∙ memory-fits C (circuit-fits n xs ys job))
           ∙ emit-room out 0 C (omega (arith, circuit-bounded n xs ys job, job-room n xs ys room e))
           ∙ ap (λ (j : ℕ). map recordOf C ++ drop j out) (let z : 0 + length C ≡ length C = omega arith in z)
           ∙ sym (ap (λ (t : Bool). pick t (map recordOf C ++ drop (length C) out) out) accepted)

@@ -1,5 +1,5 @@
 -- A job that passed tests 1 to 7 is laid by the shorter of the two ways on each island, where the steps always have a qubit to go on with: all that `Job` says. Assumes nothing.
-use mathlib.Core.Path.{_≡_, refl}
+use mathlib.Core.Path.{_≡_}
 use mathlib.Core.Logic.{_≢_}
 use mathlib.Core.Bool.{Bool, true, false}
 use mathlib.Core.List.{List, []}
@@ -12,8 +12,8 @@ use Rattle.sets.specs.Pick.{pick}
 use Rattle.sets.specs.Bit.{In, Sub}
 use Rattle.gates.specs.declared.gate.Gate.{Gate}
 use Rattle.gates.specs.Layout.{gatesOf}
-use Rattle.circuit.specs.Circuit.{run, start, finalOf}
-use Rattle.meaning.specs.Borne.{Among, terms, sumsOf}
+use Rattle.circuit.specs.Circuit.{finalOf}
+use Rattle.meaning.specs.Borne.{Among, terms}
 use Rattle.tallies.specs.Tally.{cnotsOf, rotationsOf, boundOf}
 use Rattle.meaning.proofs.Lists.{among-at}
 use Rattle.tallies.proofs.Tallies.{bound-most}
@@ -22,45 +22,37 @@ use Rattle.chip.specs.Couplers.{nearOf}
 use Rattle.isles.specs.Islands.{islandOf}
 use Rattle.isles.proofs.Isles.{island-lt}
 use Rattle.columns.specs.Terms.{LaysTerms, totalOf}
+use Rattle.sets.proofs.Members.{in-lt}
 use Rattle.columns.proofs.Inside.{inside-length, inside-good}
-use Rattle.steps.specs.Steps.{stepsFor}
 use Rattle.steps.specs.Neighbours.{GoesOn}
 use Rattle.steps.proofs.Terms.{always-a-neighbour, steps-lay}
-use Rattle.nearest.specs.Nearest.{nearestFor}
 use Rattle.nearest.proofs.Lays.{nearest-lays}
-use Rattle.ending.specs.Mirror.{mirrorsOf}
-use Rattle.share.specs.Own.{ownSets, ownTerms}
-use Rattle.ways.specs.Ways.{withClosing, shorter, islandLaid}
-use Rattle.laying.specs.Laid.{onIsland, GoesOnIsland}
+use Rattle.share.specs.Own.{Share}
+use Rattle.ways.specs.Ways.{bySteps, byNearest, withClosing, shorter, islandLaid}
+use Rattle.laying.specs.Laid.{shareOf, onIsland, GoesOnIsland}
 use Rattle.laying.specs.Layable.{Layable}
-use Rattle.ways.specs.Memory.{Fine}
+use Rattle.ways.specs.Memory.{FitsMemory}
 use Rattle.laying.proofs.Composing.{Lays}
 use Rattle.laying.proofs.Islanding.{Placed}
 use Rattle.laying.proofs.Owning.{own-few}
-use Rattle.laying.proofs.Job.{OnIslands, Works, of-handed, way-terms, way-lays, way-placed, way-none, small-angles}
+use Rattle.laying.proofs.Job.{OnIslands, LaysOnIslands, of-share, way-terms, way-lays, way-placed, way-none, small-angles}
 
 -- ---- the two ways
-
-abbrev pub bySteps : List ℕ → ℕ → List ℕ → List ℕ → List Gate
-bySteps near Q ps angles = stepsFor near Q ps angles .laid
-
-abbrev pub byNearest : List ℕ → ℕ → List ℕ → List ℕ → List Gate
-byNearest near Q ps angles = nearestFor near Q ps angles .laid
 
 each-term : (Q : ℕ) (ps : List ℕ) → ((p : ℕ) → Among p ps → (p ≢ 0) × Sub p Q) → (k : ℕ) → k < length ps → Sub (getD ps k 0) Q × (getD ps k 0 ≢ 0)
 each-term Q ps h k l = let r = h (getD ps k 0) (among-at ps k l) in (r .1, r .0)
 
-pub steps-work : Works bySteps
-unfolding OnIslands
-steps-work near Q ps angles sy low j own up term few size = steps-lay near Q ps angles low sy j few (each-term Q ps term)
+pub steps-lay-all : LaysOnIslands bySteps
+unfolding OnIslands bySteps
+steps-lay-all s sy low j own up term few size = steps-lay (s .near) (s .set) (s .terms) (s .angles) low sy j few (each-term (s .set) (s .terms) term)
 
-pub nearest-work : Works byNearest
-unfolding OnIslands
-nearest-work near Q ps angles sy low j own up term few size = nearest-lays near Q ps angles sy j low few (each-term Q ps term)
+pub nearest-lays-all : LaysOnIslands byNearest
+unfolding OnIslands byNearest
+nearest-lays-all s sy low j own up term few size = nearest-lays (s .near) (s .set) (s .terms) (s .angles) sy j low few (each-term (s .set) (s .terms) term)
 
-steps-go-on : OnIslands GoesOn
+steps-go-on : OnIslands (λ s. GoesOn (s .near) (s .set) (s .terms) (s .angles))
 unfolding OnIslands
-steps-go-on near Q ps angles sy low j own up term few size = always-a-neighbour near Q ps angles low sy j few (each-term Q ps term)
+steps-go-on s sy low j own up term few size = always-a-neighbour (s .near) (s .set) (s .terms) (s .angles) low sy j few (each-term (s .set) (s .terms) term)
 
 -- what holds of both ways holds of the shorter
 of-shorter : (P : List Gate → Type 0) (a b : List Gate) → P a → P b → P (shorter a b)
@@ -85,20 +77,11 @@ module _ (n : ℕ) (xs ys : List ℕ) (job : Layable n xs ys) where
   abbrev Q : ℕ → ℕ
   Q q = islandOf (nearOf n xs) q
 
-  abbrev near : ℕ → List ℕ
-  near q = ownSets (Q q) (nearOf n xs)
-
-  abbrev ps : ℕ → List ℕ
-  ps q = ownTerms (Q q) (terms gs)
-
-  abbrev angles : ℕ → List ℕ
-  angles q = sumsOf gs (ps q)
-
-  abbrev ended : ℕ → List Gate → List Gate
-  ended q = withClosing (near q) (Q q) (ownSets (Q q) (run gs start)) (ownSets (Q q) (mirrorsOf gs))
+  abbrev share : ℕ → Share
+  share q = shareOf (Q q) (nearOf n xs) gs
 
   module _ (q : ℕ) (l : q < n) where
-    few-terms : length (ps q) ≤ 256
+    few-terms : length (share q .terms) ≤ 256
     few-terms = omega (arith, own-few (Q q) (terms gs), terms-few gs, job .fit)
 
     low : Q q < 2 ^ 20
@@ -107,42 +90,36 @@ module _ (n : ℕ) (xs ys : List ℕ) (job : Layable n xs ys) where
     size : ones (Q q) ≤ 20
     size = ones-le 20 (Q q) low
 
-    placed-fine : (L : List Gate) → Placed (near q) (Q q) (ps q) (angles q) L → Fine L
-    placed-fine L p = record {
-      few = omega (arith, inside-length (near q) (Q q) L (p .inside), within-bound (ones (Q q)) (length (ps q)) (cnotsOf L) (rotationsOf L) (p .cnots) (p .rotations), bound-most (ones (Q q)) (length (ps q)) size few-terms);
-      good = inside-good (near q) 20 (Q q) low L (p .inside) (p .small (small-angles n xs gs (job .few) (job .good) (job .fit) (job .within) q l));
+    placed-fits : (L : List Gate) → Placed (share q) L → FitsMemory L
+    placed-fits L p = record {
+      few = omega (arith, inside-length (share q .near) (Q q) L (p .inside), within-bound (ones (Q q)) (length (share q .terms)) (cnotsOf L) (rotationsOf L) (p .cnots) (p .rotations), bound-most (ones (Q q)) (length (share q .terms)) size few-terms);
+      good = inside-good (share q .near) 20 (Q q) (λ i h. in-lt 20 (Q q) i low h) L (p .inside) (p .small (small-angles n xs gs (job .few) (job .good) (job .fit) (job .within) q l));
     }
 
-    terms-placed : (L : List Gate) → LaysTerms (near q) (Q q) (ps q) (angles q) L → Placed (near q) (Q q) (ps q) (angles q) L
+    terms-placed : (L : List Gate) → LaysTerms (share q .near) (Q q) (share q .terms) (share q .angles) L → Placed (share q) L
     terms-placed L t = record { inside = t .inside; small = t .small; rotations = t .rotations; cnots = omega (arith, t .cnots) }
 
-    module _ (way : List ℕ → ℕ → List ℕ → List ℕ → List Gate) (works : Works way) where
-      abbrev L : List Gate
-      L = way (near q) (Q q) (ps q) (angles q)
+    module _ (way : Share → List Gate) (lays : LaysOnIslands way) where
+      pub way-fits : FitsMemory (way (share q))
+      way-fits = placed-fits (way (share q)) (terms-placed (way (share q)) (way-terms n xs gs (job .few) (job .good) (job .fit) (job .within) q l way lays))
 
-      pub way-fine : Fine L
-      way-fine = placed-fine L (terms-placed L (way-terms n xs gs (job .few) (job .good) (job .fit) (job .within) q l way works))
+      pub closed-fits : FitsMemory (withClosing (share q) (way (share q)))
+      closed-fits = placed-fits (withClosing (share q) (way (share q))) (way-placed n xs gs (job .few) (job .good) (job .fit) (job .within) q l way lays)
 
-      pub ended-fine : Fine (ended q L)
-      ended-fine = placed-fine (ended q L) (way-placed n xs gs (job .few) (job .good) (job .fit) (job .within) q l way works)
-
-    pub island-shorter : onIsland (nearOf n xs) gs q ≡ shorter (ended q (bySteps (near q) (Q q) (ps q) (angles q))) (ended q (byNearest (near q) (Q q) (ps q) (angles q)))
+    of-island : (P : List Gate → Type 0) → ((way : Share → List Gate) → LaysOnIslands way → P (withClosing (share q) (way (share q)))) → P (onIsland (nearOf n xs) gs q)
     unfolding onIsland islandLaid
-    island-shorter = refl
+    of-island P h = of-shorter P (withClosing (share q) (bySteps (share q))) (withClosing (share q) (byNearest (share q))) (h bySteps steps-lay-all) (h byNearest nearest-lays-all)
 
-    of-island : (P : List Gate → Type 0) → ((way : List ℕ → ℕ → List ℕ → List ℕ → List Gate) → Works way → P (ended q (way (near q) (Q q) (ps q) (angles q)))) → P (onIsland (nearOf n xs) gs q)
-    of-island P h = rw island-shorter (of-shorter P (ended q (bySteps (near q) (Q q) (ps q) (angles q))) (ended q (byNearest (near q) (Q q) (ps q) (angles q))) (h bySteps steps-work) (h byNearest nearest-work))
+    pub island-lays : Lays (Q q) (λ i. finalOf gs i) (λ p. totalOf p (share q .terms) (share q .angles)) (onIsland (nearOf n xs) gs q)
+    island-lays = of-island (Lays (Q q) (λ i. finalOf gs i) (λ p. totalOf p (share q .terms) (share q .angles))) (way-lays n xs gs (job .few) (job .good) (job .fit) (job .within) q l)
 
-    pub island-lays : Lays (Q q) (λ i. finalOf gs i) (λ p. totalOf p (ps q) (angles q)) (onIsland (nearOf n xs) gs q)
-    island-lays = of-island (Lays (Q q) (λ i. finalOf gs i) (λ p. totalOf p (ps q) (angles q))) (way-lays n xs gs (job .few) (job .good) (job .fit) (job .within) q l)
-
-    pub island-placed : Placed (near q) (Q q) (ps q) (angles q) (onIsland (nearOf n xs) gs q)
-    island-placed = of-island (Placed (near q) (Q q) (ps q) (angles q)) (way-placed n xs gs (job .few) (job .good) (job .fit) (job .within) q l)
+    pub island-placed : Placed (share q) (onIsland (nearOf n xs) gs q)
+    island-placed = of-island (Placed (share q)) (way-placed n xs gs (job .few) (job .good) (job .fit) (job .within) q l)
 
     -- no terms, and every wire asked for its own parity: no gates
-    pub island-none : length (ps q) ≡ 0 → ((i : ℕ) → In i (Q q) → getD (ownSets (Q q) (run gs start)) i 0 ≡ 2 ^ i) → onIsland (nearOf n xs) gs q ≡ []
-    island-none z own = of-island (λ (L : List Gate). L ≡ []) (λ way works. way-none n xs gs (job .few) (job .good) (job .fit) (job .within) q l way works z own)
+    pub island-none : length (share q .terms) ≡ 0 → ((i : ℕ) → In i (Q q) → getD (share q .asked) i 0 ≡ 2 ^ i) → onIsland (nearOf n xs) gs q ≡ []
+    island-none z own = of-island (λ (L : List Gate). L ≡ []) (λ way lays. way-none n xs gs (job .few) (job .good) (job .fit) (job .within) q l way lays z own)
 
     pub island-goes-on : GoesOnIsland (nearOf n xs) gs q
     unfolding GoesOnIsland
-    island-goes-on = of-handed n xs gs (job .few) (job .good) (job .fit) (job .within) q l GoesOn steps-go-on
+    island-goes-on = of-share n xs gs (job .few) (job .good) (job .fit) (job .within) q l (λ s. GoesOn (s .near) (s .set) (s .terms) (s .angles)) steps-go-on

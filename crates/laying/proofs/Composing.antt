@@ -14,11 +14,11 @@ use Rattle.sets.proofs.Bits.{bit-cases}
 use Rattle.gates.specs.declared.gate.Gate.{Gate}
 use Rattle.circuit.specs.Circuit.{run, start, given}
 use Rattle.circuit.specs.Flips.{flipRun, noFlips}
-use Rattle.gates.specs.All.{All}
+use Rattle.sets.specs.Lists.{All}
 use Rattle.circuit.proofs.Circuits.{run-none, run-append, run-length, given-none, given-append, start-length, start-at}
 use Rattle.circuit.proofs.Flips.{flip-none, flip-append, flip-length, none-length}
-use Rattle.gates.proofs.Alls.{all-none, all-append}
-use Rattle.columns.specs.Tables.{sumTo}
+use Rattle.sets.proofs.Lists.{all-none, all-append}
+use Rattle.sets.specs.Tables.{sumTo}
 use Rattle.laying.specs.Islands.{leads, laidTo}
 use Rattle.laying.proofs.Parting.{Parts, on-led, led-on, leader-leads}
 

@@ -17,8 +17,8 @@ use Rattle.meaning.specs.Borne.{Among}
 use Rattle.tallies.specs.Tally.{tally}
 use Rattle.meaning.proofs.Lists.{among-first, among-rest}
 use Rattle.tallies.proofs.Tallies.{tally-append, tally-none}
-use Rattle.columns.specs.Tables.{sumTo, one}
-use Rattle.columns.proofs.Tabling.{sum-ext, sum-none, sum-le, sum-same}
+use Rattle.sets.specs.Tables.{sumTo, one}
+use Rattle.sets.proofs.Tabling.{sum-ext, sum-none, sum-le, sum-same}
 use Rattle.share.specs.Own.{insideOf, ownTerms}
 use Rattle.laying.specs.Islands.{leads, laidTo}
 use Rattle.laying.proofs.Adding.{sum-one, sum-plus, sum-times, sum-swap, ones-bits}

@@ -16,7 +16,7 @@ use Rattle.verdicts.specs.declared.verdict.Verdict.{Verdict}
 use Rattle.verdicts.specs.declared.verdict.Verdict.the-variants.{Accepted}
 use Rattle.gates.specs.Layout.{gatesOf, recordOf, Good}
 use Rattle.meaning.specs.Borne.{overAt}
-use Rattle.gates.specs.All.{All}
+use Rattle.sets.specs.Lists.{All}
 use Rattle.meaning.specs.Same.{SameMeaning, Reachable}
 use Rattle.circuit.specs.Phase.{phaseOf}
 use Rattle.tallies.specs.Tally.{cnotsOf, rotationsOf, depthOf}
@@ -32,9 +32,9 @@ use Rattle.laying.specs.declared.lay.Answer.{Answer}
 use Rattle.laying.specs.declared.lay.Answer.the-variants.{Laid, Refused}
 use Rattle.laying.specs.Layable.{Layable}
 use Rattle.laying.specs.Laid.{GoesOnIsland}
-use Rattle.judging.specs.Tests.{judgedCount, judgedParities, judgedReach, judgedRoom, judgedMeaning, verdictOf}
+use Rattle.judging.specs.Tests.{judgedCount, judgedParities, judgedReach, judgedRoom, judgedMeaning, verdictOf, verdictOn}
 use Rattle.laying.specs.Verdict.{circuitOf, countsOf, answered, outputOf, verdictIn, recordsIn, cnotsIn, rotationsIn, depthIn, phaseIn, laidRecords}
-use Rattle.laying.specs.Reach.{Within}
+use Rattle.laying.specs.Reach.{MeaningInside}
 use Rattle.laying.specs.Demands.{Island, InIsland, gatesOn, Faithful, FlipsLast, judgedSix, Stays, InIslands, Strays, Agree}
 use Rattle.laying.proofs.Job.{only-inside}
 use Rattle.judging.proofs.Judging.{qubits-few, over-few}
@@ -185,7 +185,7 @@ module _ (n : ℕ) (couplers gates : List ℕ) (room : ℕ) (six : numberOf (jud
 
   -- past tests 1 to 6 the verdict is that of 7 and 8
   rest : andThen reach (judgedRoom n drawn room) ≡ verdictOf n couplers gates room
-  unfolding verdictOf judgedMeaning
+  unfolding verdictOf verdictOn judgedMeaning
   rest =
       then-on (judgedParities drawn) _ (past .parities) ∙ then-on (judgedGates n gates) _ (past .good) ∙ then-on (judgedCount gates) _ (past .count)
       ∙ then-on (judgedCouplers n couplers) _ (past .listed) ∙ then-on (judgedQubits n) _ (past .qubits)
@@ -193,7 +193,7 @@ module _ (n : ℕ) (couplers gates : List ℕ) (room : ℕ) (six : numberOf (jud
   layable : numberOf reach ≡ 0 → Layable n couplers gates
   layable z =
       let w : overAt drawn ≡ length drawn = parities-whole drawn (past .parities) in
-      record { few = few; good = allGood; whole = w; fit = over-few drawn w; within = reach-within n couplers drawn few allGood z }
+      record { few = few; good = allGood; fit = over-few drawn w; within = reach-within n couplers drawn few allGood z }
 
   refused-7 : (numberOf reach ≡ 0 → ⊥) → reach ≡ verdictOf n couplers gates room
   refused-7 ne = then-stop reach (judgedRoom n drawn room) ne ∙ rest
@@ -240,13 +240,13 @@ module _ (n : ℕ) (couplers gates : List ℕ) (room : ℕ) (six : numberOf (jud
   unfolding Stays InIsland
   reachable-in-islands = (λ r. linked (only-inside n couplers few ok drawn r), λ i. circuit-reaches n couplers gates (layable (ap numberOf (within-reach n couplers drawn few allGood (found i)))))
     where
-      linked : Within n (islandOf (nearOf n couplers)) drawn → InIslands n couplers drawn
+      linked : MeaningInside n (islandOf (nearOf n couplers)) drawn → InIslands n couplers drawn
       linked w = record {
         finals = λ i h j m. in-linked n couplers few ok i j h (w .finals i h j m);
         terms = λ p t. let s = w .terms p t in (s .0, s .1, λ j m. in-linked n couplers few ok (s .0) j (s .1) (s .2 j m));
       }
 
-      found : InIslands n couplers drawn → Within n (islandOf (nearOf n couplers)) drawn
+      found : InIslands n couplers drawn → MeaningInside n (islandOf (nearOf n couplers)) drawn
       found i = record {
         finals = λ q h j m. linked-in n couplers few ok q j (i .finals q h j m);
         terms = λ p t. let s = i .terms p t in (s .0, s .1, λ j m. linked-in n couplers few ok (s .0) j (s .2 j m));

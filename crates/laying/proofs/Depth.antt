@@ -11,8 +11,8 @@ use Rattle.sets.specs.Pick.{pick}
 use Rattle.gates.specs.Limits.{mostQubits}
 use Rattle.gates.specs.declared.gate.Gate.{Gate}
 use Rattle.gates.specs.Layout.{gatesOf, Good}
-use Rattle.gates.specs.All.{All}
-use Rattle.gates.proofs.Alls.{all-map}
+use Rattle.sets.specs.Lists.{All}
+use Rattle.sets.proofs.Lists.{all-map}
 use Rattle.verdicts.specs.declared.verdict.Verdict.{Verdict}
 use Rattle.verdicts.specs.Verdicts.{numberOf}
 use Rattle.tallies.proofs.DepthLaws.{depth-none, depth-few}

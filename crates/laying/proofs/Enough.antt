@@ -25,7 +25,7 @@ use Rattle.meaning.specs.Same.{Reachable}
 use Rattle.meaning.proofs.Bearing.{terms-few}
 use Rattle.chip.specs.Couplers.{nearOf}
 use Rattle.isles.specs.Islands.{islandsOf}
-use Rattle.judging.specs.Tests.{judgedCount, judgedParities, strayAt, scattered, judgedReach, judgedRoom, judgedMeaning, verdictOf}
+use Rattle.judging.specs.Tests.{judgedCount, judgedParities, strayAt, scattered, judgedReach, judgedRoom, judgedMeaning, verdictOf, verdictOn}
 use Rattle.judging.proofs.Judging.{qubits-few}
 use Rattle.laying.specs.Rows.{Passes4, Passes6}
 use Rattle.laying.proofs.Rows.{rows}
@@ -108,7 +108,7 @@ unfolding judgedRoom
 room-low n gs room = either (ltb room (boundOf n (length (terms gs)))) Room Accepted (λ e. record { place = omega arith }) (λ e. passed)
 
 pub place-most : (n : ℕ) (xs ys : List ℕ) (room : ℕ) → placeOf (verdictOf n xs ys room) ≤ mostGates
-unfolding verdictOf judgedMeaning
+unfolding verdictOf verdictOn judgedMeaning
 place-most n xs ys room =
     let gs : List Gate = gatesOf n ys in
     in-order (judgedQubits n) _ (qubits n) (λ q.

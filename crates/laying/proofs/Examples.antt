@@ -11,13 +11,13 @@ use Rattle.sets.specs.Size.{lowestOf}
 use Rattle.gates.specs.Layout.{packed, kindIn, aIn, bIn, cnotOf, rotationOf, gateOf, couplerOf, gatesOf}
 use Rattle.circuit.specs.Circuit.{step, run, start, takes, givesOn, givenOn, sumOf}
 use Rattle.circuit.specs.Flips.{flipStep, noFlips}
-use Rattle.meaning.specs.Borne.{insert, bears, borneFrom, borne, overAt, terms}
-use Rattle.table.specs.Table.{kept}
+use Rattle.meaning.specs.Borne.{isTerm, insert, bears, borneFrom, borne, overAt, terms}
+use Rattle.sets.specs.Lists.{those}
 use Rattle.tallies.specs.Tally.{boundOf}
 use Rattle.meaning.specs.Same.{Reachable}
 use Rattle.verdicts.specs.Verdicts.{numberOf, placeOf, firstFailing, judgedQubits, wrongAt, judgedCouplers, badAt, judgedGates}
 use Rattle.gates.specs.Limits.{mostQubits}
-use Rattle.gates.specs.Example.{True}
+use Rattle.gates.specs.Example.{AllHold}
 use Rattle.verdicts.specs.Rows.{Passes1, WrongRecord}
 use Rattle.meaning.specs.Examples.{records5, records6, meaningExamples}
 use Rattle.meaning.proofs.Examples.{meaning-examples}
@@ -26,7 +26,7 @@ use Rattle.chip.specs.Graph.{nbrs, grow, closure}
 use Rattle.chip.specs.Couplers.{linkOf, addOf, addAll, nearOf}
 use Rattle.isles.specs.Islands.{islandOf, islandsFrom, islandsOf}
 use Rattle.share.specs.Own.{insideOf}
-use Rattle.judging.specs.Tests.{judgedCount, judgedParities, leavesAt, strayAt, scatters, scattered, judgedReach, judgedRoom, judgedMeaning, verdictOf}
+use Rattle.judging.specs.Tests.{judgedCount, judgedParities, leavesAt, strayAt, scatters, scattered, judgedReach, judgedRoom, judgedMeaning, verdictOf, verdictOn}
 use Rattle.laying.specs.Examples.{couplers4, once4, twice4, loop8, gates9, layingExamples, provedExamples}
 use Rattle.laying.proofs.Accepting.{job-layable}
 use Rattle.laying.proofs.Accepted.{circuit-reaches}
@@ -42,7 +42,7 @@ record Computed : Type 0 where
   enough : numberOf (verdictOf 2 couplers4 gates9 9) ≡ 0
 
 computed : Computed
-unfolding verdictOf judgedMeaning judgedQubits judgedCouplers wrongAt judgedCount judgedGates badAt firstFailing firstOf someOf judgedParities overAt borne borneFrom bears insert judgedReach strayAt leavesAt insideOf scattered scatters terms kept sumOf givenOn givesOn takes noFlips flipStep judgedRoom boundOf run start step units cnot lowestOf trailingZeros islandsOf islandsFrom islandOf closure grow nbrs nearOf addAll addOf linkOf couplerOf gateOf cnotOf rotationOf packed kindIn aIn bIn
+unfolding verdictOf verdictOn judgedMeaning judgedQubits judgedCouplers wrongAt judgedCount judgedGates badAt firstFailing firstOf someOf judgedParities overAt borne borneFrom bears insert judgedReach strayAt leavesAt insideOf scattered scatters terms those isTerm sumOf givenOn givesOn takes noFlips flipStep judgedRoom boundOf run start step units cnot lowestOf trailingZeros islandsOf islandsFrom islandOf closure grow nbrs nearOf addAll addOf linkOf couplerOf gateOf cnotOf rotationOf packed kindIn aIn bIn
 computed = record { once = λ room. (refl, refl); term = λ room. (refl, refl); short = (refl, refl); twice = refl; none = refl; enough = refl }
 
 reached : (n : ℕ) (xs ys : List ℕ) (room : ℕ) → numberOf (verdictOf n xs ys room) ≡ 0 → Reachable n xs (gatesOf n ys)
@@ -66,8 +66,8 @@ loop-refused n l m ys room =
     let e = row .exactly .1 ((l, m), (omega arith, (0, omega arith, loop-wrong n))) in
     (e, (let w = row .place e .within in omega (arith, w)))
 
-laying-examples : True layingExamples
-unfolding True
+laying-examples : AllHold layingExamples
+unfolding AllHold
 laying-examples = (
   (reached 3 couplers4 twice4 15 (computed .twice), computed .twice, computed .once),
   (
@@ -88,5 +88,5 @@ laying-examples = (
 )
 
 -- all examples marked P
-pub examples : True provedExamples
+pub examples : AllHold provedExamples
 examples = true-append meaningExamples layingExamples meaning-examples laying-examples

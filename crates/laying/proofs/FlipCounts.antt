@@ -19,14 +19,14 @@ use Rattle.sets.proofs.Bits.{bit-cases}
 use Rattle.sets.proofs.Storing.{map-append}
 use Rattle.gates.specs.declared.gate.Gate.{Gate}
 use Rattle.gates.specs.declared.gate.Gate.the-variants.{Cnot, Rotation, X, Bad}
-use Rattle.gates.specs.All.{All}
+use Rattle.sets.specs.Lists.{All}
 use Rattle.tallies.specs.Tally.{tally, oneX, xsOf}
 use Rattle.tallies.proofs.Tallies.{tally-none, tally-append}
 use Rattle.circuit.proofs.Flips.{Flips}
 use Rattle.flips.specs.Xs.{asksFlip, flippedTo, xsOn}
 use Rattle.flips.proofs.Xs.{asks-yes, asks-no, flipped-yes, flipped-no}
-use Rattle.columns.specs.Terms.{Inside}
-use Rattle.columns.specs.Tables.{sumTo}
+use Rattle.chip.specs.Inside.{Inside}
+use Rattle.sets.specs.Tables.{sumTo}
 use Rattle.laying.specs.Islands.{leads, laidTo}
 use Rattle.laying.specs.Demands.{oneXAt, xsAt}
 use Rattle.laying.proofs.Adding.{ones-bits}
@@ -35,7 +35,7 @@ use Rattle.laying.proofs.Counting.{over-le, over-one, tally-laid, qubit
 
 -- gates on an island hold no X
 inside-none : (f : Gate → ℕ) → ((c t : ℕ) → f (Cnot c t) ≡ 0) → ((q a : ℕ) → f (Rotation q a) ≡ 0) → (near : List ℕ) (Q : ℕ) (gs : List Gate) → All (Inside near Q) gs → tally f gs ≡ 0
-unfolding All Inside tally
+unfolding All tally
 inside-none f c r near Q [] a = refl
 inside-none f c r near Q (Cnot u v ∷ gs) a = omega (arith, c u v, inside-none f c r near Q gs (a .1))
 inside-none f c r near Q (Rotation q x ∷ gs) a = omega (arith, r q x, inside-none f c r near Q gs (a .1))

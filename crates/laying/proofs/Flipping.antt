@@ -8,8 +8,8 @@ use lib.ListN.{getD}
 use Rattle.sets.specs.Bit.{In}
 use Rattle.gates.specs.declared.gate.Gate.{Gate}
 use Rattle.gates.specs.declared.gate.Gate.the-variants.{Cnot, Rotation, X, Bad}
-use Rattle.gates.specs.All.{All}
-use Rattle.gates.proofs.Alls.{all-map}
+use Rattle.sets.specs.Lists.{All}
+use Rattle.sets.proofs.Lists.{all-map}
 use Rattle.tallies.specs.Tally.{tally}
 use Rattle.tallies.proofs.Tallies.{tally-append}
 use Rattle.circuit.specs.Circuit.{run, given}
@@ -19,7 +19,7 @@ use Rattle.circuit.proofs.Flips.{flip-append, none-flipped, Flips}
 use Rattle.circuit.proofs.Quiet.{Quiet, quiet-append, Calm, calm-flips, calm-quiet}
 use Rattle.flips.specs.Xs.{flippedTo, xsOn}
 use Rattle.flips.proofs.Xs.{xs-run, xs-given, xs-tally, xs-quiet, xs-right, xs-others}
-use Rattle.columns.specs.Terms.{Inside}
+use Rattle.chip.specs.Inside.{Inside}
 use Rattle.laying.specs.Islands.{leads, laidTo}
 use Rattle.laying.proofs.Parting.{Parts, leader-below}
 use Rattle.laying.proofs.Composing.{laid-led, laid-not, of-laid, on-flips, Settles, wired, fresh-laid}
@@ -41,8 +41,8 @@ module _ (Q : ℕ) (F : List ℕ) (gs : List Gate) where
 
 -- gates on Q find no flip where its wires are not flipped
 inside-calm : (near : List ℕ) (Q : ℕ) (G : List ℕ) → ((i : ℕ) → In i Q → getD G i 0 ≡ 0) → (g : Gate) → Inside near Q g → Calm G g
-unfolding Inside Calm
-inside-calm near Q G z (Cnot c t) h = z c (h .1)
+unfolding Calm
+inside-calm near Q G z (Cnot c t) h = z c (h .0)
 inside-calm near Q G z (Rotation q a) h = z q h
 inside-calm near Q G z (X q) h = absurd h
 inside-calm near Q G z Bad h = absurd h

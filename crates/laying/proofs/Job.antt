@@ -17,8 +17,8 @@ use Rattle.gates.specs.declared.gate.Gate.the-variants.{Cnot, Rotation, X, Bad}
 use Rattle.verdicts.specs.declared.verdict.Verdict.the-variants.{Accepted}
 use Rattle.gates.specs.Layout.{Good}
 use Rattle.circuit.specs.Circuit.{run, start, finalOf, given, sumOf, Term}
-use Rattle.meaning.specs.Borne.{Among, borne, terms, sumsOf}
-use Rattle.gates.specs.All.{All}
+use Rattle.meaning.specs.Borne.{Among, borne, terms}
+use Rattle.sets.specs.Lists.{All}
 use Rattle.gates.specs.Listed.{Listed, OnCoupler}
 use Rattle.meaning.specs.Same.{Reachable}
 use Rattle.tallies.specs.Tally.{tally, cnotsOf, rotationsOf, oneCnot, oneRotation}
@@ -26,7 +26,7 @@ use Rattle.verdicts.specs.Verdicts.{judgedCouplers}
 use Rattle.circuit.proofs.Circuits.{final-is}
 use Rattle.circuit.proofs.Wiring.{wires-past, good-up}
 use Rattle.meaning.proofs.Bearing.{borne-not-empty, terms-up, term-among, among-term, terms-borne, terms-few}
-use Rattle.gates.proofs.Alls.{all-map}
+use Rattle.sets.proofs.Lists.{all-map}
 use Rattle.meaning.proofs.Lists.{Up}
 use Rattle.meaning.proofs.Tables.{map-at}
 use Rattle.chip.specs.Graph.{Near, Symm, Joined}
@@ -34,33 +34,36 @@ use Rattle.isles.specs.Islands.{islandOf}
 use Rattle.chip.specs.Couplers.{nearOf}
 use Rattle.chip.proofs.Neighbours.{near-symm, near-below, near-listed, accepted-near}
 use Rattle.isles.proofs.Isles.{island-self, island-same, island-below, island-fits, island-lt, island-joined, island-near}
-use Rattle.columns.specs.Terms.{Inside, LaysTerms, totalOf}
+use Rattle.columns.proofs.Inside.{inside-good}
+use Rattle.chip.specs.Inside.{Inside}
+use Rattle.columns.specs.Terms.{LaysTerms, totalOf}
 use Rattle.ending.specs.Ends.{Ready}
 use Rattle.ending.specs.Mirror.{mirrorsOf, mirrorOf, Bordered}
 use Rattle.ending.proofs.Mirrors.{bordered-ready, mirror-inside}
-use Rattle.share.specs.Own.{ownSets, ownTerms}
+use Rattle.share.specs.Own.{Share, ownTerms}
 use Rattle.laying.specs.Islands.{leads, laidTo}
 use Rattle.ways.specs.Ways.{withClosing}
-use Rattle.laying.specs.Reach.{Within}
+use Rattle.laying.specs.Laid.{shareOf}
+use Rattle.laying.specs.Reach.{MeaningInside}
 use Rattle.laying.proofs.Parting.{Parts, leader-below, leader-leads, leader-same, inside-one}
 use Rattle.laying.proofs.Restricting.{own-whole, own-symm, own-joined, own-near}
 use Rattle.laying.proofs.Owning.{own-up, own-has, own-back, own-few, total-own, total-none}
-use Rattle.laying.proofs.Islanding.{Placed, closed-lays, closed-placed, closed-none, inside-good}
+use Rattle.laying.proofs.Islanding.{Placed, closed-lays, closed-placed, closed-none}
 use Rattle.laying.proofs.Composing.{Lays, on-parities, wired, parities-settle, given-laid}
 use Rattle.laying.proofs.Counting.{Fits, fits-by, over-ext, over-one, over-none, tally-laid, terms-counted, cnots-bounded, overIslands}
 use Rattle.laying.proofs.Reaching.{reachable-within}
 
 -- ---- a way of laying terms
 
--- P holds of every connected island and of terms that ascend, are inside it and not empty
-unfoldable pub OnIslands : (List ℕ → ℕ → List ℕ → List ℕ → Type 0) → Type 0
+-- P holds of the share of every connected island whose terms ascend, are inside it and not empty
+unfoldable pub OnIslands : (Share → Type 0) → Type 0
 OnIslands P =
-    (near : List ℕ) (Q : ℕ) (ps angles : List ℕ) → Symm near → Q < 2 ^ 20 → Joined near Q → ((u v : ℕ) → Near near u v → In u Q × In v Q)
-    → Up 0 ps → ((p : ℕ) → Among p ps → (p ≢ 0) × Sub p Q) → length ps ≤ 256 → length angles ≡ length ps → P near Q ps angles
+    (s : Share) → Symm (s .near) → s .set < 2 ^ 20 → Joined (s .near) (s .set) → ((u v : ℕ) → Near (s .near) u v → In u (s .set) × In v (s .set))
+    → Up 0 (s .terms) → ((p : ℕ) → Among p (s .terms) → (p ≢ 0) × Sub p (s .set)) → length (s .terms) ≤ 256 → length (s .angles) ≡ length (s .terms) → P s
 
 -- what laying needs of a way: the one statement of `columns`
-abbrev pub Works : (List ℕ → ℕ → List ℕ → List ℕ → List Gate) → Type 0
-Works way = OnIslands (λ near Q ps angles. LaysTerms near Q ps angles (way near Q ps angles))
+abbrev pub LaysOnIslands : (Share → List Gate) → Type 0
+LaysOnIslands way = OnIslands (λ s. LaysTerms (s .near) (s .set) (s .terms) (s .angles) (way s))
 
 -- ---- the islands of n qubits
 
@@ -83,12 +86,12 @@ module _ (n : ℕ) (xs : List ℕ) (few : n ≤ 20) where
   pub joins : judgedCouplers n xs ≡ Accepted → (u v : ℕ) → u < n → v < n → u ≢ v → Listed xs u v → isl u ≡ isl v
   joins ok u v hu hv ne k = island-near near (near-symm n xs) u v (omega arith) (omega arith) (accepted-near n xs few ok u v hu hv k)
 
-  pub only-inside : judgedCouplers n xs ≡ Accepted → (gs : List Gate) → Reachable n xs gs → Within n isl gs
+  pub only-inside : judgedCouplers n xs ≡ Accepted → (gs : List Gate) → Reachable n xs gs → MeaningInside n isl gs
   only-inside ok gs r = reachable-within n isl xs few (λ i h. parts .self i h) (joins ok) gs r
 
 -- ---- a job within its islands
 
-module _ (n : ℕ) (xs : List ℕ) (gs : List Gate) (few : n ≤ 20) (good : All (Good n) gs) (fit : length (borne gs) ≤ 256) (within : Within n (islandOf (nearOf n xs)) gs) where
+module _ (n : ℕ) (xs : List ℕ) (gs : List Gate) (few : n ≤ 20) (good : All (Good n) gs) (fit : length (borne gs) ≤ 256) (within : MeaningInside n (islandOf (nearOf n xs)) gs) where
   abbrev P : Parts n (isl n xs few)
   P = parts n xs few
 
@@ -97,6 +100,10 @@ module _ (n : ℕ) (xs : List ℕ) (gs : List Gate) (few : n ≤ 20) (good : All
 
   abbrev ts : List ℕ
   ts = terms gs
+
+  -- what the island of q is handed
+  abbrev share : ℕ → Share
+  share q = shareOf (Q q) (nearOf n xs) gs
 
   pub good20 : All (Good 20) gs
   good20 = all-map (Good n) (Good 20) (λ g h. good-up n 20 g few h) gs good
@@ -127,88 +134,72 @@ module _ (n : ℕ) (xs : List ℕ) (gs : List Gate) (few : n ≤ 20) (good : All
             let f : finalOf gs i ≡ 2 ^ i = final-is gs i ∙ wires-past n gs start i (omega arith) good ∙ unfold start in getD-units 20 i h in
             absurd (omega (arith, z, w, ap (bit (Q q)) (in-pow i k (subst (In k) f m))))
 
-    rows-are : (i : ℕ) → In i (Q q) → getD (ownSets (Q q) (run gs start)) i 0 ≡ finalOf gs i
+    rows-are : (i : ℕ) → In i (Q q) → getD (share q .asked) i 0 ≡ finalOf gs i
     rows-are i h = own-whole (Q q) (run gs start) i (below i h) h (subst (λ (m : ℕ). Sub m (Q q)) (final-is gs i) (asked i h)) ∙ sym (final-is gs i)
 
     mirror-is : (i : ℕ) → getD (mirrorsOf gs) i 0 ≡ mirrorOf gs i
     unfolding mirrorOf
     mirror-is i = refl
 
-    mirror-are : (i : ℕ) → In i (Q q) → getD (ownSets (Q q) (mirrorsOf gs)) i 0 ≡ mirrorOf gs i
+    mirror-are : (i : ℕ) → In i (Q q) → getD (share q .mirror) i 0 ≡ mirrorOf gs i
     mirror-are i h = own-whole (Q q) (mirrorsOf gs) i (below i h) h (subst (λ (m : ℕ). Sub m (Q q)) (sym (mirror-is i)) (mirror-inside gs (Q q) low good20 bordered i h)) ∙ mirror-is i
 
-    ready : Ready (Q q) (ownSets (Q q) (run gs start)) (ownSets (Q q) (mirrorsOf gs))
-    ready = bordered-ready gs (Q q) low good20 bordered (ownSets (Q q) (run gs start)) (ownSets (Q q) (mirrorsOf gs)) rows-are mirror-are
+    ready : Ready (Q q) (share q .asked) (share q .mirror)
+    ready = bordered-ready gs (Q q) low good20 bordered (share q .asked) (share q .mirror) rows-are mirror-are
 
-    symm : Symm (ownSets (Q q) (nearOf n xs))
+    symm : Symm (share q .near)
     symm = own-symm (nearOf n xs) (Q q) below (near-symm n xs)
 
-    joined : Joined (ownSets (Q q) (nearOf n xs)) (Q q)
+    joined : Joined (share q .near) (Q q)
     joined = own-joined (nearOf n xs) (Q q) below (island-joined (nearOf n xs) (near-symm n xs) q (omega arith))
 
-    -- what a way is handed
-    abbrev handed : (List ℕ → ℕ → List ℕ → List ℕ → List Gate) → List Gate
-    handed way = way (ownSets (Q q) (nearOf n xs)) (Q q) (ownTerms (Q q) ts) (sumsOf gs (ownTerms (Q q) ts))
-
-    -- and its gates with their closing
-    abbrev ended : (List ℕ → ℕ → List ℕ → List ℕ → List Gate) → List Gate
-    ended way = withClosing (ownSets (Q q) (nearOf n xs)) (Q q) (ownSets (Q q) (run gs start)) (ownSets (Q q) (mirrorsOf gs)) (handed way)
-
-    pub of-handed : (R : List ℕ → ℕ → List ℕ → List ℕ → Type 0) → OnIslands R → R (ownSets (Q q) (nearOf n xs)) (Q q) (ownTerms (Q q) ts) (sumsOf gs (ownTerms (Q q) ts))
+    pub of-share : (R : Share → Type 0) → OnIslands R → R (share q)
     unfolding OnIslands
-    of-handed R h =
-        h (ownSets (Q q) (nearOf n xs)) (Q q) (ownTerms (Q q) ts) (sumsOf gs (ownTerms (Q q) ts)) symm low joined
+    of-share R h =
+        h (share q) symm low joined
         (λ u v k. let r = own-near (nearOf n xs) (Q q) u v k in (r .0, r .2))
         (own-up (Q q) 0 ts (terms-up gs))
         (λ p h. let r = own-back (Q q) p ts h in (borne-not-empty n gs few good p (terms-borne p gs (r .0)), r .1))
         (omega (arith, own-few (Q q) ts, terms-few gs, fit)) (length-map (ownTerms (Q q) ts) (λ p. sumOf p gs))
 
-    module _ (way : List ℕ → ℕ → List ℕ → List ℕ → List Gate) (works : Works way) where
-      pub way-terms : LaysTerms (ownSets (Q q) (nearOf n xs)) (Q q) (ownTerms (Q q) ts) (sumsOf gs (ownTerms (Q q) ts)) (handed way)
-      way-terms = of-handed (λ near Q ps angles. LaysTerms near Q ps angles (way near Q ps angles)) works
+    module _ (way : Share → List Gate) (lays : LaysOnIslands way) where
+      pub way-terms : LaysTerms (share q .near) (Q q) (share q .terms) (share q .angles) (way (share q))
+      way-terms = of-share (λ s. LaysTerms (s .near) (s .set) (s .terms) (s .angles) (way s)) lays
 
-      pub way-lays : Lays (Q q) (λ i. finalOf gs i) (λ p. totalOf p (ownTerms (Q q) ts) (sumsOf gs (ownTerms (Q q) ts))) (ended way)
-      unfolding withClosing
+      pub way-lays : Lays (Q q) (λ i. finalOf gs i) (λ p. totalOf p (share q .terms) (share q .angles)) (withClosing (share q) (way (share q)))
       way-lays =
-          let c = closed-lays (ownSets (Q q) (nearOf n xs)) (Q q) (ownTerms (Q q) ts) (sumsOf gs (ownTerms (Q q) ts)) (ownSets (Q q) (run gs start)) (ownSets (Q q) (mirrorsOf gs))
-          (handed way) symm low joined way-terms ready in
+          let c = closed-lays (share q) (way (share q)) symm low joined way-terms ready in
           record { right = λ W size own i h. c .right W size own i h ∙ rows-are i h; others = c .others; gives = c .gives }
 
-      pub way-placed : Placed (ownSets (Q q) (nearOf n xs)) (Q q) (ownTerms (Q q) ts) (sumsOf gs (ownTerms (Q q) ts)) (ended way)
-      unfolding withClosing
-      way-placed =
-          closed-placed (ownSets (Q q) (nearOf n xs)) (Q q) (ownTerms (Q q) ts) (sumsOf gs (ownTerms (Q q) ts)) (ownSets (Q q) (run gs start)) (ownSets (Q q) (mirrorsOf gs))
-          (handed way) symm low joined way-terms ready
+      pub way-placed : Placed (share q) (withClosing (share q) (way (share q)))
+      way-placed = closed-placed (share q) (way (share q)) symm low joined way-terms ready
 
-      pub way-none : length (ownTerms (Q q) ts) ≡ 0 → ((i : ℕ) → In i (Q q) → getD (ownSets (Q q) (run gs start)) i 0 ≡ 2 ^ i) → ended way ≡ []
-      unfolding withClosing
-      way-none =
-          closed-none (ownSets (Q q) (nearOf n xs)) (Q q) (ownTerms (Q q) ts) (sumsOf gs (ownTerms (Q q) ts)) (ownSets (Q q) (run gs start)) (ownSets (Q q) (mirrorsOf gs))
-          (handed way) symm low joined way-terms ready
+      pub way-none : length (share q .terms) ≡ 0 → ((i : ℕ) → In i (Q q) → getD (share q .asked) i 0 ≡ 2 ^ i) → withClosing (share q) (way (share q)) ≡ []
+      way-none = closed-none (share q) (way (share q)) symm low joined way-terms ready
 
-    pub small-angles : (k : ℕ) → getD (sumsOf gs (ownTerms (Q q) ts)) k 0 < 65536
+    pub small-angles : (k : ℕ) → getD (share q .angles) k 0 < 65536
     unfolding sumOf
-    small-angles k = go (decLt k (length (ownTerms (Q q) ts)))
+    small-angles k = go (decLt k (length (share q .terms)))
       where
-        go : Dec (k < length (ownTerms (Q q) ts)) → getD (sumsOf gs (ownTerms (Q q) ts)) k 0 < 65536
-        go (yes h) = omega (arith, map-at (λ p. sumOf p gs) (ownTerms (Q q) ts) k h)
-        go (no h) = omega (arith, List·getD-eq-default (sumsOf gs (ownTerms (Q q) ts)) 0 {n = k} (omega (arith, length-map (ownTerms (Q q) ts) (λ p. sumOf p gs))))
+        go : Dec (k < length (share q .terms)) → getD (share q .angles) k 0 < 65536
+        go (yes h) = omega (arith, map-at (λ p. sumOf p gs) (share q .terms) k h)
+        go (no h) = omega (arith, List·getD-eq-default (share q .angles) 0 {n = k} (omega (arith, length-map (share q .terms) (λ p. sumOf p gs))))
 
   -- ---- all islands, each with gates that do what a way and its closing do
 
   abbrev T : ℕ → ℕ → ℕ
-  T q p = totalOf p (ownTerms (Q q) ts) (sumsOf gs (ownTerms (Q q) ts))
+  T q p = totalOf p (share q .terms) (share q .angles)
 
   module _ (lists : ℕ → List Gate) (lays : (q : ℕ) → q < n → Lays (Q q) (λ i. finalOf gs i) (T q) (lists q))
-      (placed : (q : ℕ) → q < n → Placed (ownSets (Q q) (nearOf n xs)) (Q q) (ownTerms (Q q) ts) (sumsOf gs (ownTerms (Q q) ts)) (lists q)) where
+      (placed : (q : ℕ) → q < n → Placed (share q) (lists q)) where
     pub island-good : (q : ℕ) → q < n → All (Good n) (lists q)
-    island-good q l = inside-good (ownSets (Q q) (nearOf n xs)) (Q q) n (λ i h. P .small q i l h) (lists q) (placed q l .inside) (placed q l .small (small-angles q l))
+    island-good q l = inside-good (share q .near) n (Q q) (λ i h. P .small q i l h) (lists q) (placed q l .inside) (placed q l .small (small-angles q l))
 
     pub island-coupled : (q : ℕ) → q < n → All (OnCoupler xs) (lists q)
-    island-coupled q l = all-map (Inside (ownSets (Q q) (nearOf n xs)) (Q q)) (OnCoupler xs) on (lists q) (placed q l .inside)
+    island-coupled q l = all-map (Inside (share q .near) (Q q)) (OnCoupler xs) on (lists q) (placed q l .inside)
       where
-        on : (g : Gate) → Inside (ownSets (Q q) (nearOf n xs)) (Q q) g → OnCoupler xs g
-        on (Cnot c t) h = unfold OnCoupler Inside in near-listed n xs c t (own-near (nearOf n xs) (Q q) c t (h .0) .1)
+        on : (g : Gate) → Inside (share q .near) (Q q) g → OnCoupler xs g
+        on (Cnot c t) h = unfold OnCoupler in near-listed n xs c t (own-near (nearOf n xs) (Q q) c t (h .3) .1)
         on (Rotation a b) h = unfold OnCoupler in tt
         on (X q) h = unfold OnCoupler in tt
         on Bad h = unfold OnCoupler in tt
@@ -250,7 +241,7 @@ module _ (n : ℕ) (xs : List ℕ) (gs : List Gate) (few : n ≤ 20) (good : All
     unfolding rotationsOf
     laid-rotations =
         tally-laid n Q few P oneRotation lists n
-        ∙ over-ext n Q few P (λ q. tally oneRotation (lists q)) (λ q. length (ownTerms (Q q) ts)) (λ q l e. placed q l .rotations)
+        ∙ over-ext n Q few P (λ q. tally oneRotation (lists q)) (λ q. length (share q .terms)) (λ q l e. placed q l .rotations)
         ∙ terms-counted n Q few P ts terms-fit
 
     pub laid-cnots : cnotsOf laid ≤ 2 * (n - 1) * length ts + 2 * n * (n - 1)

@@ -15,26 +15,26 @@ use Rattle.gates.specs.declared.gate.Gate.the-variants.{Cnot, Rotation, X, Bad}
 use Rattle.gates.specs.Layout.{Good}
 use Rattle.circuit.specs.Circuit.{step, run, start, finalOf, gives, given, Term}
 use Rattle.circuit.specs.Flips.{noFlips}
-use Rattle.gates.specs.All.{All}
+use Rattle.sets.specs.Lists.{All}
 use Rattle.gates.specs.Listed.{Listed, OnCoupler}
 use Rattle.meaning.specs.Same.{Reachable}
 use Rattle.circuit.proofs.Steps.{cnot-target, cnot-other, step-length, gives-cnot, gives-x, gives-bad, gives-other}
 use Rattle.circuit.proofs.Circuits.{start-length}
 use Rattle.circuit.proofs.Straight.{straight, straight-good, straight-coupled, sum-straight}
-use Rattle.laying.specs.Reach.{Within}
+use Rattle.laying.specs.Reach.{MeaningInside}
 
 -- wire i bears a parity inside isl i
-pub record Inside (n : ℕ) (isl : ℕ → ℕ) (W : List ℕ) : Type 0 where
+pub record WiresInside (n : ℕ) (isl : ℕ → ℕ) (W : List ℕ) : Type 0 where
   pub long : length W ≡ 20
   pub at : (i : ℕ) → i < n → Sub (getD W i 0) (isl i)
 
 module _ (n : ℕ) (isl : ℕ → ℕ) (couplers : List ℕ) (few : n ≤ 20) (self : (i : ℕ) → i < n → In i (isl i))
     (joins : (u v : ℕ) → u < n → v < n → u ≢ v → Listed couplers u v → isl u ≡ isl v) where
-  inside-start : Inside n isl start
+  inside-start : WiresInside n isl start
   unfolding start
   inside-start = record { long = start-length; at = λ i (h : i < n). rw (getD-units 20 i (omega arith)) (λ j m. subst (λ (k : ℕ). In k (isl i)) (sym (in-pow i j m)) (self i h)) }
 
-  inside-step : (g : Gate) (W : List ℕ) → Good n g → OnCoupler couplers g → Inside n isl W → Inside n isl (step g W)
+  inside-step : (g : Gate) (W : List ℕ) → Good n g → OnCoupler couplers g → WiresInside n isl W → WiresInside n isl (step g W)
   unfolding step Good OnCoupler
   inside-step (Cnot c t) W (hc, ht, ne) o w = record { long = step-length (Cnot c t) W ∙ w .long; at = λ i h. go i h (ℕ-discrete i t) }
     where
@@ -46,13 +46,13 @@ module _ (n : ℕ) (isl : ℕ → ℕ) (couplers : List ℕ) (few : n ≤ 20) (s
   inside-step (X q) W g o w = w
   inside-step Bad W g o w = absurd g
 
-  inside-run : (gs : List Gate) (W : List ℕ) → All (Good n) gs → All (OnCoupler couplers) gs → Inside n isl W → Inside n isl (run gs W)
+  inside-run : (gs : List Gate) (W : List ℕ) → All (Good n) gs → All (OnCoupler couplers) gs → WiresInside n isl W → WiresInside n isl (run gs W)
   unfolding run All
   inside-run [] W g o w = w
   inside-run (x ∷ gs) W g o w = inside-run gs (step x W) (g .1) (o .1) (inside-step x W (g .0) (o .0) w)
 
   -- a parity that gets an angle is inside one island
-  inside-given : (p : ℕ) (gs : List Gate) (W : List ℕ) → All (Good n) gs → All (OnCoupler couplers) gs → Inside n isl W → given p gs W ≢ 0 → (i : ℕ) × (i < n) × Sub p (isl i)
+  inside-given : (p : ℕ) (gs : List Gate) (W : List ℕ) → All (Good n) gs → All (OnCoupler couplers) gs → WiresInside n isl W → given p gs W ≢ 0 → (i : ℕ) × (i < n) × Sub p (isl i)
   unfolding given All
   inside-given p [] W g o w ne = absurd (ne refl)
   inside-given p (x ∷ gs) W g o w ne = go (ℕ-discrete (gives p x W) 0) (inside-given p gs (step x W) (g .1) (o .1) (inside-step x W (g .0) (o .0) w))
@@ -75,7 +75,7 @@ module _ (n : ℕ) (isl : ℕ → ℕ) (couplers : List ℕ) (few : n ≤ 20) (s
       go (no d) ih = here x (g .0) d
 
   -- only what is inside is reachable
-  pub reachable-within : (gs : List Gate) → Reachable n couplers gs → Within n isl gs
+  pub reachable-within : (gs : List Gate) → Reachable n couplers gs → MeaningInside n isl gs
   unfolding finalOf Term
   reachable-within gs r =
       record {

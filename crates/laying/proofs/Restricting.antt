@@ -16,7 +16,7 @@ use Rattle.sets.proofs.Members.{in-and, and-in, sub-eq}
 use Rattle.sets.proofs.Words.{in-has, out-has}
 use Rattle.chip.specs.Graph.{Near, Symm, Chain, here, next, Joined}
 use Rattle.chip.proofs.Chains.{chain-end}
-use Rattle.columns.proofs.Tabling.{tab-length, tab-at}
+use Rattle.sets.proofs.Tabling.{tab-length, tab-at}
 use Rattle.share.specs.Own.{mine, ownSets}
 
 pub own-long : (Q : ℕ) (xs : List ℕ) → length (ownSets Q xs) ≡ 20

@@ -26,7 +26,7 @@ use Rattle.meaning.specs.Same.{Reachable}
 use Rattle.meaning.proofs.Bearing.{borne-grows}
 use Rattle.chip.specs.Couplers.{nearOf}
 use Rattle.isles.specs.Islands.{islandsOf}
-use Rattle.judging.specs.Tests.{judgedCount, judgedParities, judgedReach, judgedRoom, judgedMeaning, verdictOf}
+use Rattle.judging.specs.Tests.{judgedCount, judgedParities, judgedReach, judgedRoom, judgedMeaning, verdictOf, verdictOn}
 use Rattle.judging.proofs.Judging.{over-le, over-few}
 use Rattle.laying.specs.Demands.{judgedSix, Strays}
 use Rattle.laying.specs.Rows.{Passes4, Passes6, Brings, Passes8, Rows}
@@ -114,7 +114,7 @@ module _ (n : ℕ) (couplers gates : List ℕ) (room : ℕ) where
 
   -- 1 to 8, of which 2 and 3 are one function
   all-judged : all ≡ verdictOf n couplers gates room
-  unfolding verdictOf judgedMeaning
+  unfolding verdictOf verdictOn judgedMeaning
   all-judged = ap (andThen (judgedQubits n)) (sym (then-assoc (judgedMany couplers) (judgedWrong n couplers) behind3) ∙ ap (λ (v : Verdict). andThen v behind3) (couplers-parted n couplers))
 
   module _ (p1 : Passes1 n) (p2 : Passes2 couplers) (p3 : Passes3 n couplers) where

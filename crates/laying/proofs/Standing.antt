@@ -13,11 +13,11 @@ use Rattle.sets.specs.Search.{firstOf}
 use Rattle.sets.proofs.Deciding.{never, both-true, both-yes}
 use Rattle.sets.proofs.Finding.{first-all, first-here, first-next, first-end, some-yes, some-no}
 use Rattle.sets.proofs.Words.{in-has, only-is}
+use Rattle.gates.specs.declared.gate.Gate.{Gate}
 use Rattle.chip.proofs.Tests.{some-of}
 use Rattle.emitting.specs.Emit.{emit, emitAt}
 use Rattle.emitting.proofs.Emitting.{emit-none, emit-at-none}
 use Rattle.share.specs.declared.own.Own.{Own}
-use Rattle.ways.specs.Memory.{heldOwn}
 use Rattle.laying.specs.Stands.{offOf, someOff, standsOf}
 
 -- ---- the search for a wire that is off
@@ -72,5 +72,5 @@ module _ (o : Own) (s : standsOf o ≡ true) where
 
 -- ---- nothing is laid
 
-pub idle : (o : Own) → heldOwn o ≡ [] → (out : List ℕ) (at : ℕ) → (out ≡ emit out at (heldOwn o)) × (at ≡ emitAt out at (heldOwn o))
-idle o none out at = (sym (ap (emit out at) none ∙ emit-none out at), sym (ap (emitAt out at) none ∙ emit-at-none out at))
+pub nothing-laid : (gs : List Gate) → gs ≡ [] → (out : List ℕ) (at : ℕ) → (out ≡ emit out at gs) × (at ≡ emitAt out at gs)
+nothing-laid gs none out at = (sym (ap (emit out at) none ∙ emit-none out at), sym (ap (emitAt out at) none ∙ emit-at-none out at))

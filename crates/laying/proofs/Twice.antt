@@ -13,8 +13,8 @@ use Rattle.gates.specs.Layout.{gatesOf, Good}
 use Rattle.circuit.specs.Circuit.{run, start, sumOf, Term}
 use Rattle.circuit.specs.Flips.{flipRun, noFlips}
 use Rattle.meaning.specs.Borne.{Among, terms, sumsOf}
-use Rattle.gates.specs.All.{All}
-use Rattle.gates.proofs.Alls.{all-map}
+use Rattle.sets.specs.Lists.{All}
+use Rattle.sets.proofs.Lists.{all-map}
 use Rattle.verdicts.specs.Verdicts.{judgedCouplers}
 use Rattle.circuit.proofs.Circuits.{final-is}
 use Rattle.circuit.proofs.Flips.{flip-is}
@@ -26,12 +26,12 @@ use Rattle.chip.specs.Couplers.{nearOf}
 use Rattle.isles.specs.Islands.{islandOf}
 use Rattle.chip.proofs.Neighbours.{near-listed, accepted-near}
 use Rattle.isles.proofs.Isles.{island-lt}
-use Rattle.columns.specs.Terms.{Inside}
+use Rattle.chip.specs.Inside.{Inside}
 use Rattle.ending.specs.Mirror.{mirrorsOf, mirrorOf, Bordered}
 use Rattle.ending.proofs.Mirrors.{mirror-same-inside}
 use Rattle.share.specs.Own.{ownSets, ownTerms}
 use Rattle.ways.specs.Ways.{islandLaid}
-use Rattle.laying.specs.Laid.{onIsland, withFlips, laidOf}
+use Rattle.laying.specs.Laid.{shareOf, onIsland, withFlips, laidOf}
 use Rattle.laying.specs.Layable.{Layable}
 use Rattle.laying.specs.Verdict.{circuitOf}
 use Rattle.laying.specs.Demands.{Island, gatesOn, FlipsLast, Agree}
@@ -46,9 +46,7 @@ use Rattle.laying.proofs.Linking.{island-found}
 
 -- what the set S is laid with, in a job whose chip is `near` and whose gates are gs
 laidOn : ℕ → List ℕ → List Gate → List Gate
-laidOn S near gs =
-    let ps = ownTerms S (terms gs) in
-    islandLaid (ownSets S near) S ps (sumsOf gs ps) (ownSets S (run gs start)) (ownSets S (mirrorsOf gs))
+laidOn S near gs = islandLaid (shareOf S near gs)
 
 -- ---- one job
 
@@ -101,7 +99,7 @@ module _ (n : ℕ) (xs ys : List ℕ) (job : Layable n xs ys) (ok : judgedCouple
       no-x : (near : List ℕ) (Q : ℕ) (g : Gate) → Inside near Q g → NoX g
       no-x near Q (Cnot c t) h = unfold NoX in tt
       no-x near Q (Rotation r a) h = unfold NoX in tt
-      no-x near Q (X r) h = unfold Inside in absurd h
+      no-x near Q (X r) h = absurd h
       no-x near Q Bad h = unfold NoX in tt
 
       plain : All NoX (laidOn (isl q) (nearOf n xs) gs)

@@ -4,21 +4,26 @@ use mathlib.Core.Bool.{true, false}
 use mathlib.Core.List.{List, _++_}
 use Prim.Native.Nat.{ℕ, suc, _+_, _≤_, _<_}
 use native.Mathlib.Omega.{arith}
+use native.Mathlib.Decide.{decLt}
 use native.Mathlib.Numerals.{add-one}
-use lib.ListN.{length, getD}
+use lib.Dec.{ltb}
+use lib.ListN.{length, getD, take}
 use lib.Seq.{take-all}
-use borrow.Author.Tests.{eq-eqb, ne-eqb}
+use borrow.Author.Tests.{ltb-true, eq-eqb, ne-eqb}
 use Rattle.sets.specs.Size.{lowestOf}
+use Rattle.sets.proofs.Finding.{first-true}
 use Rattle.sets.proofs.Members.{in-lt}
 use Rattle.gates.specs.declared.gate.Gate.{Gate}
 use Rattle.meaning.specs.declared.told.Told.{Told}
 use Rattle.meaning.specs.declared.told.Meaning.{Meaning}
+use Rattle.gates.specs.Limits.{mostParities}
 use Rattle.gates.specs.Layout.{gatesOf}
 use Rattle.circuit.specs.Circuit.{run, start}
 use Rattle.circuit.specs.Flips.{flipRun, noFlips}
 use Rattle.circuit.specs.Phase.{phaseOf}
 use Rattle.flips.specs.Xs.{xsOn}
-use Rattle.meaning.specs.Borne.{overAt}
+use Rattle.meaning.specs.Borne.{borne, overAt}
+use Rattle.meaning.proofs.Bearing.{borne-grows}
 use Rattle.meaning.specs.Told.{toldOf, meaningOf, tableOf}
 use Rattle.circuit.specs.State.{wiresOf}
 use Rattle.chip.specs.Couplers.{nearOf}
@@ -28,19 +33,31 @@ use Rattle.emitting.specs.Emit.{emit, emitAt}
 use Rattle.emitting.proofs.Emitting.{emit-none, emit-at-none, emit-length, emit-append, emit-at-append}
 use Rattle.ending.specs.Mirror.{mirrorsOf}
 use Rattle.share.specs.declared.own.Own.{Own}
-use Rattle.share.specs.OwnTable.{ownOf}
+use Rattle.share.specs.OwnTable.{ownOf, shareIn}
+use Rattle.judging.proofs.Judging.{over-le}
 use Rattle.laying.specs.Islands.{leads, laidTo}
-use Rattle.laying.specs.Laid.{onIsland, withFlips, laidOf}
-use Rattle.ways.specs.Ways.{withClosing}
+use Rattle.laying.specs.Laid.{shareOf, onIsland, withFlips, laidOf}
+use Rattle.ways.specs.Ways.{bySteps, byNearest}
 use Rattle.laying.specs.Layable.{Layable, LayableOn}
 use Rattle.laying.specs.Stands.{standsOf, Idles}
-use Rattle.ways.specs.Memory.{stepsOwn, nearestOwn, closedBy, heldOwn}
-use Rattle.ways.proofs.Owned.{AllFine, held-laid}
+use Rattle.ways.specs.Memory.{islandInMemory}
+use Rattle.ways.proofs.Owned.{AllFit, memory-laid}
 use Rattle.laying.proofs.Job.{parts}
 use Rattle.laying.proofs.Composing.{laid-led, laid-not}
-use Rattle.laying.proofs.Tabled.{own-parities, own-angles, own-count, laid-is}
+use Rattle.laying.proofs.Tabled.{own-count, share-is}
 use Rattle.laying.proofs.Standing.{no-terms, own-asked}
-use Rattle.laying.proofs.Both.{bySteps, byNearest, steps-work, nearest-work, way-fine, ended-fine, island-none}
+use Rattle.laying.proofs.Both.{steps-lay-all, nearest-lays-all, way-fits, closed-fits, island-none}
+
+-- where at most 256 parities bear a rotation no gate brings the 257th: all gates count
+all-fed : (gs : List Gate) → length (borne gs) ≤ 256 → overAt gs ≡ length gs
+unfolding overAt
+all-fed gs few = go (decLt (overAt gs) (length gs))
+  where
+    go : Dec (overAt gs < length gs) → overAt gs ≡ length gs
+    go (yes l) =
+        let over : mostParities < length (borne (take (overAt gs + 1) gs)) = ltb-true _ _ (first-true (λ k. ltb mostParities (length (borne (take (k + 1) gs)))) (length gs) 0 (omega (arith, l))) in
+        absurd (omega (arith, few, over, borne-grows (overAt gs + 1) gs))
+    go (no l) = omega (arith, l, over-le gs)
 
 module _ (n : ℕ) (near ys : List ℕ) where
   -- the gates of the islands led below q
@@ -92,7 +109,7 @@ module _ (n : ℕ) (near all ys : List ℕ) (p : LayableOn n near all ys) (t : T
 
   told-is : t .meaning ≡ meaningOf gs
   unfolding toldOf
-  told-is = ap (λ (u : Told). u .meaning) e ∙ ap meaningOf (take-all (overAt gs) gs (let w = job .whole in omega arith))
+  told-is = ap (λ (u : Told). u .meaning) e ∙ ap meaningOf (take-all (overAt gs) gs (omega (arith, all-fed gs (job .fit))))
 
   wires-are : t .meaning .wires .parity ≡ run gs start
   unfolding meaningOf wiresOf
@@ -137,29 +154,29 @@ module _ (n : ℕ) (near all ys : List ℕ) (p : LayableOn n near all ys) (t : T
       own-is : h ≡ o
       own-is = cc (k, set-is, p .near-are, sums-are, wires-are, m)
 
-      fine : AllFine o
-      unfolding stepsOwn nearestOwn closedBy withClosing ownOf
-      fine =
-          rw (own-parities (nearOf n xs) gs q (job .fit), own-angles (nearOf n xs) gs q (job .fit)) (
-            way-fine n xs ys job q l bySteps steps-work,
-            way-fine n xs ys job q l byNearest nearest-work,
-            ended-fine n xs ys job q l bySteps steps-work,
-            ended-fine n xs ys job q l byNearest nearest-work,
-          )
+      all-fit : AllFit (shareOf (isl q) (nearOf n xs) gs)
+      all-fit = (
+        way-fits n xs ys job q l bySteps steps-lay-all,
+        way-fits n xs ys job q l byNearest nearest-lays-all,
+        closed-fits n xs ys job q l bySteps steps-lay-all,
+        closed-fits n xs ys job q l byNearest nearest-lays-all,
+      )
 
-      gates-are : heldOwn h ≡ plain q
-      gates-are = ap heldOwn own-is ∙ held-laid o fine ∙ laid-is (nearOf n xs) gs q (job .fit)
+      gates-are : islandInMemory (shareIn h) ≡ plain q
+      unfolding onIsland
+      gates-are =
+          ap (λ (w : Own). islandInMemory (shareIn w)) own-is ∙ ap islandInMemory (share-is (nearOf n xs) (isl q) gs (job .fit)) ∙ memory-laid (shareOf (isl q) (nearOf n xs) gs) all-fit
 
       -- where it stands it gets nothing
       pub idles : Idles h
       unfolding ownOf
       idles s =
           let t : standsOf o ≡ true = ap standsOf (sym own-is) ∙ s in
-          gates-are ∙ island-none n xs ys job q l (sym (own-count (nearOf n xs) gs q (job .fit)) ∙ no-terms o t)
+          gates-are ∙ island-none n xs ys job q l (sym (own-count (nearOf n xs) (isl q) gs (job .fit)) ∙ no-terms o t)
           (λ i m. own-asked o t i (in-lt 20 (isl q) i (island-lt (nearOf n xs) q in-20) m) m)
 
       -- the island's own gates, and the X gates behind them
-      module _ (out₀ out out′ out″ : List ℕ) (at next end : ℕ) (a : out′ ≡ emit out at (heldOwn h)) (b : next ≡ emitAt out at (heldOwn h))
+      module _ (out₀ out out′ out″ : List ℕ) (at next end : ℕ) (a : out′ ≡ emit out at (islandInMemory (shareIn h))) (b : next ≡ emitAt out at (islandInMemory (shareIn h)))
           (c : out″ ≡ emit out′ next (xsOn (getD all q 0) (t .meaning .wires .flip))) (f : end ≡ emitAt out′ next (xsOn (getD all q 0) (t .meaning .wires .flip))) where
         memory-is : out′ ≡ emit out at (plain q)
         memory-is = a ∙ ap (emit out at) gates-are

@@ -6,8 +6,8 @@ use lib.ListN.{getD}
 use Rattle.gates.specs.declared.gate.Gate.{Gate}
 use Rattle.gates.specs.declared.gate.Gate.the-variants.{Cnot, Rotation, X, Bad}
 use Rattle.gates.specs.Layout.{gatesOf}
-use Rattle.gates.specs.All.{All}
-use Rattle.gates.proofs.Alls.{all-map}
+use Rattle.sets.specs.Lists.{All}
+use Rattle.sets.proofs.Lists.{all-map}
 use Rattle.circuit.specs.Flips.{flipRun, noFlips}
 use Rattle.circuit.proofs.Flips.{flip-is, none-flipped}
 use Rattle.circuit.proofs.Quiet.{Quiet, sum-is, phase-none, Calm, calm-flips, calm-quiet}

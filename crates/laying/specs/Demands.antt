@@ -15,7 +15,7 @@ use Rattle.circuit.specs.Circuit.{step, start, finalOf, sumOf, Term}
 use Rattle.circuit.specs.Flips.{flipOf}
 use Rattle.circuit.specs.Phase.{phaseOf}
 use Rattle.meaning.specs.Borne.{terms, Ascending}
-use Rattle.gates.specs.All.{All}
+use Rattle.sets.specs.Lists.{All, those}
 use Rattle.gates.specs.Listed.{Listed, OnCoupler}
 use Rattle.meaning.specs.Same.{SameMeaning}
 use Rattle.tallies.specs.Tally.{tally, cnotsOf, rotationsOf, xsOf, boundOf}
@@ -49,8 +49,7 @@ isOn S Bad = false
 
 -- "the gates laid on that island", in order
 unfoldable pub gatesOn : ℕ → List Gate → List Gate
-gatesOn S [] = []
-gatesOn S (g ∷ gs) = pick (isOn S g) (g ∷ gatesOn S gs) (gatesOn S gs)
+gatesOn S gs = those (isOn S) gs
 
 -- ---- demand 2
 

@@ -9,23 +9,25 @@ use Rattle.meaning.specs.Borne.{terms, sumsOf}
 use Rattle.isles.specs.Islands.{islandOf}
 use Rattle.steps.specs.Neighbours.{GoesOn}
 use Rattle.ending.specs.Mirror.{mirrorsOf}
-use Rattle.share.specs.Own.{ownSets, ownTerms}
+use Rattle.share.specs.Own.{Share, ownSets, ownTerms}
 use Rattle.laying.specs.Islands.{laidTo}
 use Rattle.ways.specs.Ways.{islandLaid}
 
--- the island of q in a job whose chip is `near` and whose gates are gs: it is handed only its own
-unfoldable pub onIsland : List ℕ → List Gate → ℕ → List Gate
-onIsland near gs q =
-    let Q = islandOf near q in
+-- the share of the island Q in a job whose chip is `near` and whose gates are gs: nothing but its own
+abbrev pub shareOf : ℕ → List ℕ → List Gate → Share
+shareOf Q near gs =
     let ps = ownTerms Q (terms gs) in
-    islandLaid (ownSets Q near) Q ps (sumsOf gs ps) (ownSets Q (run gs start)) (ownSets Q (mirrorsOf gs))
+    record { near = ownSets Q near; set = Q; terms = ps; angles = sumsOf gs ps; asked = ownSets Q (run gs start); mirror = ownSets Q (mirrorsOf gs) }
 
--- on the island of q no step is at a loss with what it is handed
+-- the gates of the island of q: all that it is handed is its share
+unfoldable pub onIsland : List ℕ → List Gate → ℕ → List Gate
+onIsland near gs q = islandLaid (shareOf (islandOf near q) near gs)
+
+-- on the island of q no step is at a loss with that share
 unfoldable pub GoesOnIsland : List ℕ → List Gate → ℕ → Type 0
 GoesOnIsland near gs q =
-    let Q = islandOf near q in
-    let ps = ownTerms Q (terms gs) in
-    GoesOn (ownSets Q near) Q ps (sumsOf gs ps)
+    let s = shareOf (islandOf near q) near gs in
+    GoesOn (s .near) (s .set) (s .terms) (s .angles)
 
 -- "Flips asked for at the end are laid as X, at most one on a wire, after its island's ending": directly behind it
 unfoldable pub withFlips : List ℕ → List Gate → ℕ → List Gate

@@ -10,8 +10,9 @@ use Rattle.sets.specs.Bit.{has}
 use Rattle.sets.specs.Size.{onlyOf}
 use Rattle.sets.specs.Search.{someOf}
 use Rattle.gates.specs.Limits.{mostQubits}
+use Rattle.share.specs.OwnTable.{shareIn}
 use Rattle.share.specs.declared.own.Own.{Own}
-use Rattle.ways.specs.Memory.{heldOwn}
+use Rattle.ways.specs.Memory.{islandInMemory}
 
 -- wire i of the island Q is asked for x, which is not its own parity
 unfoldable pub offOf : ℕ → ℕ → ℕ → Bool
@@ -27,4 +28,4 @@ standsOf o = both (eqb (o .terms .len) 0) (not (someOff (o .set) (o .asked)))
 
 -- if the island stands, laying it in both ways comes to no gates: so it is on each island of a job that passed tests 1 to 7
 abbrev pub Idles : Own → Type 0
-Idles o = standsOf o ≡ true → heldOwn o ≡ []
+Idles o = standsOf o ≡ true → islandInMemory (shareIn o) ≡ []

@@ -18,8 +18,9 @@ ghost use lib.ListN.{length};
 ghost use Rattle.gates.specs.Layout.{gatesOf};
 ghost use Rattle.circuit.specs.Phase.{phaseOf};
 ghost use Rattle.laying.specs.Layable.{LayableOn};
-ghost use Rattle.emitting.specs.Emit.{emit, emitAt};
-ghost use Rattle.ways.specs.Memory.{heldOwn};
+ghost use Rattle.emitting.specs.Emit.{Emits};
+ghost use Rattle.share.specs.OwnTable.{shareIn};
+ghost use Rattle.ways.specs.Memory.{islandInMemory};
 ghost use Rattle.laying.specs.Stands.{Idles};
 ghost use Rattle.laying.specs.Laid.{laidOf};
 ghost use Rattle.laying.specs.Verdict.{countsOf, answered, outputOf};
@@ -48,7 +49,7 @@ struct Outcome {
 // The gates of an island behind those that are laid. One that stands gets none: it is not searched.
 fn lay_own(own: Own, out: &mut [u32], at: usize) -> usize
     requires { ⌜ Idles own ⌝ }
-    ensures { λ r. ⌜ (now (out .exit) ≡ emit (now (out .entry)) at (heldOwn own)) × (r ≡ emitAt (now (out .entry)) at (heldOwn own)) ⌝ }
+    ensures { λ r. ⌜ Emits (now (out .entry)) at (islandInMemory (shareIn own)) (now (out .exit)) r ⌝ }
 {
     if stands::stands(own) {
         return at;
@@ -65,7 +66,7 @@ fn lay_on(
     out: &mut [u32],
 ) -> Outcome
     requires { ⌜ LayableOn n near islands (now gates) ⌝ }
-    ensures { λ r. ⌜ (now (out .exit) ≡ emit (now (out .entry)) 0 (laidOf n near (gatesOf n (now (gates .entry))))) × (r .records ≡ emitAt (now (out .entry)) 0 (laidOf n near (gatesOf n (now (gates .entry))))) × (r .phase ≡ phaseOf (gatesOf n (now (gates .entry)))) ⌝ }
+    ensures { λ r. ⌜ Emits (now (out .entry)) 0 (laidOf n near (gatesOf n (now (gates .entry)))) (now (out .exit)) (r .records) × (r .phase ≡ phaseOf (gatesOf n (now (gates .entry)))) ⌝ }
 {
     let told = told::tell(gates, n);
     let meaning = told.meaning;

@@ -11,17 +11,17 @@ use lib.Seq.{sets, drop-cons, getD-drop, drop-drop}
 use borrow.Author.Tests.{eq-eqb, ne-eqb}
 use Rattle.sets.specs.Pick.{pick}
 use Rattle.lines.specs.Lines.{digits}
-use Rattle.lines.specs.Pattern.{piece, uses, filled}
+use Rattle.lines.specs.Pattern.{filledByte, uses, filled}
 use Rattle.lines.proofs.Writes.{Wrote, wrote-then}
 
 -- ---- a byte of a pattern
 
 module _ (x : ℕ) where
-  pub piece-number : (v : ℕ) → x ≡ 35 → digits v ≡ piece x v
-  piece-number v e = rw (eq-eqb x 35 e)
+  pub filled-number : (v : ℕ) → x ≡ 35 → digits v ≡ filledByte x v
+  filled-number v e = rw (eq-eqb x 35 e)
 
-  pub piece-byte : (v : ℕ) → (x ≡ 35 → ⊥) → x ∷ [] ≡ piece x v
-  piece-byte v e = rw (ne-eqb x 35 e)
+  pub filled-other : (v : ℕ) → (x ≡ 35 → ⊥) → x ∷ [] ≡ filledByte x v
+  filled-other v e = rw (ne-eqb x 35 e)
 
   pub uses-one : x ≡ 35 → 1 ≡ uses x
   uses-one e = rw (eq-eqb x 35 e)
@@ -40,7 +40,7 @@ module _ (x : ℕ) where
 
 module _ (p vs : List ℕ) (i k : ℕ) where
   -- v and u are the number and the count that the code found
-  pub filled-turn : {v u : ℕ} → i < length p → v ≡ getD vs k 0 → u ≡ uses (getD p i 0) → filled (drop i p) (drop k vs) ≡ piece (getD p i 0) v ++ filled (drop (i + 1) p) (drop (k + u) vs)
+  pub filled-turn : {v u : ℕ} → i < length p → v ≡ getD vs k 0 → u ≡ uses (getD p i 0) → filled (drop i p) (drop k vs) ≡ filledByte (getD p i 0) v ++ filled (drop (i + 1) p) (drop (k + u) vs)
   unfolding filled
   filled-turn h e f =
       let z : k + 0 ≡ k = omega arith in
@@ -52,8 +52,8 @@ module _ (p vs : List ℕ) (i k : ℕ) where
   filled-past h = rw (drop-of-length-le p h)
 
   -- the next piece is no longer than what is left
-  pub filled-part : {v : ℕ} → i < length p → v ≡ getD vs k 0 → length (piece (getD p i 0) v) ≤ length (filled (drop i p) (drop k vs))
-  filled-part {v} h e = omega (arith, ap length (filled-turn h e refl), length-append (piece (getD p i 0) v) (filled (drop (i + 1) p) (drop (k + uses (getD p i 0)) vs)))
+  pub filled-part : {v : ℕ} → i < length p → v ≡ getD vs k 0 → length (filledByte (getD p i 0) v) ≤ length (filled (drop i p) (drop k vs))
+  filled-part {v} h e = omega (arith, ap length (filled-turn h e refl), length-append (filledByte (getD p i 0) v) (filled (drop (i + 1) p) (drop (k + uses (getD p i 0)) vs)))
 
 -- ---- what is left gives, when it is stored, what the whole gives
 

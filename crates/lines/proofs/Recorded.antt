@@ -7,27 +7,27 @@ use native.Mathlib.Omega.{arith}
 use lib.ListN.{length, getD, drop, length-append, drop-of-length-le}
 use lib.Seq.{sets, length-sets, drop-cons}
 use Rattle.lines.specs.Lines.{recordText, recordsText}
-use Rattle.lines.specs.Lent.{lineEnd, lineAt, linesEnd, linesAt, recordsEnd, recordsAt}
-use Rattle.lines.proofs.Writes.{Wrote, wrote-then, wrote-none, Lined, lined-wrote}
+use Rattle.lines.specs.Lent.{fittedEnd, fittedAt, linesEnd, linesAt}
+use Rattle.lines.proofs.Writes.{Wrote, wrote-then, wrote-nothing, Fitted, fitted-wrote}
 
 module _ (line : ℕ → List ℕ) where
   -- where all of them fit they are the lines joined
   module _ (whole : List ℕ → List ℕ) (none : whole [] ≡ []) (more : (x : ℕ) (xs : List ℕ) → whole (x ∷ xs) ≡ line x ++ whole xs) where
     pub lines-fit : (xs : List ℕ) (from : ℕ) (text : List ℕ) → from + length (whole xs) ≤ length text
         → (linesEnd line xs from (length text) ≡ from + length (whole xs)) × (linesAt line xs from text ≡ sets text from (whole xs))
-    lines-fit [] from text h = rw none (wrote-none text from)
+    lines-fit [] from text h = rw none (wrote-nothing text from)
     lines-fit (x ∷ xs) from text h =
-        let e = lineEnd (line x) from (length text) in
-        let m = lineAt (line x) from text in
+        let e = fittedEnd (line x) from (length text) in
+        let m = fittedAt (line x) from text in
         let sum : length (line x) + length (whole xs) ≡ length (whole (x ∷ xs)) = sym (ap length (more x xs) ∙ length-append (line x) (whole xs)) in
-        let one : Wrote text from (line x) m e = lined-wrote text from (line x) (omega arith) (refl, refl) in
+        let one : Wrote text from (line x) m e = fitted-wrote text from (line x) (omega arith) (refl, refl) in
         let same : length m ≡ length text = ap length (one .1) ∙ length-sets text from (line x) in
         let rest = lines-fit xs e m (omega (arith, one .0)) in
         rw (more x xs) (wrote-then text from (line x) (whole xs) one (ap (linesEnd line xs e) (sym same) ∙ rest .0, rest .1))
 
   -- one turn of the loop, and its end
   module _ (xs : List ℕ) (i : ℕ) (old : List ℕ) (at : ℕ) where
-    pub lines-turn : {new : List ℕ} {end : ℕ} → i < length xs → length new ≡ length old → Lined old at (line (getD xs i 0)) new end
+    pub lines-turn : {new : List ℕ} {end : ℕ} → i < length xs → length new ≡ length old → Fitted old at (line (getD xs i 0)) new end
         → (linesEnd line (drop (i + 1) xs) end (length new) ≡ linesEnd line (drop i xs) at (length old)) × (linesAt line (drop (i + 1) xs) end new ≡ linesAt line (drop i xs) at old)
     lines-turn h k (e, m) = (rw (k, e, add-one, drop-cons xs i 0 h), rw (e, m, add-one, drop-cons xs i 0 h))
 
@@ -37,16 +37,6 @@ module _ (line : ℕ → List ℕ) where
 -- ---- records
 
 pub records-fit : (xs : List ℕ) (from : ℕ) (text : List ℕ) → from + length (recordsText xs) ≤ length text
-    → (recordsEnd xs from (length text) ≡ from + length (recordsText xs)) × (recordsAt xs from text ≡ sets text from (recordsText xs))
-unfolding recordsText recordsEnd recordsAt
+    → (linesEnd recordText xs from (length text) ≡ from + length (recordsText xs)) × (linesAt recordText xs from text ≡ sets text from (recordsText xs))
+unfolding recordsText
 records-fit = lines-fit recordText recordsText refl (λ x xs. refl)
-
-module _ (xs : List ℕ) (i : ℕ) (old : List ℕ) (at : ℕ) where
-  pub records-turn : {new : List ℕ} {end : ℕ} → i < length xs → length new ≡ length old → Lined old at (recordText (getD xs i 0)) new end
-      → (recordsEnd (drop (i + 1) xs) end (length new) ≡ recordsEnd (drop i xs) at (length old)) × (recordsAt (drop (i + 1) xs) end new ≡ recordsAt (drop i xs) at old)
-  unfolding recordsEnd recordsAt
-  records-turn = lines-turn recordText xs i old at
-
-  pub records-past : length xs ≤ i → (at ≡ recordsEnd (drop i xs) at (length old)) × (old ≡ recordsAt (drop i xs) at old)
-  unfolding recordsEnd recordsAt
-  records-past = lines-past recordText xs i old at

@@ -8,9 +8,9 @@ use lib.Dec.{leb}
 use lib.ListN.{length, length-append}
 use borrow.Author.Tests.{leb-true, leb-false, le-leb, lt-leb}
 use Rattle.sets.specs.Pick.{pick}
-use Rattle.lines.specs.Room.{roomAfter, isLeft}
-use Rattle.lines.specs.declared.room.Room.{Room}
-use Rattle.lines.specs.declared.room.Room.the-variants.{Left, Over}
+use Rattle.lines.specs.Leeway.{roomAfter, isLeft}
+use Rattle.lines.specs.declared.room.Leeway.{Leeway}
+use Rattle.lines.specs.declared.room.Leeway.the-variants.{Left, Over}
 
 pub room-over : (left need : ℕ) → left < need → Over ≡ roomAfter (Left left) need
 room-over left need h = rw (lt-leb need left h)
@@ -18,11 +18,11 @@ room-over left need h = rw (lt-leb need left h)
 pub room-left : (left need : ℕ) → need ≤ left → Left (left - need) ≡ roomAfter (Left left) need
 room-left left need h = rw (le-leb need left h)
 
-pub room-none : (r : Room) → roomAfter r 0 ≡ r
+pub room-none : (r : Leeway) → roomAfter r 0 ≡ r
 room-none (Left left) = let z : left - 0 ≡ left = omega arith in rw (le-leb 0 left (omega arith)) (ap Left z)
 room-none Over = refl
 
-pub room-then : (r : Room) (a b : ℕ) → roomAfter (roomAfter r a) b ≡ roomAfter r (a + b)
+pub room-then : (r : Leeway) (a b : ℕ) → roomAfter (roomAfter r a) b ≡ roomAfter r (a + b)
 room-then Over a b = refl
 room-then (Left left) a b = go (leb a left) refl
   where
@@ -60,7 +60,7 @@ is-left left need {x} e = go (leb need left) refl e
     go false q e = let z : _≡_ {A = ℕ} 0 1 = cc e in absurd (omega arith)
 
 -- whether a piece fits behind `at`, as the code tests it
-module _ (room at need : ℕ) {r s : Room} (p : r ≡ roomAfter (Left room) at) (q : s ≡ roomAfter r need) where
+module _ (room at need : ℕ) {r s : Leeway} (p : r ≡ roomAfter (Left room) at) (q : s ≡ roomAfter r need) where
   behind : s ≡ roomAfter (Left room) (at + need)
   behind = q ∙ ap (λ x. roomAfter x need) p ∙ room-then (Left room) at need
 
@@ -71,8 +71,8 @@ module _ (room at need : ℕ) {r s : Room} (p : r ≡ roomAfter (Left room) at) 
   behind-left e = is-left room (at + need) (sym e ∙ behind)
 
 -- piece by piece: what the pieces still to come leave is what the whole leaves
-module _ (room : Room) (need : ℕ) (l : Room) {rest : List ℕ} (w : roomAfter l (length rest) ≡ roomAfter room need) where
-  pub room-turn : (xs ys : List ℕ) {m : Room} → rest ≡ xs ++ ys → m ≡ roomAfter l (length xs) → roomAfter m (length ys) ≡ roomAfter room need
+module _ (room : Leeway) (need : ℕ) (l : Leeway) {rest : List ℕ} (w : roomAfter l (length rest) ≡ roomAfter room need) where
+  pub room-turn : (xs ys : List ℕ) {m : Leeway} → rest ≡ xs ++ ys → m ≡ roomAfter l (length xs) → roomAfter m (length ys) ≡ roomAfter room need
   room-turn xs ys e a =
       ap (λ r. roomAfter r (length ys)) a ∙ room-then l (length xs) (length ys) ∙ ap (roomAfter l) (sym (length-append xs ys)) ∙ ap (λ r. roomAfter l (length r)) (sym e) ∙ w
 

@@ -5,16 +5,16 @@ use mathlib.Core.List.{List, [], _∷_, _++_}
 use Prim.Native.Nat.{ℕ, zero, suc, _+_, _^_, _/_, _%_, _≤_, _<_}
 use native.Mathlib.Omega.{arith}
 use lib.ListN.{length, getD, take, drop, length-append, take-append-drop}
-use lib.Seq.{sets, sets-eq, take-all, length-take-le}
+use lib.Seq.{sets, sets-eq, length-sets, take-all, length-take-le}
 use lib.Dec.{leb, ltb}
 use borrow.Author.Tests.{ltb-true, ltb-false, lt-ltb, le-ltb, leb-true, le-leb, lt-leb}
 use Rattle.sets.specs.Pick.{pick}
 use Rattle.gates.specs.Layout.{kindIn, aIn, bIn}
 use Rattle.lines.specs.Lines.{digits, fieldsText, lineText, letter, fieldsIn, recordText, recordsText, textOf}
-use Rattle.lines.specs.Lent.{onto, lineEnd, lineAt, lineLength, lineAfter}
-use Rattle.lines.specs.Room.{roomAfter}
-use Rattle.lines.specs.declared.room.Room.{Room}
-use Rattle.lines.specs.declared.room.Room.the-variants.{Left, Over}
+use Rattle.lines.specs.Lent.{onto, fittedEnd, fittedAt}
+use Rattle.lines.specs.Leeway.{roomAfter}
+use Rattle.lines.specs.declared.room.Leeway.{Leeway}
+use Rattle.lines.specs.declared.room.Leeway.the-variants.{Left, Over}
 use Rattle.lines.proofs.Joined.{joined-append, joined-next}
 use Rattle.lines.proofs.Rooms.{behind-over, behind-left}
 use Rattle.lines.proofs.Layouts.{kind-is, a-is, b-is}
@@ -31,50 +31,46 @@ wrote-then l i xs ys {m} {n} {j} {k} a b = (
   b .1 ∙ ap (λ p. sets m p ys) (a .0) ∙ ap (λ q. sets q (i + length xs) ys) (a .1) ∙ sym (sets-append l i xs ys),
 )
 
-pub wrote-none : (l : List ℕ) (i : ℕ) → Wrote l i [] l i
-wrote-none l i = (omega arith, refl)
+pub wrote-nothing : (l : List ℕ) (i : ℕ) → Wrote l i [] l i
+wrote-nothing l i = (omega arith, refl)
 
 -- stores from the front
 pub sets-onto : (new old : List ℕ) → length new ≤ length old → sets old 0 new ≡ onto new old
 sets-onto new old h = let z : 0 + length new ≡ length new = omega arith in sets-eq new old 0 (omega arith) ∙ ap (λ k. new ++ drop k old) z
 
--- ---- a line: written where it fits, else nothing
+-- ---- a text: written where it fits, else nothing
 
--- the line was put to l from i on, which gives m and the place e
-abbrev pub Lined : List ℕ → ℕ → List ℕ → List ℕ → ℕ → Type 0
-Lined l i line m e = (e ≡ lineEnd line i (length l)) × (m ≡ lineAt line i l)
+-- the text was put to l from i on, which gives m and the place e
+abbrev pub Fitted : List ℕ → ℕ → List ℕ → List ℕ → ℕ → Type 0
+Fitted l i text m e = (e ≡ fittedEnd text i (length l)) × (m ≡ fittedAt text i l)
 
-module _ (l : List ℕ) (i : ℕ) (line : List ℕ) where
-  pub lined-fits : {m : List ℕ} {e : ℕ} → i + length line ≤ length l → Wrote l i line m e → Lined l i line m e
-  lined-fits h w = (rw (le-leb _ _ h) (w .0), rw (le-leb _ _ h) (w .1))
+module _ (l : List ℕ) (i : ℕ) (text : List ℕ) where
+  pub fitted-fits : {m : List ℕ} {e : ℕ} → i + length text ≤ length l → Wrote l i text m e → Fitted l i text m e
+  fitted-fits h w = (rw (le-leb _ _ h) (w .0), rw (le-leb _ _ h) (w .1))
 
-  pub lined-over : length l < i + length line → Lined l i line l i
-  lined-over h = (rw (lt-leb _ _ h), rw (lt-leb _ _ h))
+  pub fitted-over : length l < i + length text → Fitted l i text l i
+  fitted-over h = (rw (lt-leb _ _ h), rw (lt-leb _ _ h))
 
-  pub lined-wrote : {m : List ℕ} {e : ℕ} → i + length line ≤ length l → Lined l i line m e → Wrote l i line m e
-  lined-wrote h p = (p .0 ∙ rw (le-leb _ _ h), p .1 ∙ rw (le-leb _ _ h))
+  pub fitted-wrote : {m : List ℕ} {e : ℕ} → i + length text ≤ length l → Fitted l i text m e → Wrote l i text m e
+  fitted-wrote h p = (p .0 ∙ rw (le-leb _ _ h), p .1 ∙ rw (le-leb _ _ h))
 
--- at the front
-pub lined-front : (l line : List ℕ) {m : List ℕ} {e : ℕ} → Lined l 0 line m e → (e ≡ lineLength line (length l)) × (m ≡ lineAfter line l)
-lined-front l line p =
-    let z : 0 + length line ≡ length line = omega arith in
-    (p .0 ∙ ap (λ k. pick (leb k (length l)) k 0) z, p .1 ∙ ap (λ k. pick (leb k (length l)) (sets l 0 line) l) z ∙ go (leb (length line) (length l)) refl)
-  where
-    go : (t : Bool) → leb (length line) (length l) ≡ t → pick t (sets l 0 line) l ≡ pick t (onto line l) l
-    go true e = sets-onto line l (leb-true (length line) (length l) e)
-    go false e = refl
+-- at the front, where it fits
+pub fitted-front : (l text : List ℕ) {m : List ℕ} {e : ℕ} → length text ≤ length l → Fitted l 0 text m e → (e ≡ length text) × (m ≡ onto text l)
+fitted-front l text h p =
+    let w = fitted-wrote l 0 text (omega (arith, h)) p in
+    (omega (arith, w .0), w .1 ∙ sets-onto text l h)
 
--- the bytes of a line that was printed are there
-module _ (line l m : List ℕ) (r : ℕ) (p : (r ≡ lineLength line (length l)) × (m ≡ lineAfter line l)) where
-  pub line-within : r ≤ length m
-  line-within = go (leb (length line) (length l)) (p .0) (p .1)
+-- the bytes of a text that was put to the front are there
+module _ (text l m : List ℕ) (r : ℕ) (p : Fitted l 0 text m r) where
+  pub fitted-within : r ≤ length m
+  fitted-within = go (leb (0 + length text) (length l)) refl (p .0) (p .1)
     where
-      go : (t : Bool) → r ≡ pick t (length line) 0 → m ≡ pick t (onto line l) l → r ≤ length m
-      go true e d = omega (arith, e, ap length d, length-append line (drop (length line) l))
-      go false e d = omega (arith, e)
+      go : (t : Bool) → leb (0 + length text) (length l) ≡ t → r ≡ pick t (0 + length text) 0 → m ≡ pick t (sets l 0 text) l → r ≤ length m
+      go true b e d = omega (arith, e, leb-true (0 + length text) (length l) b, ap length d, length-sets l 0 text)
+      go false b e d = omega (arith, e)
 
-  pub line-whole : r ≡ length (take r m)
-  line-whole = sym (length-take-le r m line-within)
+  pub fitted-long : r ≡ length (take r m)
+  fitted-long = sym (length-take-le r m fitted-within)
 
 -- ---- numbers
 
@@ -147,7 +143,7 @@ unfolding lineText
 line-length letter vs = simp length-append (omega arith)
 
 -- whether a line fits behind `at`, as the code tests it
-module _ (room at letter : ℕ) (vs : List ℕ) {r s : Room} (p : r ≡ roomAfter (Left room) at) (q : s ≡ roomAfter r (2 + length (fieldsText vs))) where
+module _ (room at letter : ℕ) (vs : List ℕ) {r s : Leeway} (p : r ≡ roomAfter (Left room) at) (q : s ≡ roomAfter r (2 + length (fieldsText vs))) where
   pub line-over : s ≡ Over → room < at + length (lineText letter vs)
   line-over e = omega (arith, behind-over room at (2 + length (fieldsText vs)) p q e, line-length letter vs)
 

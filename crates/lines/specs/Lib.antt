@@ -1,4 +1,4 @@
 pub mod Lines
 pub mod Pattern
 pub mod Lent
-pub mod Room
+pub mod Leeway

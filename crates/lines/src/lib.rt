@@ -1,4 +1,5 @@
-// The lines of a text, written one by one where there is room.
+// The lines of a text, written one by one where there is room. It knows records, and not how a text
+// is read.
 pub mod letter;
 pub mod pattern;
 pub mod print;

@@ -1,13 +1,13 @@
 // Lines as they are written: a letter, numbers behind tabs, LF.
 use crate::room;
-use crate::room::Room;
+use crate::room::Leeway;
 ghost use mathlib.Core.Path.{_≡_};
 ghost use mathlib.Core.List.{[], _∷_};
 ghost use Prim.Native.Nat.{_≤_, _+_};
 ghost use lib.ListN.{length};
 ghost use lib.Seq.{sets};
 ghost use Rattle.lines.specs.Lines.{digits, lineText};
-ghost use Rattle.lines.specs.Lent.{lineEnd, lineAt};
+ghost use Rattle.lines.specs.Lent.{fittedEnd, fittedAt};
 
 pub(crate) fn put(text: &mut [u8], at: usize, byte: u8) -> usize
     requires { ⌜ at + 1 ≤ length (now text) ⌝ }
@@ -51,11 +51,11 @@ fn put_fitting(text: &mut [u8], at: usize, letter: u8, numbers: &[usize]) -> usi
 
 // The place behind the line, or `at` where the line does not fit; then nothing is written.
 pub fn put_line(text: &mut [u8], at: usize, letter: u8, numbers: &[usize]) -> usize
-    ensures { λ r. ⌜ (r ≡ lineEnd (lineText letter (now (numbers .entry))) at (length (now (text .entry)))) × (now (text .exit) ≡ lineAt (lineText letter (now (numbers .entry))) at (now (text .entry))) ⌝ }
+    ensures { λ r. ⌜ (r ≡ fittedEnd (lineText letter (now (numbers .entry))) at (length (now (text .entry)))) × (now (text .exit) ≡ fittedAt (lineText letter (now (numbers .entry))) at (now (text .entry))) ⌝ }
 {
-    let behind = room::after(Room::Left(text.len()), at);
+    let behind = room::after(Leeway::Left(text.len()), at);
     match room::after_line(behind, numbers) {
-        Room::Over => at,
-        Room::Left(_) => put_fitting(text, at, letter, numbers),
+        Leeway::Over => at,
+        Leeway::Left(_) => put_fitting(text, at, letter, numbers),
     }
 }

@@ -4,10 +4,10 @@ use crate::put;
 ghost use mathlib.Core.Path.{_≡_};
 ghost use lib.ListN.{length};
 ghost use Rattle.lines.specs.Lines.{recordText};
-ghost use Rattle.lines.specs.Lent.{lineEnd, lineAt, recordsEnd, recordsAt};
+ghost use Rattle.lines.specs.Lent.{fittedEnd, fittedAt, linesEnd, linesAt};
 
 fn put_record(text: &mut [u8], at: usize, x: u32) -> usize
-    ensures { λ r. ⌜ (r ≡ lineEnd (recordText x) at (length (now (text .entry)))) × (now (text .exit) ≡ lineAt (recordText x) at (now (text .entry))) ⌝ }
+    ensures { λ r. ⌜ (r ≡ fittedEnd (recordText x) at (length (now (text .entry)))) × (now (text .exit) ≡ fittedAt (recordText x) at (now (text .entry))) ⌝ }
 {
     let letter = letter::letter_of(x / 16777216);
     let count = letter::fields_of(x / 16777216);
@@ -17,7 +17,7 @@ fn put_record(text: &mut [u8], at: usize, x: u32) -> usize
 
 // The place behind the last line that fits. A line that does not fit is left out, and the next one is tried where it would have stood.
 pub fn put_records(text: &mut [u8], from: usize, records: &[u32]) -> usize
-    ensures { λ r. ⌜ (r ≡ recordsEnd (now (records .entry)) from (length (now (text .entry)))) × (now (text .exit) ≡ recordsAt (now (records .entry)) from (now (text .entry))) ⌝ }
+    ensures { λ r. ⌜ (r ≡ linesEnd recordText (now (records .entry)) from (length (now (text .entry)))) × (now (text .exit) ≡ linesAt recordText (now (records .entry)) from (now (text .entry))) ⌝ }
 {
     let mut at = from;
     let mut i: usize = 0;

@@ -4,23 +4,23 @@ ghost use mathlib.Core.Path.{_≡_};
 ghost use Prim.Native.Nat.{_+_};
 ghost use lib.ListN.{length};
 ghost use Rattle.lines.specs.Lines.{digits, fieldsText, recordsText};
-ghost use Rattle.lines.specs.Room.{roomAfter};
+ghost use Rattle.lines.specs.Leeway.{roomAfter};
 
-pub enum Room {
+pub enum Leeway {
     Left(usize),
     Over,
 }
 
-pub(crate) fn after(room: Room, need: usize) -> Room
+pub(crate) fn after(room: Leeway, need: usize) -> Leeway
     ensures { λ r. ⌜ r ≡ roomAfter room need ⌝ }
 {
     match room {
-        Room::Over => Room::Over,
-        Room::Left(left) => {
+        Leeway::Over => Leeway::Over,
+        Leeway::Left(left) => {
             if left < need {
-                return Room::Over;
+                return Leeway::Over;
             }
-            Room::Left(left - need)
+            Leeway::Left(left - need)
         }
     }
 }
@@ -36,7 +36,7 @@ pub(crate) fn width(v: usize) -> usize
 }
 
 // A letter, numbers behind tabs, LF.
-pub fn after_line(room: Room, numbers: &[usize]) -> Room
+pub fn after_line(room: Leeway, numbers: &[usize]) -> Leeway
     ensures { λ r. ⌜ r ≡ roomAfter room (2 + length (fieldsText (now (numbers .entry)))) ⌝ }
 {
     let mut left = after(room, 2);
@@ -48,7 +48,7 @@ pub fn after_line(room: Room, numbers: &[usize]) -> Room
     left
 }
 
-pub fn after_records(room: Room, records: &[u32]) -> Room
+pub fn after_records(room: Leeway, records: &[u32]) -> Leeway
     ensures { λ r. ⌜ r ≡ roomAfter room (length (recordsText (now (records .entry)))) ⌝ }
 {
     let mut left = room;

@@ -1,27 +1,29 @@
 -- The parities that bear a rotation: how they grow with the gates, and that no other has an angle. Assumes nothing.
 use mathlib.Core.Path.{_≡_, refl, sym, ap, ap₂, _∙_, subst}
 use mathlib.Core.Logic.{_≢_, _⊎_, inl, inr, ⊎-elim}
-use mathlib.Core.Bool.{Bool, true, false}
+use mathlib.Core.Bool.{Bool, true, false, not}
 use mathlib.Core.List.{List, [], _∷_, _++_}
 use Prim.Native.Nat.{ℕ, _^_, _%_, _≤_, _<_, zero-le}
 use native.Mathlib.Omega.{arith}
 use native.Mathlib.Decide.{ℕ-discrete}
 use lib.Dec.{eqb, ltb}
 use lib.ListN.{length, getD, take, drop, take-append-drop}
+use borrow.Author.Tests.{eq-eqb, ne-eqb}
 use Rattle.sets.specs.Pick.{pick}
 use Rattle.gates.specs.declared.gate.Gate.{Gate}
 use Rattle.gates.specs.declared.gate.Gate.the-variants.{Cnot, Rotation, X, Bad}
 use Rattle.circuit.specs.Circuit.{step, run, start, gives, given, sumOf, Term}
 use Rattle.circuit.specs.Flips.{flipStep, noFlips}
-use Rattle.meaning.specs.Borne.{insert, bears, borneFrom, borne, Meets, sumsOf, terms, Ascending, Among}
+use Rattle.meaning.specs.Borne.{insert, bears, borneFrom, borne, Meets, isTerm, terms, Ascending, Among}
 use Rattle.gates.specs.Layout.{Good}
-use Rattle.gates.specs.All.{All}
+use Rattle.sets.specs.Lists.{All}
 use Rattle.circuit.proofs.Steps.{gives-cnot, gives-x, gives-bad, gives-other, step-length}
 use Rattle.circuit.proofs.Circuits.{start-length}
 use Rattle.circuit.proofs.Straight.{straightened, straight, step-straight, sum-straight}
 use Rattle.circuit.proofs.Wiring.{Below, below-step, below-start, Apart, apart-step, apart-start, apart-not-empty}
-use Rattle.meaning.proofs.Lists.{Up, up-none, up-ascending, up-insert, up-kept, insert-has, insert-keeps, insert-back, kept-has, kept-back, among-none}
-use Rattle.table.proofs.Keeping.{kept-le}
+use Rattle.meaning.proofs.Lists.{Up, up-none, up-ascending, up-insert, up-those, insert-has, insert-keeps, insert-back, those-has, those-back, among-none}
+use Rattle.sets.proofs.Lists.{those-few}
+use Rattle.sets.proofs.Deciding.{never}
 
 -- ---- one gate more
 
@@ -218,30 +220,39 @@ borne-grows k gs =
 
 -- ---- the terms: exactly the parities whose sum is not 0, ascending, each once
 
+-- the test is the word "term"
+pub term-test : (p : ℕ) (gs : List Gate) → Term gs p → isTerm gs p ≡ true
+unfolding isTerm Term
+term-test p gs t = ap not (ne-eqb (sumOf p gs) 0 t)
+
+pub test-term : (p : ℕ) (gs : List Gate) → isTerm gs p ≡ true → Term gs p
+unfolding isTerm Term
+test-term p gs e z = never e (ap not (eq-eqb (sumOf p gs) 0 z))
+
 pub terms-up : (gs : List Gate) → Up 0 (terms gs)
 unfolding terms
-terms-up gs = up-kept (λ p. sumOf p gs) 0 (borne gs) (borne-up gs)
+terms-up gs = up-those (isTerm gs) 0 (borne gs) (borne-up gs)
 
 pub terms-ascending : (gs : List Gate) → Ascending (terms gs)
 terms-ascending gs = up-ascending 0 (terms gs) (terms-up gs)
 
 pub term-among : (p : ℕ) (gs : List Gate) → Term gs p → Among p (terms gs)
-unfolding terms Term
-term-among p gs t = kept-has (λ p. sumOf p gs) p (borne gs) (sum-borne p gs t) t
+unfolding terms
+term-among p gs t = those-has (isTerm gs) p (borne gs) (sum-borne p gs (unfold Term in t)) (term-test p gs t)
 
 pub among-term : (p : ℕ) (gs : List Gate) → Among p (terms gs) → Term gs p
-unfolding terms Term
-among-term p gs h = kept-back (λ p. sumOf p gs) p (borne gs) h .1
+unfolding terms
+among-term p gs h = test-term p gs (those-back (isTerm gs) p (borne gs) h .1)
 
 pub terms-borne : (p : ℕ) (gs : List Gate) → Among p (terms gs) → Among p (borne gs)
 unfolding terms
-terms-borne p gs h = kept-back (λ p. sumOf p gs) p (borne gs) h .0
+terms-borne p gs h = those-back (isTerm gs) p (borne gs) h .0
 
 -- ---- no more terms than parities that bear a rotation
 
 pub terms-few : (gs : List Gate) → length (terms gs) ≤ length (borne gs)
 unfolding terms
-terms-few gs = kept-le (borne gs) (sumsOf gs (borne gs))
+terms-few gs = those-few (isTerm gs) (borne gs)
 
 -- ---- the parities that bear a rotation are parities of wires
 

@@ -1,16 +1,19 @@
--- Ascending lists: putting a number in, keeping some, and when two are the same. Assumes nothing.
+-- Ascending lists: putting a number in, taking those that pass a test, and when two are the same. Assumes nothing.
 use mathlib.Core.Path.{_≡_, refl, sym, ap, ap₂, _∙_, subst}
-use mathlib.Core.Logic.{_≢_, _⊎_, inl, inr, ⊎-elim}
+use mathlib.Core.Logic.{_⊎_, inl, inr, ⊎-elim}
 use mathlib.Core.Bool.{Bool, true, false}
-use mathlib.Core.List.{List, [], _∷_, map}
+use mathlib.Core.List.{List, [], _∷_}
 use Prim.Native.Nat.{ℕ, zero, suc, _≤_, _<_, suc-le-suc}
 use native.Mathlib.Nat.{le-of-suc-le-suc, not-suc-le-zero, zero-lt-suc}
 use native.Mathlib.Omega.{arith}
-use lib.Dec.{eqb, ltb}
+use lib.Dec.{ltb}
 use lib.ListN.{length, getD}
-use borrow.Author.Tests.{lt-ltb, le-ltb, eq-eqb, ne-eqb, ltb-true, ltb-false, eqb-true, eqb-false}
+use borrow.Author.Tests.{lt-ltb, le-ltb, eq-eqb, ne-eqb, ltb-true, ltb-false}
 use Rattle.meaning.specs.Borne.{insert, Ascending, Among}
-use Rattle.table.specs.Table.{kept, putIn}
+use Rattle.sets.specs.Lists.{those}
+use Rattle.sets.proofs.Lists.{those-none, those-taken, those-left}
+use Rattle.sets.proofs.Deciding.{never}
+use Rattle.table.specs.Table.{putIn}
 
 -- each number is at least m, and greater than the one before it
 unfoldable pub Up : ℕ → List ℕ → Type 0
@@ -164,54 +167,38 @@ insert-new p (suc k) (x ∷ xs) low l high =
     ∙ ap (λ (ys : List ℕ). x ∷ ys) (insert-new p k xs (λ i h. low (suc i) (suc-le-suc h)) (le-of-suc-le-suc l) (λ h. high (suc-le-suc h)))
     ∙ unfold putIn in refl
 
--- ---- some kept
+-- ---- those that pass a test
 
-module _ (f : ℕ → ℕ) where
-  pub kept-drop : (x : ℕ) (xs : List ℕ) → f x ≡ 0 → kept (x ∷ xs) (map f (x ∷ xs)) ≡ kept xs (map f xs)
-  unfolding kept
-  kept-drop x xs e = simp (eq-eqb (f x) 0 e)
-
-  pub kept-take : (x : ℕ) (xs : List ℕ) → f x ≢ 0 → kept (x ∷ xs) (map f (x ∷ xs)) ≡ x ∷ kept xs (map f xs)
-  unfolding kept
-  kept-take x xs ne = simp (ne-eqb (f x) 0 ne)
-
-  by-zero : (x : ℕ) → (f x ≡ 0) ⊎ (f x ≢ 0)
-  by-zero x = go (eqb (f x) 0) refl
-    where
-      go : (b : Bool) → eqb (f x) 0 ≡ b → (f x ≡ 0) ⊎ (f x ≢ 0)
-      go true e = inl (eqb-true (f x) 0 e)
-      go false e = inr (eqb-false (f x) 0 e)
-
-  pub up-kept : (m : ℕ) (xs : List ℕ) → Up m xs → Up m (kept xs (map f xs))
+module _ (h : ℕ → Bool) where
+  pub up-those : (m : ℕ) (xs : List ℕ) → Up m xs → Up m (those h xs)
   unfolding Up
-  up-kept m [] u = unfold Up kept in tt
-  up-kept m (x ∷ xs) u = go (by-zero x) (up-kept (suc x) xs)
+  up-those m [] u = rw (those-none h) (up-none m)
+  up-those m (x ∷ xs) u = go (h x) refl (up-those (suc x) xs (u .1))
     where
-      go : (f x ≡ 0) ⊎ (f x ≢ 0) → (Up (suc x) xs → Up (suc x) (kept xs (map f xs))) → Up m (kept (x ∷ xs) (map f (x ∷ xs)))
-      go (inl e) ih = rw (kept-drop x xs e) (up-weaken m (suc x) (kept xs (map f xs)) (omega (arith, u .0)) (ih (u .1)))
-      go (inr n) ih = rw (kept-take x xs n) (u .0, ih (u .1))
+      go : (b : Bool) → h x ≡ b → Up (suc x) (those h xs) → Up m (those h (x ∷ xs))
+      go true e v = rw (those-taken h x xs e) (u .0, v)
+      go false e v = rw (those-left h x xs e) (up-weaken m (suc x) (those h xs) (omega (arith, u .0)) v)
 
-  pub kept-has : (p : ℕ) (xs : List ℕ) → Among p xs → f p ≢ 0 → Among p (kept xs (map f xs))
+  pub those-has : (p : ℕ) (xs : List ℕ) → Among p xs → h p ≡ true → Among p (those h xs)
   unfolding Among
-  kept-has p [] h n = absurd (unfold Among in h)
-  kept-has p (x ∷ xs) h n = go (by-zero x) (unfold Among in h) (kept-has p xs)
+  those-has p [] k t = absurd k
+  those-has p (x ∷ xs) k t = go (h x) refl k (λ j. those-has p xs j t)
     where
-      go : (f x ≡ 0) ⊎ (f x ≢ 0) → (x ≡ p) ⊎ Among p xs → (Among p xs → f p ≢ 0 → Among p (kept xs (map f xs))) → Among p (kept (x ∷ xs) (map f (x ∷ xs)))
-      go (inl z) (inl e) ih = absurd (n (ap f (sym e) ∙ z))
-      go (inl z) (inr k) ih = rw (kept-drop x xs z) (ih k n)
-      go (inr y) (inl e) ih = rw (kept-take x xs y) (inl e)
-      go (inr y) (inr k) ih = rw (kept-take x xs y) (inr (ih k n))
+      go : (b : Bool) → h x ≡ b → (x ≡ p) ⊎ Among p xs → (Among p xs → Among p (those h xs)) → Among p (those h (x ∷ xs))
+      go true e (inl d) ih = rw (those-taken h x xs e) (inl d)
+      go true e (inr j) ih = rw (those-taken h x xs e) (inr (ih j))
+      go false e (inl d) ih = absurd (never (ap h d ∙ t) e)
+      go false e (inr j) ih = rw (those-left h x xs e) (ih j)
 
-  pub kept-back : (p : ℕ) (xs : List ℕ) → Among p (kept xs (map f xs)) → Among p xs × (f p ≢ 0)
+  pub those-back : (p : ℕ) (xs : List ℕ) → Among p (those h xs) → Among p xs × (h p ≡ true)
   unfolding Among
-  kept-back p [] h = absurd (unfold Among kept in h)
-  kept-back p (x ∷ xs) h = go (by-zero x) h (kept-back p xs)
+  those-back p [] k = absurd (subst (Among p) (those-none h) k)
+  those-back p (x ∷ xs) k = go (h x) refl (those-back p xs)
     where
-      go : (f x ≡ 0) ⊎ (f x ≢ 0) → Among p (kept (x ∷ xs) (map f (x ∷ xs))) → (Among p (kept xs (map f xs)) → Among p xs × (f p ≢ 0))
-          → Among p (x ∷ xs) × (f p ≢ 0)
-      go (inl z) k ih = let r = ih (subst (Among p) (kept-drop x xs z) k) in (inr (r .0), r .1)
-      go (inr y) k ih =
-          ⊎-elim (λ e. (inl e, λ w. y (ap f e ∙ w))) (λ j. let r = ih j in (inr (r .0), r .1)) (subst (Among p) (kept-take x xs y) k)
+      go : (b : Bool) → h x ≡ b → (Among p (those h xs) → Among p xs × (h p ≡ true)) → Among p (x ∷ xs) × (h p ≡ true)
+      go true e ih =
+          ⊎-elim (λ d. (inl d, sym (ap h d) ∙ e)) (λ j. let r = ih j in (inr (r .0), r .1)) (subst (Among p) (those-taken h x xs e) k)
+      go false e ih = let r = ih (subst (Among p) (those-left h x xs e) k) in (inr (r .0), r .1)
 
 -- ---- the same facts for crates above, where the definitions are shut
 
@@ -231,14 +218,6 @@ pub among-cases : (p x : ℕ) (xs : List ℕ) → Among p (x ∷ xs) → (x ≡ 
 unfolding Among
 among-cases p x xs h = h
 
-pub up-cons : (m x : ℕ) (xs : List ℕ) → m ≤ x → Up (suc x) xs → Up m (x ∷ xs)
-unfolding Up
-up-cons m x xs h u = (h, u)
-
-pub up-head : (m x : ℕ) (xs : List ℕ) → Up m (x ∷ xs) → m ≤ x
-unfolding Up
-up-head m x xs u = u .0
-
 pub up-tail : (m x : ℕ) (xs : List ℕ) → Up m (x ∷ xs) → Up (suc x) xs
 unfolding Up
 up-tail m x xs u = u .1
@@ -251,7 +230,3 @@ up-once m (x ∷ xs) u zero zero hi hj e = refl
 up-once m (x ∷ xs) u zero (suc j) hi hj e = absurd (omega (arith, up-at (suc x) xs (u .1) j (le-of-suc-le-suc hj)))
 up-once m (x ∷ xs) u (suc i) zero hi hj e = absurd (omega (arith, up-at (suc x) xs (u .1) i (le-of-suc-le-suc hi)))
 up-once m (x ∷ xs) u (suc i) (suc j) hi hj e = ap suc (up-once (suc x) xs (u .1) i j (le-of-suc-le-suc hi) (le-of-suc-le-suc hj) e)
-
-pub kept-nil : (ss : List ℕ) → kept [] ss ≡ []
-unfolding kept
-kept-nil ss = refl

@@ -1,16 +1,17 @@
 -- The parities that bear a rotation, and the terms among them, ascending (document 01, "Meaning of a circuit", refusal 6).
 use mathlib.Core.Path.{_≡_}
 use mathlib.Core.Logic.{_⊎_}
+use mathlib.Core.Bool.{Bool, not}
 use mathlib.Core.List.{List, [], _∷_, _++_, map}
 use Prim.Native.Nat.{ℕ, _+_, _<_}
 use lib.Dec.{eqb, ltb}
 use lib.ListN.{length, getD, take}
 use Rattle.sets.specs.Pick.{pick}
+use Rattle.sets.specs.Lists.{those}
 use Rattle.sets.specs.Search.{firstOf}
 use Rattle.gates.specs.Limits.{mostParities}
 use Rattle.gates.specs.declared.gate.Gate.{Gate}
 use Rattle.gates.specs.declared.gate.Gate.the-variants.{Cnot, Rotation, X, Bad}
-use Rattle.table.specs.Table.{kept}
 use Rattle.circuit.specs.Circuit.{step, run, start, sumOf}
 
 -- p put into an ascending list, once
@@ -49,9 +50,13 @@ overAt gs = firstOf (λ k. ltb mostParities (length (borne (take (k + 1) gs)))) 
 abbrev pub sumsOf : List Gate → List ℕ → List ℕ
 sumsOf gs ps = map (λ p. sumOf p gs) ps
 
--- "A term is a parity whose sum is not 0": the terms, ascending
+-- "A term is a parity whose sum is not 0", as a test
+unfoldable pub isTerm : List Gate → ℕ → Bool
+isTerm gs p = not (eqb (sumOf p gs) 0)
+
+-- the terms, ascending: no other parity has a sum that is not 0
 unfoldable pub terms : List Gate → List ℕ
-terms gs = kept (borne gs) (sumsOf gs (borne gs))
+terms gs = those (isTerm gs) (borne gs)
 
 -- each number is greater than those before it
 unfoldable pub Ascending : List ℕ → Type 0

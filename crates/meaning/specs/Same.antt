@@ -4,7 +4,7 @@ use mathlib.Core.List.{List}
 use Prim.Native.Nat.{ℕ, _<_}
 use Rattle.gates.specs.declared.gate.Gate.{Gate}
 use Rattle.gates.specs.Layout.{Good}
-use Rattle.gates.specs.All.{All}
+use Rattle.sets.specs.Lists.{All}
 use Rattle.gates.specs.Listed.{OnCoupler}
 use Rattle.circuit.specs.Circuit.{finalOf, sumOf}
 use Rattle.circuit.specs.Flips.{flipOf}

@@ -12,14 +12,14 @@ use Rattle.sets.specs.Bit.{has}
 use Rattle.gathering.specs.Order.{orderOf}
 use Rattle.gathering.specs.Gather.{gatherFrom, gatherOf}
 use Rattle.gathering.proofs.OrderGrows.{order-few}
-use Rattle.nearest.specs.Orders.{Ordered}
+use Rattle.nearest.specs.Orders.{AllOrderly}
 use Rattle.nearest.specs.Choice.{choice, far, nearer, gathered, triedAt, overQubits, overColumns, chosen}
 use Rattle.nearest.specs.declared.choice.Choice.{Choice}
 use Rattle.gathering.proofs.GatherCode.{gather-same}
 
 -- ---- the count, by the orders
 
-module _ (near : List ℕ) (Q : ℕ) (order len : List ℕ) (o : Ordered near Q order len) (v : ℕ) (h : v < 20) where
+module _ (near : List ℕ) (Q : ℕ) (order len : List ℕ) (o : AllOrderly near Q order len) (v : ℕ) (h : v < 20) where
   pub len-few : (l : ℕ) → l ≡ getD len v 0 → (1 ≤ l) × (l ≤ 20)
   len-few l e = (omega (arith, o .size v h, order-few near Q v .0), omega (arith, o .size v h, order-few near Q v .1))
 

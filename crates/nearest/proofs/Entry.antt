@@ -7,7 +7,7 @@ use native.Mathlib.Omega.{arith}
 use lib.Dec.{ltb}
 use borrow.Author.Tests.{lt-ltb, le-ltb}
 use Rattle.sets.specs.Pick.{pick}
-use Rattle.columns.specs.Pieces.{idle, andThen, Memory, held, wrote}
+use Rattle.columns.specs.Pieces.{idle, followedBy, Memory, held, wrote}
 use Rattle.columns.specs.Striking.{strikeOff}
 use Rattle.columns.proofs.Piecing.{wrote-on, wrote-none}
 use Rattle.nearest.specs.Choice.{chosen, far}
@@ -22,21 +22,21 @@ module _ (near angles : List ℕ) (Q : ℕ) where
   rounds-none xs = refl
 
   rounds-step : (n : ℕ) (xs : List ℕ) → rounds (suc n) near angles Q xs
-      ≡ pick (ltb (chosen near Q xs .moves) far) (andThen (gatherNext near angles Q (chosen near Q xs .column) (chosen near Q xs .qubit) xs) (λ ys. rounds n near angles Q ys)) (idle xs)
+      ≡ pick (ltb (chosen near Q xs .moves) far) (followedBy (gatherNext near angles Q (chosen near Q xs .column) (chosen near Q xs .qubit) xs) (λ ys. rounds n near angles Q ys)) (idle xs)
   unfolding rounds
   rounds-step n xs = refl
 
   pub rounds-more : (n : ℕ) (xs : List ℕ) → chosen near Q xs .moves < far → rounds (suc n) near angles Q xs
-      ≡ andThen (gatherNext near angles Q (chosen near Q xs .column) (chosen near Q xs .qubit) xs) (λ ys. rounds n near angles Q ys)
+      ≡ followedBy (gatherNext near angles Q (chosen near Q xs .column) (chosen near Q xs .qubit) xs) (λ ys. rounds n near angles Q ys)
   rounds-more n xs h =
       rounds-step n xs
-      ∙ ap (λ (b : Bool). pick b (andThen (gatherNext near angles Q (chosen near Q xs .column) (chosen near Q xs .qubit) xs) (λ ys. rounds n near angles Q ys)) (idle xs)) (lt-ltb (chosen near Q xs .moves) far h)
+      ∙ ap (λ (b : Bool). pick b (followedBy (gatherNext near angles Q (chosen near Q xs .column) (chosen near Q xs .qubit) xs) (λ ys. rounds n near angles Q ys)) (idle xs)) (lt-ltb (chosen near Q xs .moves) far h)
 
   pub rounds-over : (n : ℕ) (xs : List ℕ) → far ≤ chosen near Q xs .moves → rounds n near angles Q xs ≡ idle xs
   rounds-over zero xs h = rounds-none xs
   rounds-over (suc n) xs h =
       rounds-step n xs
-      ∙ ap (λ (b : Bool). pick b (andThen (gatherNext near angles Q (chosen near Q xs .column) (chosen near Q xs .qubit) xs) (λ ys. rounds n near angles Q ys)) (idle xs)) (le-ltb (chosen near Q xs .moves) far h)
+      ∙ ap (λ (b : Bool). pick b (followedBy (gatherNext near angles Q (chosen near Q xs .column) (chosen near Q xs .qubit) xs) (λ ys. rounds n near angles Q ys)) (idle xs)) (le-ltb (chosen near Q xs .moves) far h)
 
   -- the loop, with n rounds left
   pub round-next : (n : ℕ) (xs out : List ℕ) (at : ℕ) (c : Choice) (ys out′ : List ℕ) (a : ℕ) → 0 < n → c ≡ chosen near Q xs → c .moves < far

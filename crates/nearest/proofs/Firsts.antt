@@ -19,8 +19,8 @@ use Rattle.nearest.proofs.Choosing.{qubits-step, qubits-none, columns-s
 use Rattle.nearest.proofs.Nearness.{tried-le, tried-hit, qubits-le, qubits-hit}
 
 -- column j at its qubit w comes before c: "over the columns in order and the members v of each ascending"
-abbrev pub Before : ℕ → ℕ → Choice → Type 0
-Before j w c = (j < c .column) ⊎ ((j ≡ c .column) × (w < c .qubit))
+abbrev pub Earlier : ℕ → ℕ → Choice → Type 0
+Earlier j w c = (j < c .column) ⊎ ((j ≡ c .column) × (w < c .qubit))
 
 module _ (near : List ℕ) (Q : ℕ) where
   -- ---- one column
@@ -72,7 +72,7 @@ module _ (near : List ℕ) (Q : ℕ) where
 
   record FirstColumn (xs : List ℕ) (k : ℕ) (b r : Choice) : Type 0 where
     less : r .moves < b .moves
-    before : (j w : ℕ) → k ≤ j → w < 20 → has (getD xs j 0) w ≡ true → Before j w r → r .moves < length (gatherOf near Q w (getD xs j 0))
+    before : (j w : ℕ) → k ≤ j → w < 20 → has (getD xs j 0) w ≡ true → Earlier j w r → r .moves < length (gatherOf near Q w (getD xs j 0))
 
   columns-first : (xs : List ℕ) (d k : ℕ) (b : Choice) → (overColumns near Q xs d k b ≡ b) ⊎ FirstColumn xs k b (overColumns near Q xs d k b)
   columns-first xs zero k b = inl (columns-none near Q xs k b)
@@ -89,14 +89,14 @@ module _ (near : List ℕ) (Q : ℕ) where
       go (inl e) (inl i) = inl (i ∙ e)
       go (inr e) (inl i) = inr (subst (FirstColumn xs k b) (sym i) (record { less = e .less; before = at }))
         where
-          at : (j w : ℕ) → k ≤ j → w < 20 → has (getD xs j 0) w ≡ true → Before j w c → c .moves < length (gatherOf near Q w (getD xs j 0))
+          at : (j w : ℕ) → k ≤ j → w < 20 → has (getD xs j 0) w ≡ true → Earlier j w c → c .moves < length (gatherOf near Q w (getD xs j 0))
           at j w l h t (inl p) = absurd (omega (arith, p, e .column))
           at j w l h t (inr p) =
               let same : j ≡ k = p .0 ∙ e .column in
               subst (λ (i : ℕ). c .moves < length (gatherOf near Q w (getD xs i 0))) (sym same) (e .before w (omega arith) (p .1) (subst (λ (i : ℕ). has (getD xs i 0) w ≡ true) same t))
       go s (inr f) = inr (record { less = omega (arith, f .less, qubits-le near Q k (getD xs k 0) 20 0 b); before = λ j w l h t p. at j w l h t p (ℕ-discrete k j) })
         where
-          at : (j w : ℕ) → k ≤ j → w < 20 → has (getD xs j 0) w ≡ true → Before j w r → Dec (k ≡ j) → r .moves < length (gatherOf near Q w (getD xs j 0))
+          at : (j w : ℕ) → k ≤ j → w < 20 → has (getD xs j 0) w ≡ true → Earlier j w r → Dec (k ≡ j) → r .moves < length (gatherOf near Q w (getD xs j 0))
           at j w l h t p (yes i) =
               omega (
                 arith,
@@ -106,17 +106,17 @@ module _ (near : List ℕ) (Q : ℕ) where
               )
           at j w l h t p (no ne) = f .before j w (omega arith) h t p
 
-  pub chosen-first : (xs : List ℕ) (j w : ℕ) → w < 20 → In w (getD xs j 0) → Before j w (chosen near Q xs) → chosen near Q xs .moves < length (gatherOf near Q w (getD xs j 0))
+  pub chosen-first : (xs : List ℕ) (j w : ℕ) → w < 20 → In w (getD xs j 0) → Earlier j w (chosen near Q xs) → chosen near Q xs .moves < length (gatherOf near Q w (getD xs j 0))
   unfolding chosen
   chosen-first xs j w h i p = go (columns-first xs (length xs) 0 (choice 0 0 far)) p
     where
       r : Choice
       r = overColumns near Q xs (length xs) 0 (choice 0 0 far)
 
-      none : Before j w (choice 0 0 far) → ⊥
+      none : Earlier j w (choice 0 0 far) → ⊥
       none (inl l) = omega arith
       none (inr l) = omega (arith, l .1)
 
-      go : (r ≡ choice 0 0 far) ⊎ FirstColumn xs 0 (choice 0 0 far) r → Before j w r → r .moves < length (gatherOf near Q w (getD xs j 0))
-      go (inl e) b = absurd (none (subst (Before j w) e b))
+      go : (r ≡ choice 0 0 far) ⊎ FirstColumn xs 0 (choice 0 0 far) r → Earlier j w r → r .moves < length (gatherOf near Q w (getD xs j 0))
+      go (inl e) b = absurd (none (subst (Earlier j w) e b))
       go (inr f) b = f .before j w (omega arith) h (in-has (getD xs j 0) w i) b

@@ -13,12 +13,12 @@ use Rattle.sets.proofs.Bits.{bit-of-zero}
 use Rattle.gates.specs.declared.gate.Gate.{Gate}
 use Rattle.tallies.specs.Tally.{cnotsOf}
 use Rattle.chip.specs.Graph.{Symm, Joined}
-use Rattle.columns.specs.Tables.{sumTo}
-use Rattle.columns.specs.Pieces.{Piece, idle, andThen}
+use Rattle.sets.specs.Tables.{sumTo}
+use Rattle.columns.specs.Pieces.{Piece, idle, followedBy}
 use Rattle.columns.specs.Striking.{strikeOff}
 use Rattle.columns.specs.Terms.{LaysTerms, Laying, live, liveOne}
 use Rattle.gathering.specs.Gather.{Gathers, gatherOf}
-use Rattle.columns.proofs.Tabling.{sum-less, sum-ones}
+use Rattle.sets.proofs.Tabling.{sum-less, sum-ones}
 use Rattle.columns.proofs.Layings.{live-one, live-none, laying-none, laying-then}
 use Rattle.columns.proofs.Laid.{sub-below, lays-terms}
 use Rattle.columns.proofs.Struck.{Strikes, strikes-off}
@@ -28,7 +28,7 @@ use Rattle.nearest.specs.Moves.{layMoves}
 use Rattle.nearest.specs.Nearest.{gatherNext, rounds, nearestFor}
 use Rattle.nearest.proofs.Entry.{rounds-none, rounds-more, rounds-over}
 use Rattle.nearest.proofs.Nearness.{chosen-sound, chosen-over}
-use Rattle.nearest.proofs.Moved.{Within, Ready, fits, strike-ready, Moved, moves-moved, moves-gone}
+use Rattle.nearest.proofs.Moved.{ColumnsIn, RoundReady, fits, strike-ready, Moved, moves-moved, moves-gone}
 use Rattle.tallies.proofs.Tallies.{cnots-none, cnots-append}
 
 -- ---- how many columns are left
@@ -79,7 +79,7 @@ module _ (near : List ℕ) (Q : ℕ) (angles : List ℕ) (sy : Symm near) (j : J
   done-idle xs z = record { lays = laying-none near Q angles xs; struck = z; cnots = omega (arith, cnots-none) }
 
   -- one round: a column less, at 2 (m - 1) CNOTs
-  module _ (xs : List ℕ) (r : Ready Q xs) (found : chosen near Q xs .moves < far) where
+  module _ (xs : List ℕ) (r : RoundReady Q xs) (found : chosen near Q xs .moves < far) where
     abbrev k : ℕ
     k = chosen near Q xs .column
 
@@ -110,12 +110,12 @@ module _ (near : List ℕ) (Q : ℕ) (angles : List ℕ) (sy : Symm near) (j : J
         live-less xs (round .cols) k (round-moved .lays .size) (round-moved .stays) some
         (ap (λ (p : Piece). getD (p .cols) k 0) round-is ∙ moves-gone near Q angles low L (brings .coupled) xs r k v (getD xs k 0) (inr refl) (brings .done))
 
-  rounds-done : (n : ℕ) (xs : List ℕ) → Ready Q xs → live xs ≤ n → Done xs (rounds n near angles Q xs)
-  unfolding andThen
+  rounds-done : (n : ℕ) (xs : List ℕ) → RoundReady Q xs → live xs ≤ n → Done xs (rounds n near angles Q xs)
+  unfolding followedBy
   rounds-done zero xs r h = subst (Done xs) (sym (rounds-none near angles Q xs)) (done-idle xs (live-zero xs h))
   rounds-done (suc n) xs r h = go (decLt (chosen near Q xs .moves) far) (rounds-done n)
     where
-      go : Dec (chosen near Q xs .moves < far) → ((ys : List ℕ) → Ready Q ys → live ys ≤ n → Done ys (rounds n near angles Q ys)) → Done xs (rounds (suc n) near angles Q xs)
+      go : Dec (chosen near Q xs .moves < far) → ((ys : List ℕ) → RoundReady Q ys → live ys ≤ n → Done ys (rounds n near angles Q ys)) → Done xs (rounds (suc n) near angles Q xs)
       go (no f) ih =
           let over : far ≤ chosen near Q xs .moves = omega arith in
           subst (Done xs) (sym (rounds-over near angles Q (suc n) xs over)) (done-idle xs (chosen-over near Q xs (λ k. sub-below 20 (getD xs k 0) Q (r .part k) low) over))
@@ -139,7 +139,7 @@ module _ (near : List ℕ) (Q : ℕ) (angles : List ℕ) (sy : Symm near) (j : J
 
 module _ (near : List ℕ) (Q : ℕ) (ps angles : List ℕ) (sy : Symm near) (j : Joined near Q) (low : Q < 2 ^ 20) (few : length ps ≤ 256)
     (term : (k : ℕ) → k < length ps → Sub (getD ps k 0) Q × (getD ps k 0 ≢ 0)) where
-  within : Within Q ps
+  within : ColumnsIn Q ps
   within k = go (decLt k (length ps))
     where
       go : Dec (k < length ps) → Sub (getD ps k 0) Q
@@ -160,7 +160,7 @@ module _ (near : List ℕ) (Q : ℕ) (ps angles : List ℕ) (sy : Symm near) (j 
 
   -- every term is laid, as any way has to
   pub nearest-lays : LaysTerms near Q ps angles (nearestFor near Q ps angles .laid)
-  unfolding nearestFor andThen
+  unfolding nearestFor followedBy
   nearest-lays =
       lays-terms near Q ps angles (first .laid ++ last .laid) (last .cols) low term (laying-then near Q angles (singles .lays) (rest .lays)) (rest .struck) bound
     where

@@ -6,25 +6,26 @@ use mathlib.Core.List.{List, [], _∷_}
 use Prim.Native.Nat.{ℕ, suc, _+_, _^_, _<_}
 use native.Mathlib.Omega.{arith}
 use lib.ListN.{length, getD}
-use Rattle.sets.specs.Bit.{bit, Sub}
+use Rattle.sets.specs.Bit.{Sub}
 use Rattle.sets.specs.Size.{singleOf}
 use Rattle.sets.specs.Columns.{turn}
 use Rattle.sets.proofs.Bits.{bit-of-zero}
-use Rattle.sets.proofs.Members.{in-lt}
-use Rattle.sets.proofs.Turn.{turn-sub, turn-off}
+use Rattle.sets.proofs.Turn.{turn-sub, turn-none}
 use Rattle.sets.proofs.Words.{single-pow}
 use Rattle.gates.specs.declared.gate.Gate.{Gate}
 use Rattle.gates.specs.declared.gate.Gate.the-variants.{Cnot, Rotation, X, Bad}
+use Rattle.sets.specs.Lists.{All}
 use Rattle.tallies.specs.Tally.{cnotsOf}
-use Rattle.columns.specs.Pieces.{Piece, piece, idle, andThen}
+use Rattle.columns.specs.Pieces.{Piece, piece, idle, followedBy}
 use Rattle.columns.specs.Turning.{turnAll}
 use Rattle.columns.specs.Striking.{strikeOff}
 use Rattle.columns.specs.Terms.{Laying}
-use Rattle.gathering.specs.Gather.{On, Coupled, turns}
-use Rattle.columns.proofs.Turns.{cnot-is, turn-all-at, turned-is}
+use Rattle.chip.specs.Inside.{On, Coupled}
+use Rattle.gathering.specs.Gather.{turns}
+use Rattle.columns.proofs.Turns.{cnot-is, turn-all-at}
 use Rattle.columns.proofs.Strikes.{single-zero}
 use Rattle.columns.proofs.Layings.{laying-none, laying-then, laying-cnot}
-use Rattle.columns.proofs.Struck.{Fit, fit-of, Strikes, strikes-off, off-single, off-other}
+use Rattle.columns.proofs.Struck.{SinglesIn, fit-of, Strikes, strikes-off, off-single, off-other}
 use Rattle.nearest.specs.Moves.{layMove, layMoves}
 use Rattle.nearest.proofs.Moving.{moves-none, moves-cons}
 use Rattle.sets.proofs.Deciding.{never}
@@ -34,21 +35,21 @@ none-sub : (Q : ℕ) → Sub 0 Q
 none-sub Q i h = absurd (omega (arith, h, bit-of-zero i))
 
 -- every column lies in Q
-abbrev pub Within : ℕ → List ℕ → Type 0
-Within Q xs = (k : ℕ) → Sub (getD xs k 0) Q
+abbrev pub ColumnsIn : ℕ → List ℕ → Type 0
+ColumnsIn Q xs = (k : ℕ) → Sub (getD xs k 0) Q
 
 -- and none is of one qubit
-pub record Ready (Q : ℕ) (xs : List ℕ) : Type 0 where
-  pub part : Within Q xs
+pub record RoundReady (Q : ℕ) (xs : List ℕ) : Type 0 where
+  pub part : ColumnsIn Q xs
   pub many : (k : ℕ) → singleOf (getD xs k 0) ≡ false
 
 module _ (near : List ℕ) (Q : ℕ) (angles : List ℕ) (low : Q < 2 ^ 20) where
   -- ---- striking off
 
-  pub fits : (xs : List ℕ) → Within Q xs → Fit Q xs
+  pub fits : (xs : List ℕ) → ColumnsIn Q xs → SinglesIn Q xs
   fits xs w = fit-of Q xs low (λ k e. w k)
 
-  pub strike-ready : (xs : List ℕ) → Within Q xs → Ready Q (strikeOff angles xs .cols)
+  pub strike-ready : (xs : List ℕ) → ColumnsIn Q xs → RoundReady Q (strikeOff angles xs .cols)
   strike-ready xs w = record { part = λ k. part k (strikes-off near Q angles xs (fits xs w) .each k); many = λ k. many k (singleOf (getD xs k 0)) refl }
     where
       ys : List ℕ
@@ -68,40 +69,34 @@ module _ (near : List ℕ) (Q : ℕ) (angles : List ℕ) (low : Q < 2 ^ 20) wher
   pub record Moved (xs : List ℕ) (n : ℕ) (p : Piece) : Type 0 where
     pub lays : Laying near Q angles xs (p .laid) (p .cols)
     pub cnots : cnotsOf (p .laid) ≡ n
-    pub ready : Ready Q (p .cols)
+    pub ready : RoundReady Q (p .cols)
     pub stays : (k : ℕ) → getD xs k 0 ≡ 0 → getD (p .cols) k 0 ≡ 0
 
-  module _ (c t : ℕ) (o : On near Q c t) (xs : List ℕ) (w : Within Q xs) where
-    turned-at : (k : ℕ) → getD (turnAll c t xs) k 0 ≡ turn (getD xs k 0) c t
-    turned-at k = turn-all-at c t xs k ∙ turned-is c t (getD xs k 0) (omega (arith, in-lt 20 Q c low (o .0)))
+  module _ (c t : ℕ) (o : On near Q c t) (xs : List ℕ) (w : ColumnsIn Q xs) where
+    turned-within : ColumnsIn Q (turnAll c t xs)
+    turned-within k = subst (λ (x : ℕ). Sub x Q) (sym (turn-all-at c t xs k)) (turn-sub Q (getD xs k 0) c t (o .0) (w k))
 
-    turned-within : Within Q (turnAll c t xs)
-    turned-within k = subst (λ (x : ℕ). Sub x Q) (sym (turned-at k)) (turn-sub Q (getD xs k 0) c t (o .0) (w k))
-
-    move-is : layMove angles c t xs ≡ andThen (piece (turnAll c t xs) (Cnot c t ∷ [])) (strikeOff angles)
+    move-is : layMove angles c t xs ≡ followedBy (piece (turnAll c t xs) (Cnot c t ∷ [])) (strikeOff angles)
     unfolding layMove
-    move-is = ap (λ (p : Piece). andThen p (strikeOff angles)) (cnot-is c t xs)
+    move-is = ap (λ (p : Piece). followedBy p (strikeOff angles)) (cnot-is c t xs)
 
     struck : Strikes near Q angles (turnAll c t xs) (strikeOff angles (turnAll c t xs))
     struck = strikes-off near Q angles (turnAll c t xs) (fits (turnAll c t xs) turned-within)
 
     -- a column is struck off, or turned
-    pub move-each : (k : ℕ) → (getD (layMove angles c t xs .cols) k 0 ≡ 0) ⊎ (getD (layMove angles c t xs .cols) k 0 ≡ turn (getD xs k 0) c t)
-    unfolding andThen
-    move-each k = subst (λ (p : Piece). (getD (p .cols) k 0 ≡ 0) ⊎ (getD (p .cols) k 0 ≡ turn (getD xs k 0) c t)) (sym move-is) (go (struck .each k))
+    pub move-each : (k : ℕ) → (getD (layMove angles c t xs .cols) k 0 ≡ 0) ⊎ (getD (layMove angles c t xs .cols) k 0 ≡ turn c t (getD xs k 0))
+    unfolding followedBy
+    move-each k = subst (λ (p : Piece). (getD (p .cols) k 0 ≡ 0) ⊎ (getD (p .cols) k 0 ≡ turn c t (getD xs k 0))) (sym move-is) (go (struck .each k))
       where
         ys : List ℕ
         ys = strikeOff angles (turnAll c t xs) .cols
 
-        go : (getD ys k 0 ≡ getD (turnAll c t xs) k 0) ⊎ ((singleOf (getD (turnAll c t xs) k 0) ≡ true) × (getD ys k 0 ≡ 0)) → (getD ys k 0 ≡ 0) ⊎ (getD ys k 0 ≡ turn (getD xs k 0) c t)
-        go (inl e) = inr (e ∙ turned-at k)
+        go : (getD ys k 0 ≡ getD (turnAll c t xs) k 0) ⊎ ((singleOf (getD (turnAll c t xs) k 0) ≡ true) × (getD ys k 0 ≡ 0)) → (getD ys k 0 ≡ 0) ⊎ (getD ys k 0 ≡ turn c t (getD xs k 0))
+        go (inl e) = inr (e ∙ turn-all-at c t xs k)
         go (inr e) = inl (e .1)
 
-    turn-none : (x : ℕ) → x ≡ 0 → turn x c t ≡ 0
-    turn-none x z = turn-off x c t (ap (λ (y : ℕ). bit y t) z ∙ bit-of-zero t) ∙ z
-
     pub move-moved : Moved xs 1 (layMove angles c t xs)
-    unfolding andThen
+    unfolding followedBy
     move-moved =
         subst (Moved xs 1) (sym move-is)
         (record {
@@ -115,16 +110,16 @@ module _ (near : List ℕ) (Q : ℕ) (angles : List ℕ) (low : Q < 2 ^ 20) wher
         ys = strikeOff angles (turnAll c t xs) .cols
 
         go : (k : ℕ) → getD xs k 0 ≡ 0 → (getD ys k 0 ≡ getD (turnAll c t xs) k 0) ⊎ ((singleOf (getD (turnAll c t xs) k 0) ≡ true) × (getD ys k 0 ≡ 0)) → getD ys k 0 ≡ 0
-        go k z (inl e) = e ∙ turned-at k ∙ turn-none (getD xs k 0) z
+        go k z (inl e) = e ∙ turn-all-at c t xs k ∙ ap (turn c t) z ∙ turn-none c t
         go k z (inr e) = e .1
 
   -- ---- moves
 
-  pub moved-none : (xs : List ℕ) → Ready Q xs → Moved xs 0 (idle xs)
+  pub moved-none : (xs : List ℕ) → RoundReady Q xs → Moved xs 0 (idle xs)
   moved-none xs r = record { lays = laying-none near Q angles xs; cnots = cnots-none; ready = r; stays = λ k z. z }
 
-  pub moved-then : (xs : List ℕ) (m n : ℕ) (p : Piece) (k : List ℕ → Piece) → Moved xs m p → Moved (p .cols) n (k (p .cols)) → Moved xs (m + n) (andThen p k)
-  unfolding andThen
+  pub moved-then : (xs : List ℕ) (m n : ℕ) (p : Piece) (k : List ℕ → Piece) → Moved xs m p → Moved (p .cols) n (k (p .cols)) → Moved xs (m + n) (followedBy p k)
+  unfolding followedBy
   moved-then xs m n p k a b =
       record {
         lays = laying-then near Q angles (a .lays) (b .lays);
@@ -133,24 +128,25 @@ module _ (near : List ℕ) (Q : ℕ) (angles : List ℕ) (low : Q < 2 ^ 20) wher
         stays = λ j z. b .stays j (a .stays j z);
       }
 
-  pub moves-moved : (L : List Gate) → Coupled near Q L → (xs : List ℕ) → Ready Q xs → Moved xs (length L) (layMoves angles L xs)
+  pub moves-moved : (L : List Gate) → All (Coupled near Q) L → (xs : List ℕ) → RoundReady Q xs → Moved xs (length L) (layMoves angles L xs)
+  unfolding All
   moves-moved [] h xs r = subst (Moved xs 0) (sym (moves-none angles xs)) (moved-none xs r)
   moves-moved (Cnot c t ∷ gs) h xs r =
       let a = move-moved c t (h .0) xs (r .part) in
       subst (Moved xs (suc (length gs))) (sym (moves-cons angles c t gs xs))
-      (subst (λ (n : ℕ). Moved xs n (andThen (layMove angles c t xs) (λ ys. layMoves angles gs ys))) (one-more (length gs))
+      (subst (λ (n : ℕ). Moved xs n (followedBy (layMove angles c t xs) (λ ys. layMoves angles gs ys))) (one-more (length gs))
       (moved-then xs 1 (length gs) (layMove angles c t xs) (λ ys. layMoves angles gs ys) a (moves-moved gs (h .1) (layMove angles c t xs .cols) (a .ready))))
     where
       one-more : (n : ℕ) → 1 + n ≡ suc n
       one-more n = omega arith
-  moves-moved (Rotation q a ∷ gs) h xs r = absurd h
-  moves-moved (X q ∷ gs) h xs r = absurd h
-  moves-moved (Bad ∷ gs) h xs r = absurd h
+  moves-moved (Rotation q a ∷ gs) h xs r = absurd (h .0)
+  moves-moved (X q ∷ gs) h xs r = absurd (h .0)
+  moves-moved (Bad ∷ gs) h xs r = absurd (h .0)
 
   -- column k is x unless it is struck off; moves that bring x to one qubit strike it off
-  pub moves-gone : (L : List Gate) → Coupled near Q L → (xs : List ℕ) → Ready Q xs → (k v x : ℕ) → (getD xs k 0 ≡ 0) ⊎ (getD xs k 0 ≡ x) → turns L x ≡ 2 ^ v
+  pub moves-gone : (L : List Gate) → All (Coupled near Q) L → (xs : List ℕ) → RoundReady Q xs → (k v x : ℕ) → (getD xs k 0 ≡ 0) ⊎ (getD xs k 0 ≡ x) → turns L x ≡ 2 ^ v
       → getD (layMoves angles L xs .cols) k 0 ≡ 0
-  unfolding andThen
+  unfolding followedBy All
   moves-gone [] h xs r k v x s e = ap (λ (p : Piece). getD (p .cols) k 0) (moves-none angles xs) ∙ go s
     where
       go : (getD xs k 0 ≡ 0) ⊎ (getD xs k 0 ≡ x) → getD xs k 0 ≡ 0
@@ -158,7 +154,7 @@ module _ (near : List ℕ) (Q : ℕ) (angles : List ℕ) (low : Q < 2 ^ 20) wher
       go (inr i) = absurd (never (ap singleOf (i ∙ e) ∙ single-pow v) (r .many k))
   moves-gone (Cnot c t ∷ gs) h xs r k v x s e =
       ap (λ (p : Piece). getD (p .cols) k 0) (moves-cons angles c t gs xs)
-      ∙ moves-gone gs (h .1) (layMove angles c t xs .cols) (a .ready) k v (turn x c t) (go s (move-each c t (h .0) xs (r .part) k)) e
+      ∙ moves-gone gs (h .1) (layMove angles c t xs .cols) (a .ready) k v (turn c t x) (go s (move-each c t (h .0) xs (r .part) k)) e
     where
       a : Moved xs 1 (layMove angles c t xs)
       a = move-moved c t (h .0) xs (r .part)
@@ -166,10 +162,10 @@ module _ (near : List ℕ) (Q : ℕ) (angles : List ℕ) (low : Q < 2 ^ 20) wher
       ys : List ℕ
       ys = layMove angles c t xs .cols
 
-      go : (getD xs k 0 ≡ 0) ⊎ (getD xs k 0 ≡ x) → (getD ys k 0 ≡ 0) ⊎ (getD ys k 0 ≡ turn (getD xs k 0) c t) → (getD ys k 0 ≡ 0) ⊎ (getD ys k 0 ≡ turn x c t)
+      go : (getD xs k 0 ≡ 0) ⊎ (getD xs k 0 ≡ x) → (getD ys k 0 ≡ 0) ⊎ (getD ys k 0 ≡ turn c t (getD xs k 0)) → (getD ys k 0 ≡ 0) ⊎ (getD ys k 0 ≡ turn c t x)
       go (inl z) m = inl (a .stays k z)
       go (inr i) (inl z) = inl z
-      go (inr i) (inr j) = inr (j ∙ ap (λ (y : ℕ). turn y c t) i)
-  moves-gone (Rotation q a ∷ gs) h xs r k v x s e = absurd h
-  moves-gone (X q ∷ gs) h xs r k v x s e = absurd h
-  moves-gone (Bad ∷ gs) h xs r k v x s e = absurd h
+      go (inr i) (inr j) = inr (j ∙ ap (λ (y : ℕ). turn c t y) i)
+  moves-gone (Rotation q a ∷ gs) h xs r k v x s e = absurd (h .0)
+  moves-gone (X q ∷ gs) h xs r k v x s e = absurd (h .0)
+  moves-gone (Bad ∷ gs) h xs r k v x s e = absurd (h .0)

@@ -6,14 +6,14 @@ use native.Mathlib.Omega.{arith}
 use lib.ListN.{getD}
 use Rattle.gates.specs.declared.gate.Gate.{Gate}
 use Rattle.gates.specs.declared.gate.Gate.the-variants.{Cnot}
-use Rattle.columns.specs.Pieces.{idle, andThen, Memory, held, wrote}
+use Rattle.columns.specs.Pieces.{idle, followedBy, Memory, held, wrote}
 use Rattle.columns.specs.Turning.{layCnot}
 use Rattle.columns.specs.Striking.{strikeOff}
-use Rattle.gathering.specs.Gather.{gatherOf, movesIn, cnotsIn}
+use Rattle.gathering.specs.Gather.{gatherOf, movesIn, cnotsFrom}
 use Rattle.gathering.specs.declared.gather.Moves.{Moves}
 use Rattle.columns.proofs.Piecing.{wrote-none, wrote-on}
 use Rattle.gathering.proofs.GatherWorks.{gather-few}
-use Rattle.gathering.proofs.GatherCode.{cnots-step, cnots-none, gather-back, moves-len}
+use Rattle.gathering.proofs.GatherCode.{cnots-from-step, cnots-from-none, gather-back, moves-len}
 use Rattle.nearest.specs.Moves.{layMove, layMoves}
 use Rattle.nearest.specs.Nearest.{gatherNext}
 
@@ -29,23 +29,23 @@ module _ (angles : List ℕ) where
   unfolding layMoves
   moves-none xs = refl
 
-  pub moves-cons : (c t : ℕ) (gs : List Gate) (xs : List ℕ) → layMoves angles (Cnot c t ∷ gs) xs ≡ andThen (layMove angles c t xs) (λ ys. layMoves angles gs ys)
+  pub moves-cons : (c t : ℕ) (gs : List Gate) (xs : List ℕ) → layMoves angles (Cnot c t ∷ gs) xs ≡ followedBy (layMove angles c t xs) (λ ys. layMoves angles gs ys)
   unfolding layMoves
   moves-cons c t gs xs = refl
 
 module _ (angles to by : List ℕ) where
   pub move-next : (n i : ℕ) (xs out : List ℕ) (at : ℕ) (ys out′ : List ℕ) (a : ℕ) → i < n → held ys out′ a ≡ wrote out at (layMove angles (getD to i 0) (getD by i 0) xs)
-      → wrote out′ a (layMoves angles (cnotsIn to by (i + 1) (n - (i + 1))) ys) ≡ wrote out at (layMoves angles (cnotsIn to by i (n - i)) xs)
+      → wrote out′ a (layMoves angles (cnotsFrom to by (i + 1) (n - (i + 1))) ys) ≡ wrote out at (layMoves angles (cnotsFrom to by i (n - i)) xs)
   move-next n i xs out at ys out′ a l e =
       let z : suc (n - (i + 1)) ≡ n - i = omega arith in
-      let rest : List Gate = cnotsIn to by (i + 1) (n - (i + 1)) in
+      let rest : List Gate = cnotsFrom to by (i + 1) (n - (i + 1)) in
       wrote-on out at (layMove angles (getD to i 0) (getD by i 0) xs) (λ ys. layMoves angles rest ys) e refl
-      ∙ ap (wrote out at) (sym (moves-cons angles (getD to i 0) (getD by i 0) rest xs) ∙ ap (λ (g : List Gate). layMoves angles g xs) (sym (cnots-step to by i (n - (i + 1))) ∙ ap (cnotsIn to by i) z))
+      ∙ ap (wrote out at) (sym (moves-cons angles (getD to i 0) (getD by i 0) rest xs) ∙ ap (λ (g : List Gate). layMoves angles g xs) (sym (cnots-from-step to by i (n - (i + 1))) ∙ ap (cnotsFrom to by i) z))
 
-  pub move-end : (n i : ℕ) (xs out : List ℕ) (at : ℕ) → n ≤ i → held xs out at ≡ wrote out at (layMoves angles (cnotsIn to by i (n - i)) xs)
+  pub move-end : (n i : ℕ) (xs out : List ℕ) (at : ℕ) → n ≤ i → held xs out at ≡ wrote out at (layMoves angles (cnotsFrom to by i (n - i)) xs)
   move-end n i xs out at h =
       let z : 0 ≡ n - i = omega arith in
-      wrote-none out at xs ∙ ap (wrote out at) (sym (moves-none angles xs) ∙ ap (λ (g : List Gate). layMoves angles g xs) (sym (cnots-none to by i) ∙ ap (cnotsIn to by i) z))
+      wrote-none out at xs ∙ ap (wrote out at) (sym (moves-none angles xs) ∙ ap (λ (g : List Gate). layMoves angles g xs) (sym (cnots-from-none to by i) ∙ ap (cnotsFrom to by i) z))
 
 -- ---- a gathering is laid
 
@@ -53,8 +53,8 @@ pub gather-fits : (near : List ℕ) (Q v x : ℕ) (m : Moves) → m ≡ movesIn 
 gather-fits near Q v x m e = subst (λ (m : Moves). m .len ≤ 38) (sym e) (omega (arith, moves-len (gatherOf near Q v x), gather-few near Q v x))
 
 pub next-wrote : (near angles : List ℕ) (Q k v : ℕ) (xs out : List ℕ) (at x : ℕ) (m : Moves) {w : Memory} → x ≡ getD xs k 0 → m ≡ movesIn (gatherOf near Q v x)
-    → w ≡ wrote out at (layMoves angles (cnotsIn (m .to) (m .by) 0 (m .len)) xs) → w ≡ wrote out at (gatherNext near angles Q k v xs)
+    → w ≡ wrote out at (layMoves angles (cnotsFrom (m .to) (m .by) 0 (m .len)) xs) → w ≡ wrote out at (gatherNext near angles Q k v xs)
 unfolding gatherNext
 next-wrote near angles Q k v xs out at x m ex em h =
     h ∙ ap (λ (g : List Gate). wrote out at (layMoves angles g xs))
-    (ap (λ (m : Moves). cnotsIn (m .to) (m .by) 0 (m .len)) em ∙ gather-back near Q v x ∙ ap (gatherOf near Q v) ex)
+    (ap (λ (m : Moves). cnotsFrom (m .to) (m .by) 0 (m .len)) em ∙ gather-back near Q v x ∙ ap (gatherOf near Q v) ex)

@@ -9,6 +9,8 @@ use native.Mathlib.Decide.{ℕ-discrete, decLt}
 use lib.Bits.{bitAnd}
 use lib.Count.{ones}
 use lib.ListN.{length, getD, List·getD-eq-default}
+use lib.Dec.{ltb}
+use borrow.Author.Tests.{ltb-true}
 use Rattle.sets.specs.Pick.{pick}
 use Rattle.sets.specs.Bit.{bit, has, In, Sub}
 use Rattle.sets.specs.Size.{sizeOf}
@@ -16,7 +18,7 @@ use Rattle.sets.specs.Columns.{turn}
 use Rattle.sets.proofs.Bits.{bit-cases, bit-of-zero}
 use Rattle.sets.proofs.Members.{in-and, in-lt}
 use Rattle.sets.proofs.Ones.{ones-pow, ones-put, ones-drop}
-use Rattle.sets.proofs.Turn.{turn-on, turn-off}
+use Rattle.sets.proofs.Turn.{turn-on, turn-off, turn-past}
 use Rattle.sets.proofs.Words.{has-true, has-false}
 use Rattle.gates.specs.declared.gate.Gate.{Gate}
 use Rattle.gates.specs.declared.gate.Gate.the-variants.{Cnot, Rotation, X, Bad}
@@ -26,23 +28,27 @@ use Rattle.spares.proofs.Spares.{connected-joined}
 use Rattle.gathering.specs.Gather.{turns, gatherOf}
 use Rattle.gathering.proofs.GatherWorks.{gathers}
 use Rattle.nearest.specs.Choice.{triedAt, overQubits}
-use Rattle.nearest.specs.Sure.{Sure, Answered, Mutual, Told}
+use Rattle.nearest.specs.Sure.{Sure, Answered, Mutual, Whenever}
 use Rattle.nearest.specs.declared.choice.Choice.{Choice}
 use Rattle.nearest.proofs.Choosing.{tried-not, tried-farther, qubits-step, qubits-none}
 
 -- ---- a move takes at most one qubit out of a column
 
-turn-loses : (x c t : ℕ) → ones x ≤ suc (ones (turn x c t))
-turn-loses x c t = go (bit-cases x t) (bit-cases x c)
+turn-loses : (x c t : ℕ) → ones x ≤ suc (ones (turn c t x))
+turn-loses x c t = all (ltb c 32) refl
   where
-    go : (bit x t ≡ 0) ⊎ (bit x t ≡ 1) → (bit x c ≡ 0) ⊎ (bit x c ≡ 1) → ones x ≤ suc (ones (turn x c t))
-    go (inl e) d = omega (arith, ap ones (turn-off x c t e))
-    go (inr e) (inl d) = omega (arith, ap ones (turn-on x c t e), ones-put c x d)
-    go (inr e) (inr d) = omega (arith, ap ones (turn-on x c t e), ones-drop c x d)
+    go : c < 32 → (bit x t ≡ 0) ⊎ (bit x t ≡ 1) → (bit x c ≡ 0) ⊎ (bit x c ≡ 1) → ones x ≤ suc (ones (turn c t x))
+    go l (inl e) d = omega (arith, ap ones (turn-off x c t e))
+    go l (inr e) (inl d) = omega (arith, ap ones (turn-on x c t l e), ones-put c x d)
+    go l (inr e) (inr d) = omega (arith, ap ones (turn-on x c t l e), ones-drop c x d)
+
+    all : (b : Bool) → ltb c 32 ≡ b → ones x ≤ suc (ones (turn c t x))
+    all true e = go (ltb-true c 32 e) (bit-cases x t) (bit-cases x c)
+    all false e = omega (arith, ap ones (turn-past x c t e))
 
 pub turns-lose : (L : List Gate) (x : ℕ) → ones x ≤ length L + ones (turns L x)
 turns-lose [] x = omega arith
-turns-lose (Cnot c t ∷ gs) x = omega (arith, turn-loses x c t, turns-lose gs (turn x c t))
+turns-lose (Cnot c t ∷ gs) x = omega (arith, turn-loses x c t, turns-lose gs (turn c t x))
 turns-lose (Rotation q a ∷ gs) x = omega (arith, turns-lose gs x)
 turns-lose (X q ∷ gs) x = omega (arith, turns-lose gs x)
 turns-lose (Bad ∷ gs) x = omega (arith, turns-lose gs x)
@@ -80,13 +86,13 @@ pub not-not : (b : Bool) → not b ≡ false → b ≡ true
 not-not true e = refl
 not-not false e = sym e
 
-pub told-not : (P : Type 0) → Told false P
+pub told-not : (P : Type 0) → Whenever false P
 told-not P t = let z : _≡_ {A = ℕ} 0 1 = ap (λ (b : Bool). pick b 1 0) t in absurd (omega arith)
 
-pub answered-has : (near : List ℕ) (u v : ℕ) (r : Bool) → r ≡ has (getD near v 0) u → Told r (Answered near u v)
+pub answered-has : (near : List ℕ) (u v : ℕ) (r : Bool) → r ≡ has (getD near v 0) u → Whenever r (Answered near u v)
 answered-has near u v r e t = record { back = λ n. has-true (getD near v 0) u (sym e ∙ t) }
 
-pub answered-not : (near : List ℕ) (u v : ℕ) (r : Bool) → has (getD near u 0) v ≡ false → Told r (Answered near u v)
+pub answered-not : (near : List ℕ) (u v : ℕ) (r : Bool) → has (getD near u 0) v ≡ false → Whenever r (Answered near u v)
 answered-not near u v r e t = record { back = λ n. absurd (omega (arith, n, has-false (getD near u 0) v e)) }
 
 -- the neighbours of u below k have it as a neighbour too
@@ -133,5 +139,5 @@ module _ (near : List ℕ) where
           past : length near ≤ u
           past = omega arith
 
-pub sure-of : (near : List ℕ) (Q : ℕ) → Q < 1048576 → Symm near → (r : Bool) → r ≡ connectedOf near Q → Told r (Sure near Q)
+pub sure-of : (near : List ℕ) (Q : ℕ) → Q < 1048576 → Symm near → (r : Bool) → r ≡ connectedOf near Q → Whenever r (Sure near Q)
 sure-of near Q h s r e t = record { symm = s; joined = connected-joined near Q h s (sym e ∙ t); low = h }

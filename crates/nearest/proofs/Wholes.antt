@@ -26,8 +26,8 @@ use Rattle.gathering.proofs.OrderParts.{sub-lt}
 use Rattle.gathering.proofs.OrderGrows.{order-along, order-few}
 use Rattle.gathering.proofs.GatherWorks.{gathers-along}
 use Rattle.nearest.specs.Choice.{outAt, leastOf, detourOf}
-use Rattle.nearest.specs.Sure.{Sure, Works, Whole, Told}
-use Rattle.nearest.specs.Orders.{Ordered}
+use Rattle.nearest.specs.Sure.{Sure, Works, Whole, Whenever}
+use Rattle.nearest.specs.Orders.{AllOrderly}
 use Rattle.nearest.specs.declared.choice.Out.{Out}
 use Rattle.nearest.proofs.Counting.{out-not, out-two, out-one, Counting}
 use Rattle.nearest.proofs.Sureness.{turns-lose}
@@ -177,7 +177,7 @@ module _ (near order : List ℕ) (from : ℕ) where
       part : Taken near E S q low z e x o
       part = subst (Taken near E S q low z e x) (sym is) (taken near E S q low z e w x hw (sy w q n) f ne)
 
-  module _ (b : Bool) (k S x : ℕ) (t : Told b (Whole near order from k S x)) where
+  module _ (b : Bool) (k S x : ℕ) (t : Whenever b (Whole near order from k S x)) where
     module _ (n total bound : ℕ) (c : Counting near order from k S x n total) (l : bound ≤ n + leastOf b x) where
       pub bound-few : bound ≤ 58
       unfolding sizeOf
@@ -199,12 +199,12 @@ module _ (near order : List ℕ) (from : ℕ) where
           go false y l = omega (arith, g, l, c .count)
 
     module _ (u d m : ℕ) (o : Out) (h : 0 < k) (eu : u ≡ getD order (from + k) 0) (ed : d ≡ onlyOf u) (em : m ≡ getD near u 0) (eo : o ≡ outAt (bitAnd m (bitXor S d)) u x) where
-      next : Told b (Next (k - 1) (bitXor S d) x o)
+      next : Whenever b (Next (k - 1) (bitXor S d) x o)
       next y =
           let w = t y in
           back-on k S x u d m o (w .symm) (w .low) (w .along) (w .part) (w .some) h (eu ∙ sym (getD-drop from order k 0)) ed em eo
 
-      pub whole-next : Told b (Whole near order from (k - 1) (bitXor S d) (o .left))
+      pub whole-next : Whenever b (Whole near order from (k - 1) (bitXor S d) (o .left))
       whole-next y = next y .0
 
       pub bound-next : (n bound e : ℕ) → bound ≤ n + leastOf b x → e ≡ detourOf (o .moves) → bound + e ≤ n + o .moves + leastOf b (o .left)
@@ -223,8 +223,8 @@ along-same {near} {os} qs h (then {k = k} {E = E} w a z hw n e) =
     let s : getD os (suc k) 0 ≡ getD qs (suc k) 0 = sym (h (suc k) (omega arith)) in
     then w (along-same qs (λ j l. h j (omega arith)) a) (ap (bit E) (sym s) ∙ z) hw (subst (Near near w) s n) (e ∙ ap (λ (i : ℕ). bitXor E (2 ^ i)) s)
 
-pub whole-start : (near : List ℕ) (Q : ℕ) (order len : List ℕ) (o : Ordered near Q order len) (v : ℕ) → v < 20 → (l : ℕ) → l ≡ getD len v 0 → (b : Bool) (x : ℕ) → Told b (Works near Q x) → has x v ≡ true
-    → Told b (Whole near order (20 * v) (l - 1) Q x)
+pub whole-start : (near : List ℕ) (Q : ℕ) (order len : List ℕ) (o : AllOrderly near Q order len) (v : ℕ) → v < 20 → (l : ℕ) → l ≡ getD len v 0 → (b : Bool) (x : ℕ) → Whenever b (Works near Q x) → has x v ≡ true
+    → Whenever b (Whole near order (20 * v) (l - 1) Q x)
 whole-start near Q order len o v h l e b x t hv y =
     record {
       symm = w .sure .symm;
@@ -241,5 +241,5 @@ whole-start near Q order len o v h l e b x t hv y =
 
 -- ---- a column
 
-pub works : (near : List ℕ) (Q x : ℕ) (b : Bool) → Told b (Sure near Q) → b ≡ true → bitAnd x Q ≡ x → Told true (Works near Q x)
+pub works : (near : List ℕ) (Q x : ℕ) (b : Bool) → Whenever b (Sure near Q) → b ≡ true → bitAnd x Q ≡ x → Whenever true (Works near Q x)
 works near Q x b t h e y = record { sure = t h; part = λ i m. in-and x Q i (subst (In i) (sym e) m) .1 }

@@ -8,7 +8,7 @@ use Rattle.sets.specs.Pick.{pick}
 use Rattle.sets.specs.Bit.{has}
 use Rattle.sets.specs.Size.{sizeOf}
 use Rattle.gates.specs.Limits.{mostQubits}
-use Rattle.gathering.specs.Gather.{movesAt, leftAt, gatherOf}
+use Rattle.gathering.specs.Gather.{movesAt, leftAt, gatherOf, mostMoves}
 use Rattle.nearest.specs.declared.choice.Choice.{Choice}
 use Rattle.nearest.specs.declared.choice.Out.{Out}
 
@@ -17,7 +17,7 @@ choice k v n = record { column = k; qubit = v; moves = n }
 
 -- more moves than any gathering has
 abbrev pub far : ℕ
-far = 39
+far = mostMoves + 1
 
 -- b where it has fewer moves; "the first in a tie"
 unfoldable pub nearer : Choice → Choice → Choice

@@ -5,7 +5,7 @@ use lib.Dec.{ltb}
 use lib.ListN.{getD}
 use Rattle.sets.specs.Pick.{pick}
 use Rattle.gates.specs.Limits.{mostParities}
-use Rattle.columns.specs.Pieces.{Piece, idle, andThen}
+use Rattle.columns.specs.Pieces.{Piece, idle, followedBy}
 use Rattle.columns.specs.Striking.{strikeOff}
 use Rattle.gathering.specs.Gather.{gatherOf}
 use Rattle.nearest.specs.Choice.{chosen, far}
@@ -20,9 +20,9 @@ unfoldable pub rounds : ℕ → List ℕ → List ℕ → ℕ → List ℕ → P
 rounds zero near angles Q xs = idle xs
 rounds (suc n) near angles Q xs =
     let b = chosen near Q xs in
-    let more = andThen (gatherNext near angles Q (b .column) (b .qubit) xs) (λ ys. rounds n near angles Q ys) in
+    let more = followedBy (gatherNext near angles Q (b .column) (b .qubit) xs) (λ ys. rounds n near angles Q ys) in
     pick (ltb (b .moves) far) more (idle xs)
 
 -- "Terms are columns over the island's qubits": columns of one qubit first, then the rounds
 unfoldable pub nearestFor : List ℕ → ℕ → List ℕ → List ℕ → Piece
-nearestFor near Q ps angles = andThen (strikeOff angles ps) (λ xs. rounds mostParities near angles Q xs)
+nearestFor near Q ps angles = followedBy (strikeOff angles ps) (λ xs. rounds mostParities near angles Q xs)

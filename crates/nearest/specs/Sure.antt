@@ -6,13 +6,14 @@ use mathlib.Core.List.{List}
 use Prim.Native.Nat.{ℕ, _^_, _<_}
 use lib.ListN.{drop}
 use Rattle.sets.specs.Bit.{Sub}
+use Rattle.gates.specs.Limits.{mostQubits}
 use Rattle.gathering.specs.Order.{Along}
 use Rattle.chip.specs.Graph.{Near, Symm, Joined}
 
 pub record Sure (near : List ℕ) (Q : ℕ) : Type 0 where
   pub symm : Symm near
   pub joined : Joined near Q
-  pub low : Q < 2 ^ 20
+  pub low : Q < 2 ^ mostQubits
 
 -- and x lies in Q
 pub record Works (near : List ℕ) (Q x : ℕ) : Type 0 where
@@ -22,7 +23,7 @@ pub record Works (near : List ℕ) (Q x : ℕ) : Type 0 where
 -- x, which is not empty, is to be gathered by the qubits from place `from` of `order` on, of which S has the first k + 1
 pub record Whole (near order : List ℕ) (from k S x : ℕ) : Type 0 where
   pub symm : Symm near
-  pub low : S < 2 ^ 20
+  pub low : S < 2 ^ mostQubits
   pub along : Along near (drop from order) k S
   pub part : Sub x S
   pub some : x ≢ 0
@@ -35,5 +36,5 @@ abbrev pub Mutual : List ℕ → ℕ → Type 0
 Mutual near u = (v : ℕ) → Answered near u v
 
 -- where the test b is true, P holds
-abbrev pub Told : Bool → Type 0 → Type 0
-Told b P = b ≡ true → P
+abbrev pub Whenever : Bool → Type 0 → Type 0
+Whenever b P = b ≡ true → P

@@ -9,8 +9,8 @@ ghost use lib.ListN.{length, getD, drop};
 ghost use Rattle.sets.specs.Bit.{has};
 ghost use Rattle.gathering.specs.Gather.{gatherFrom};
 ghost use Rattle.nearest.specs.Choice.{triedAt, overQubits, chosen, outAt, leastOf, detourOf};
-ghost use Rattle.nearest.specs.Sure.{Sure, Works, Whole, Told};
-ghost use Rattle.nearest.specs.Orders.{Ordered};
+ghost use Rattle.nearest.specs.Sure.{Sure, Works, Whole, Whenever};
+ghost use Rattle.nearest.specs.Orders.{AllOrderly};
 
 // More moves than any gathering has.
 pub const FAR: usize = gather::MOST + 1;
@@ -85,7 +85,7 @@ fn count(
     x: u32,
     most: usize,
 ) -> usize
-    requires { ⌜ (from ≤ 400) × (1 ≤ len) × (len ≤ 20) × Told whole (Whole (now near) (now order) from (len - 1) set x) ⌝ }
+    requires { ⌜ (from ≤ 400) × (1 ≤ len) × (len ≤ 20) × Whenever whole (Whole (now near) (now order) from (len - 1) set x) ⌝ }
     ensures { λ r. ⌜ r ≡ min most (length (gatherFrom (now (near .entry)) (drop from (now (order .entry))) (len - 1) set x)) ⌝ }
 {
     let mut k = len - 1;
@@ -121,7 +121,7 @@ fn tried(
     v: usize,
     b: Choice,
 ) -> Choice
-    requires { ⌜ Ordered (now near) set (now order) (now len) × (v < 20) × (has x v ≡ true) × Told whole (Works (now near) set x) ⌝ }
+    requires { ⌜ AllOrderly (now near) set (now order) (now len) × (v < 20) × (has x v ≡ true) × Whenever whole (Works (now near) set x) ⌝ }
     ensures { λ r. ⌜ r ≡ triedAt (now (near .entry)) set k x v b ⌝ }
 {
     let n = count(
@@ -155,7 +155,7 @@ fn over_qubits(
     x: u32,
     b: Choice,
 ) -> Choice
-    requires { ⌜ Ordered (now near) set (now order) (now len) × Told whole (Works (now near) set x) ⌝ }
+    requires { ⌜ AllOrderly (now near) set (now order) (now len) × Whenever whole (Works (now near) set x) ⌝ }
     ensures { λ r. ⌜ r ≡ overQubits (now (near .entry)) set k x 20 0 b ⌝ }
 {
     let mut best = b;
@@ -182,7 +182,7 @@ fn over_column(
     x: u32,
     b: Choice,
 ) -> Choice
-    requires { ⌜ Ordered (now near) set (now order) (now len) × Told sure (Sure (now near) set) ⌝ }
+    requires { ⌜ AllOrderly (now near) set (now order) (now len) × Whenever sure (Sure (now near) set) ⌝ }
     ensures { λ r. ⌜ r ≡ overQubits (now (near .entry)) set k x 20 0 b ⌝ }
 {
     if sure {
@@ -205,7 +205,7 @@ pub(crate) fn choose(
     sure: bool,
     cols: &[u32],
 ) -> Choice
-    requires { ⌜ Ordered (now near) set (now order) (now len) × Told sure (Sure (now near) set) ⌝ }
+    requires { ⌜ AllOrderly (now near) set (now order) (now len) × Whenever sure (Sure (now near) set) ⌝ }
     ensures { λ r. ⌜ r ≡ chosen (now (near .entry)) set (now (cols .entry)) ⌝ }
 {
     let mut best = Choice {

@@ -1,14 +1,15 @@
-// Nearest first, the second way: from an island's terms to CNOTs and rotations.
+// The second way, nearest first: from an island's terms to CNOTs and rotations. It knows columns
+// and gatherings, and neither the steps nor endings.
 use columns::striking;
 use columns::turning;
 use gates::job::Job;
 ghost use mathlib.Core.Path.{_≡_};
 ghost use lib.ListN.{take};
-ghost use Rattle.emitting.specs.Emit.{emit, emitAt};
+ghost use Rattle.emitting.specs.Emit.{Emits};
 ghost use Rattle.columns.specs.Pieces.{held, wrote};
 ghost use Rattle.nearest.specs.Nearest.{rounds, nearestFor};
-ghost use Rattle.nearest.specs.Sure.{Sure, Told};
-ghost use Rattle.nearest.specs.Orders.{Ordered};
+ghost use Rattle.nearest.specs.Sure.{Sure, Whenever};
+ghost use Rattle.nearest.specs.Orders.{AllOrderly};
 
 mod choice;
 mod moves;
@@ -27,7 +28,7 @@ fn all_rounds(
     out: &mut [u32],
     at: usize,
 ) -> usize
-    requires { ⌜ Ordered near set (now order) (now len) × Told sure (Sure near set) ⌝ }
+    requires { ⌜ AllOrderly near set (now order) (now len) × Whenever sure (Sure near set) ⌝ }
     ensures { λ r. ⌜ held (now (cols .exit)) (now (out .exit)) r ≡ wrote (now (out .entry)) at (rounds 256 near (now (angles .entry)) set (now (cols .entry))) ⌝ }
 {
     let mut a = at;
@@ -71,7 +72,7 @@ pub fn lay_terms(
     count: usize,
     out: &mut [u32],
 ) -> usize
-    ensures { λ r. ⌜ (now (out .exit) ≡ emit (now (out .entry)) 0 (nearestFor near set (take count parity) (take count angle) .laid)) × (r ≡ emitAt (now (out .entry)) 0 (nearestFor near set (take count parity) (take count angle) .laid)) ⌝ }
+    ensures { λ r. ⌜ Emits (now (out .entry)) 0 (nearestFor near set (take count parity) (take count angle) .laid) (now (out .exit)) r ⌝ }
 {
     let n = turning::at_most(count, Job::PARITIES);
     let mut cols = parity;

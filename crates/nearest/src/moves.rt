@@ -6,7 +6,7 @@ use gathering::gather;
 ghost use mathlib.Core.Path.{_≡_};
 ghost use Prim.Native.Nat.{_≤_};
 ghost use Rattle.columns.specs.Pieces.{held, wrote};
-ghost use Rattle.gathering.specs.Gather.{cnotsIn};
+ghost use Rattle.gathering.specs.Gather.{cnotsFrom, mostMoves};
 ghost use Rattle.nearest.specs.Moves.{layMove, layMoves};
 ghost use Rattle.nearest.specs.Nearest.{gatherNext};
 
@@ -33,8 +33,8 @@ fn lay_moves(
     by: [usize; gather::MOST],
     n: usize,
 ) -> usize
-    requires { ⌜ n ≤ 38 ⌝ }
-    ensures { λ r. ⌜ held (now (cols .exit)) (now (out .exit)) r ≡ wrote (now (out .entry)) at (layMoves (now (angles .entry)) (cnotsIn to by 0 n) (now (cols .entry))) ⌝ }
+    requires { ⌜ n ≤ mostMoves ⌝ }
+    ensures { λ r. ⌜ held (now (cols .exit)) (now (out .exit)) r ≡ wrote (now (out .entry)) at (layMoves (now (angles .entry)) (cnotsFrom to by 0 n) (now (cols .entry))) ⌝ }
 {
     let mut a = at;
     for i in 0..n {

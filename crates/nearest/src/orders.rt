@@ -4,7 +4,7 @@ use gathering::gather;
 ghost use mathlib.Core.Path.{_≡_};
 ghost use Prim.Native.Nat.{_*_, _<_};
 ghost use lib.Seq.{sets};
-ghost use Rattle.nearest.specs.Orders.{Ordered};
+ghost use Rattle.nearest.specs.Orders.{AllOrderly};
 
 const ROOM: usize = Job::QUBITS * Job::QUBITS;
 
@@ -26,7 +26,7 @@ fn with_row(qubit: [usize; ROOM], v: usize, row: [usize; Job::QUBITS]) -> [usize
 }
 
 pub(crate) fn from_all(near: [u32; Job::QUBITS], set: u32) -> Orders
-    ensures { λ r. ⌜ Ordered near set (r .qubit) (r .len) ⌝ }
+    ensures { λ r. ⌜ AllOrderly near set (r .qubit) (r .len) ⌝ }
 {
     let mut qubit = [0; ROOM];
     let mut len = [0; Job::QUBITS];

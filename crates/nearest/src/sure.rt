@@ -4,7 +4,7 @@ use gates::job::Job;
 use spares::spare;
 ghost use Prim.Native.Nat.{_<_};
 ghost use Rattle.chip.specs.Graph.{Symm};
-ghost use Rattle.nearest.specs.Sure.{Sure, Answered, Mutual, Told};
+ghost use Rattle.nearest.specs.Sure.{Sure, Answered, Mutual, Whenever};
 
 // A set of a job's qubits is below this.
 const ABOVE: u32 = 1048576;
@@ -12,7 +12,7 @@ const ABOVE: u32 = 1048576;
 // u, where v is a neighbour of it, is one of v.
 fn answered(near: [u32; Job::QUBITS], u: usize, v: usize) -> bool
     requires { ⌜ (u < 20) × (v < 20) ⌝ }
-    ensures { λ r. ⌜ Told r (Answered near u v) ⌝ }
+    ensures { λ r. ⌜ Whenever r (Answered near u v) ⌝ }
 {
     if sets::holds(near[u], v) {
         return sets::holds(near[v], u);
@@ -22,7 +22,7 @@ fn answered(near: [u32; Job::QUBITS], u: usize, v: usize) -> bool
 
 fn mutual_at(near: [u32; Job::QUBITS], u: usize) -> bool
     requires { ⌜ u < 20 ⌝ }
-    ensures { λ r. ⌜ Told r (Mutual near u) ⌝ }
+    ensures { λ r. ⌜ Whenever r (Mutual near u) ⌝ }
 {
     if ABOVE <= near[u] {
         return false;
@@ -36,7 +36,7 @@ fn mutual_at(near: [u32; Job::QUBITS], u: usize) -> bool
 }
 
 fn mutual(near: [u32; Job::QUBITS]) -> bool
-    ensures { λ r. ⌜ Told r (Symm near) ⌝ }
+    ensures { λ r. ⌜ Whenever r (Symm near) ⌝ }
 {
     for u in 0..Job::QUBITS {
         if !mutual_at(near, u) {
@@ -47,7 +47,7 @@ fn mutual(near: [u32; Job::QUBITS]) -> bool
 }
 
 pub(crate) fn sure(near: [u32; Job::QUBITS], set: u32) -> bool
-    ensures { λ r. ⌜ Told r (Sure near set) ⌝ }
+    ensures { λ r. ⌜ Whenever r (Sure near set) ⌝ }
 {
     if ABOVE <= set {
         return false;

@@ -1,5 +1,5 @@
 // The program for circuits: a circuit's text from standard input, the laid circuit's to standard output, stretch by stretch, last its common phase. Its argument names the
-// couplers' file.
+// couplers' file. It knows `qasm_console`, and alone with the other programs the operating system.
 use circuit::wires;
 use console::COUPLER_LINES;
 use console::GATE_LINES;

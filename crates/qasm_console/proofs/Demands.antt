@@ -11,21 +11,21 @@ use Rattle.gates.specs.declared.gate.Gate.{Gate}
 use Rattle.gates.specs.declared.gate.Gate.the-variants.{Cnot, Rotation, X, Bad}
 use Rattle.gates.specs.Layout.{gateOf, isBad, recordOf, Good}
 use Rattle.gates.specs.Hadamards.{isHadamard}
-use Rattle.gates.specs.All.{All}
+use Rattle.sets.specs.Lists.{All}
 use Rattle.gates.proofs.Records.{gate-record}
 use Rattle.verdicts.specs.Verdicts.{numberOf, isNeither}
 use Rattle.verdicts.proofs.Judged.{then-on}
 use Rattle.verdicts.proofs.Passing.{drawn-accepted}
 use Rattle.tallies.specs.Tally.{largest}
 use Rattle.laying.specs.Demands.{Island, SameCouplers}
-use Rattle.stretches.specs.Cut.{weave, Each}
+use Rattle.stretches.specs.Cut.{weave}
 use Rattle.stretches.specs.Stretches.{stretchesOf, hadamardsOf}
 use Rattle.stretches.specs.Tests.{judgedStretches, judgedBound, jobBound, jobVerdict}
 use Rattle.stretches.specs.Asked.{Accepts}
 use Rattle.stretches.specs.Laid.{stretchRecords, jobRecords}
 use Rattle.stretches.specs.Meaning.{AlikeJob}
 use Rattle.stretches.specs.Demands.{AgreeJob, recordsOn}
-use Rattle.stretches.proofs.Eachs.{each-mapped, each-map, at-each}
+use Rattle.sets.proofs.Lists.{all-mapped, all-map, all-place, all-append}
 use Rattle.stretches.proofs.Laying.{phases-small}
 use Rattle.stretches.proofs.Passing.{Passed, job-passed}
 use Rattle.stretches.proofs.Demands.{laid-faithful, demand-3, all-hadamards}
@@ -38,8 +38,8 @@ use Rattle.reading.specs.Listing.{CouplersText, parsedCouplers, judgedCouplersT
 use Rattle.reading.proofs.Sizes.{couplers-least}
 use Rattle.reading.proofs.Listings.{couplers-parsed}
 use Rattle.text.proofs.Rows.{couplers-rows}
-use Rattle.qasm_reading.specs.Parsing.{circuit, parsed}
-use Rattle.qasm_reading.specs.Readings.{circuitIn, gatesIn, judgedReading}
+use Rattle.qasm_reading.specs.Parsing.{circuit, parsedCircuit}
+use Rattle.qasm_reading.specs.Readings.{circuitIn, circuitGates, judgedCircuitText}
 use Rattle.qasm_reading.specs.Texts.{CircuitText}
 use Rattle.qasm_reading.proofs.Parsed.{circuit-parsed, circuit-once}
 use Rattle.qasm_reading.proofs.Rows.{judged-good}
@@ -57,8 +57,8 @@ use Rattle.qasm_console.specs.Demands.{Drawn, Kept}
 
 -- ---- what is laid can be written
 
-abbrev Fine : ℕ → ℕ → Type 0
-Fine n x = isNeither n x ≡ false
+abbrev Writable : ℕ → ℕ → Type 0
+Writable n x = isNeither n x ≡ false
 
 good-not-bad : (n : ℕ) (g : Gate) → Good n g → isBad g ≡ false
 unfolding Good
@@ -67,11 +67,11 @@ good-not-bad n (Rotation q a) h = refl
 good-not-bad n (X q) h = refl
 good-not-bad n Bad h = absurd h
 
-gate-fine : (n : ℕ) (g : Gate) → n ≤ 256 → Good n g → Fine n (recordOf g)
+gate-fine : (n : ℕ) (g : Gate) → n ≤ 256 → Good n g → Writable n (recordOf g)
 unfolding isNeither
 gate-fine n g few good = rw (gate-record n g few good, good-not-bad n g good)
 
-hadamard-fine : (n x : ℕ) → isHadamard n x ≡ true → Fine n x
+hadamard-fine : (n x : ℕ) → isHadamard n x ≡ true → Writable n x
 unfolding isNeither
 hadamard-fine n x e = rw e (go (isBad (gateOf n x)))
   where
@@ -79,35 +79,30 @@ hadamard-fine n x e = rw e (go (isBad (gateOf n x)))
     go true = refl
     go false = refl
 
-each-append : (P : ℕ → Type 0) (xs ys : List ℕ) → Each P xs → Each P ys → Each P (xs ++ ys)
-unfolding Each
-each-append P [] ys a b = b
-each-append P (x ∷ xs) ys a b = (a .0, each-append P xs ys (a .1) b)
+woven-all : (P : ℕ → Type 0) (ss : List (List ℕ)) (hs : List ℕ) → All (All P) ss → All P hs → All P (weave ss hs)
+unfolding weave All
+woven-all P [] hs a b = tt
+woven-all P (s ∷ ss) [] a b = a .0
+woven-all P (s ∷ ss) (h ∷ hs) a b = all-append P s (h ∷ weave ss hs) (a .0) (b .0, woven-all P ss hs (a .1) (b .1))
 
-each-woven : (P : ℕ → Type 0) (ss : List (List ℕ)) (hs : List ℕ) → Each (Each P) ss → Each P hs → Each P (weave ss hs)
-unfolding weave Each
-each-woven P [] hs a b = tt
-each-woven P (s ∷ ss) [] a b = a .0
-each-woven P (s ∷ ss) (h ∷ hs) a b = each-append P s (h ∷ weave ss hs) (a .0) (b .0, each-woven P ss hs (a .1) (b .1))
-
-gates-fine : (n : ℕ) (gs : List Gate) → n ≤ 256 → All (Good n) gs → Each (Fine n) (map recordOf gs)
-unfolding Each All
+gates-fine : (n : ℕ) (gs : List Gate) → n ≤ 256 → All (Good n) gs → All (Writable n) (map recordOf gs)
+unfolding All
 gates-fine n [] few a = tt
 gates-fine n (g ∷ gs) few a = (gate-fine n g few (a .0), gates-fine n gs few (a .1))
 
 module _ (n : ℕ) (couplers gates : List ℕ) (p : Passed n couplers gates) where
-  laid-fine : Each (Fine n) (jobRecords n couplers gates)
+  laid-fine : All (Writable n) (jobRecords n couplers gates)
   unfolding jobRecords
   laid-fine =
-      each-woven (Fine n) (map (stretchRecords n couplers) (stretchesOf n gates)) (hadamardsOf n gates)
-      (each-mapped (Accepts n couplers) (Each (Fine n)) (stretchRecords n couplers) (λ s a. gates-fine n (circuitOf n couplers s) (omega (arith, p .few)) (demand-2 n couplers s largest a .good)) (stretchesOf n gates) (p .accepts))
-      (each-map (λ x. isHadamard n x ≡ true) (Fine n) (hadamard-fine n) (hadamardsOf n gates) (all-hadamards n couplers gates p))
+      woven-all (Writable n) (map (stretchRecords n couplers) (stretchesOf n gates)) (hadamardsOf n gates)
+      (all-mapped (Accepts n couplers) (All (Writable n)) (stretchRecords n couplers) (λ s a. gates-fine n (circuitOf n couplers s) (omega (arith, p .few)) (demand-2 n couplers s largest a .good)) (stretchesOf n gates) (p .accepts))
+      (all-map (λ x. isHadamard n x ≡ true) (Writable n) (hadamard-fine n) (hadamardsOf n gates) (all-hadamards n couplers gates p))
 
   -- the text of what is laid is that of a circuit, however long
   laid-text : (v : Version) (g : ℕ) → CircuitText (circuitText v n (jobRecords n couplers gates) g) v n (jobRecords n couplers gates) (readPhase v g)
   laid-text v g =
       good-circuit v n (jobRecords n couplers gates) g (p .qubits)
-      (ap numberOf (drawn-accepted n (jobRecords n couplers gates) (at-each (Fine n) (jobRecords n couplers gates) laid-fine)))
+      (ap numberOf (drawn-accepted n (jobRecords n couplers gates) (all-place (Writable n) (jobRecords n couplers gates) laid-fine)))
 
 -- ---- what is printed for a text
 
@@ -120,17 +115,17 @@ module _ (couplers t : List ℕ) (v : Version) (n : ℕ) (gates : List ℕ) (g :
   abbrev laid : List ℕ
   laid = jobRecords n couplers gates
 
-  found : parsed t ≡ circuit v n gates g
+  found : parsedCircuit t ≡ circuit v n gates g
   found = circuit-parsed t v n gates g (d .text)
 
   few : length gates ≤ mostGateLines
-  few = omega (arith, gates-few t (d .short), ap (λ r. length (gatesIn r)) found)
+  few = omega (arith, gates-few t (d .short), ap (λ r. length (circuitGates r)) found)
 
   pub printed : laidDrawing couplers t ≡ circuitText v n (jobRecords n couplers gates) (wholePhase n gates g)
   unfolding laidDrawing laidCircuit
   printed =
-      sym (unless-passed (judgedReading t mostGateLines) (laidCircuit (circuitIn (parsed t)) couplers (gatesIn (parsed t))) (ap numberOf (judged-good t mostGateLines (d .short) v n gates g (d .text) few)))
-      ∙ ap (λ r. laidCircuit (circuitIn r) couplers (gatesIn r)) found ∙ sym (unless-passed (judgedStretches n couplers gates) (circuitText v n (jobRecords n couplers gates) (wholePhase n gates g)) (d .accepted))
+      sym (unless-passed (judgedCircuitText t mostGateLines) (laidCircuit (circuitIn (parsedCircuit t)) couplers (circuitGates (parsedCircuit t))) (ap numberOf (judged-good t mostGateLines (d .short) v n gates g (d .text) few)))
+      ∙ ap (λ r. laidCircuit (circuitIn r) couplers (circuitGates r)) found ∙ sym (unless-passed (judgedStretches n couplers gates) (circuitText v n (jobRecords n couplers gates) (wholePhase n gates g)) (d .accepted))
 
   passed : Passed n couplers gates
   passed = job-passed n couplers gates (d .accepted)

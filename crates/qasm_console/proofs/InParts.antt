@@ -13,24 +13,23 @@ use Rattle.verdicts.specs.declared.verdict.Verdict.{Verdict}
 use Rattle.verdicts.specs.Verdicts.{numberOf}
 use Rattle.gates.specs.Layout.{gatesOf}
 use Rattle.circuit.specs.Phase.{phaseOf, phases}
-use Rattle.circuit.proofs.Phases.{phases-over}
+use Rattle.circuit.proofs.Phases.{phases-again, phases-over}
 use Rattle.tallies.specs.Tally.{largest}
-use Rattle.judging.specs.Tests.{verdictOf}
-use Rattle.stretches.specs.Cut.{Each}
+use Rattle.sets.specs.Lists.{All}
 use Rattle.stretches.specs.Stretches.{stretchesOf, stretchAt, restFrom}
 use Rattle.stretches.specs.Tests.{judgedStretches}
 use Rattle.stretches.specs.Asked.{Accepts}
-use Rattle.stretches.specs.Laid.{stretchRecords, phasesOf, jobPhase}
-use Rattle.stretches.specs.Parts.{hadamardAt, partAt, laidFrom}
-use Rattle.stretches.proofs.Eachs.{each-head, each-tail}
+use Rattle.stretches.specs.Laid.{phasesOf, jobPhase}
+use Rattle.stretches.specs.Parts.{hadamardAt}
+use Rattle.sets.proofs.Lists.{all-head, all-tail}
 use Rattle.stretches.proofs.Going.{rest-start, rest-past}
 use Rattle.stretches.proofs.Judging.{lent-step}
-use Rattle.stretches.proofs.Parting.{parts-all, parts-none, parts-step}
+use Rattle.stretches.proofs.Parting.{parts-all}
 use Rattle.stretches.proofs.Passing.{job-passed}
 use Rattle.stretches.proofs.Records.{stretch-share}
 use Rattle.reading.specs.Readings.{couplersIn}
 use Rattle.reading.specs.Listing.{parsedCouplers, judgedCouplersText, couplersReading}
-use Rattle.reading.specs.declared.read.Reading as listings
+use Rattle.reading.specs.declared.read.Reading.{Reading}
 use Rattle.reading.specs.declared.read.Reading.the-variants as answers
 use Rattle.reading.proofs.Said.{listed-says, unlisted-says}
 use Rattle.gates.specs.declared.job.Job.{Job}
@@ -39,25 +38,20 @@ use Rattle.qasm_lines.specs.Spelling.{headText, gatesText, phasePattern, phaseT
 use Rattle.lines.specs.Pattern.{filled}
 use Rattle.qasm_lines.proofs.Placed.{gates-append}
 use Rattle.qasm_reading.specs.declared.read.Circuit.{Circuit}
-use Rattle.qasm_reading.specs.declared.read.Reading.{Reading}
-use Rattle.qasm_reading.specs.declared.read.Reading.the-variants.{Read, Refused}
-use Rattle.qasm_reading.specs.Parsing.{parsed}
-use Rattle.qasm_reading.specs.Readings.{gatesIn, circuitIn, judgedReading, readingOf}
-use Rattle.qasm_reading.proofs.Said.{read-says, refused-says}
+use Rattle.qasm_reading.specs.declared.read.CircuitReading.{CircuitReading}
+use Rattle.qasm_reading.specs.declared.read.CircuitReading.the-variants.{Read, Refused}
+use Rattle.qasm_reading.specs.Parsing.{parsedCircuit}
+use Rattle.qasm_reading.specs.Readings.{circuitGates, circuitIn, judgedCircuitText, circuitReading}
+use Rattle.qasm_reading.proofs.Said.{circuit-read-says, circuit-unread-says}
 use Rattle.console.specs.Printed.{mostCouplerLines, mostGateLines, unless}
-use Rattle.console.specs.Parts.{nextPart, sharePart}
+use Rattle.console.specs.Parts.{nextPart, sharePart, partsFrom}
 use Rattle.console.proofs.Choosing.{unless-passed, unless-refused}
-use Rattle.console.proofs.Partly.{past-next, past-share, part-next, part-share}
-use Rattle.qasm_console.specs.declared.printing.Begun.{Begun}
+use Rattle.console.proofs.Partly.{past-next, past-share, part-next, part-share, parts-past, parts-are}
+use Rattle.qasm_console.specs.declared.printing.BegunCircuit.{BegunCircuit}
 use Rattle.qasm_console.specs.Printed.{wholePhase, laidCircuit, laidDrawing, laidTexts}
-use Rattle.qasm_console.specs.Parts.{headCircuit, headDrawing, headTexts, Handed, nothingHanded, handedCircuit, handedDrawing, handedIn, gatesAfter, BeginsCircuit, Begins, partText, partsFrom, phaseFrom, behindText}
-use Rattle.qasm_console.proofs.Partly.{past-text, part-text}
+use Rattle.qasm_console.specs.Parts.{frontCircuit, frontDrawing, frontTexts, Handed, nothingHanded, handedCircuit, handedDrawing, handedIn, gatesAfter, BeginsCircuit, BeginsTexts, phaseFrom, behindText}
 use Rattle.qasm_console.proofs.Reading.{gates-front, couplers-front}
 use Rattle.qasm_console.proofs.Beginning.{handed-passed, handed-refused, drawn-read, drawn-unread, texts-read, texts-unread}
-
-phases-again : (a b : ℕ) → phases (phases a b) 0 ≡ phases a b
-unfolding phases
-phases-again a b = omega arith
 
 -- the line of a common phase is that of its rest within a turn
 phase-text : (v : Version) (g h : ℕ) → phases g 0 ≡ phases h 0 → phaseText v g ≡ phaseText v h
@@ -66,41 +60,12 @@ phase-text v g h e = let z : g % 131072 ≡ h % 131072 = omega arith in ap (λ (
 
 -- ---- a circuit
 
-module _ (v : Version) (n : ℕ) (xs ys : List ℕ) where
-  -- above the number of gates nothing more is printed, however long the program goes on
-  parts-past : (f k : ℕ) → length ys < k → partsFrom v n xs ys f k ≡ []
-  unfolding partsFrom
-  parts-past zero k l = refl
-  parts-past (suc f) k l =
-      ap₂ (λ (a b : List ℕ). a ++ b) (sym (past-text v n xs ys k l)) (ap (partsFrom v n xs ys f) (sym (past-next n xs ys k l)) ∙ parts-past f k l)
-
-  -- a part of a stretch that is accepted is the text of its records
-  part-is : (k : ℕ) → k ≤ length ys → Accepts n xs (stretchAt n ys k) → partText v n xs ys k ≡ gatesText v (partAt n xs ys k)
-  unfolding partAt
-  part-is k l a =
-      sym (part-text v n xs ys k l (stretchAt n ys k) (hadamardAt n ys k) refl refl)
-      ∙ sym (unless-passed (verdictOf n xs (stretchAt n ys k) largest) (gatesText v (stretchRecords n xs (stretchAt n ys k) ++ hadamardAt n ys k)) a)
-
-  -- all parts from k on, of which there are at most as many as gates and one
-  parts-are : (f k : ℕ) → length ys + 1 ≤ f + k → Each (Accepts n xs) (restFrom n ys k) → partsFrom v n xs ys f k ≡ gatesText v (laidFrom n xs ys k)
-  unfolding partsFrom gatesText
-  parts-are zero k h a = sym (ap (gatesText v) (parts-none n xs ys k (omega (arith, h))))
-  parts-are (suc f) k h a = go (parts-are f) (decLt (length ys) k)
-    where
-      go : ((i : ℕ) → length ys + 1 ≤ f + i → Each (Accepts n xs) (restFrom n ys i) → partsFrom v n xs ys f i ≡ gatesText v (laidFrom n xs ys i)) → Dec (length ys < k)
-          → partText v n xs ys k ++ partsFrom v n xs ys f (nextPart n ys k) ≡ gatesText v (laidFrom n xs ys k)
-      go rest (yes l) = parts-past (suc f) k l ∙ sym (ap (gatesText v) (parts-none n xs ys k l))
-      go rest (no m) =
-          let l : k ≤ length ys = omega (arith, m) in
-          let each : Each (Accepts n xs) (stretchAt n ys k ∷ restFrom n ys (k + length (stretchAt n ys k) + 1)) = subst (Each (Accepts n xs)) (lent-step n ys k (stretchAt n ys k) refl l) a in
-          ap₂ (λ (x : List ℕ) (i : ℕ). x ++ partsFrom v n xs ys f i) (part-is k l (each-head (Accepts n xs) (stretchAt n ys k) (restFrom n ys (k + length (stretchAt n ys k) + 1)) each))
-          (sym (part-next n xs ys k l (stretchAt n ys k) (hadamardAt n ys k) refl refl))
-          ∙ ap (λ (x : List ℕ). gatesText v (partAt n xs ys k) ++ x)
-          (rest (k + length (stretchAt n ys k) + 1) (omega (arith, h)) (each-tail (Accepts n xs) (stretchAt n ys k) (restFrom n ys (k + length (stretchAt n ys k) + 1)) each))
-          ∙ sym (gates-append v (partAt n xs ys k) (laidFrom n xs ys (k + length (stretchAt n ys k) + 1))) ∙ sym (ap (gatesText v) (parts-step n xs ys k l))
+none : (v : Version) → gatesText v [] ≡ []
+unfolding gatesText
+none v = refl
 
 module _ (n : ℕ) (xs ys : List ℕ) where
-  -- nor is anything added to the common phase
+  -- above the number of gates nothing more is added to the common phase
   phase-past : (f k g : ℕ) → length ys < k → phases (phaseFrom n xs ys f k g) 0 ≡ phases g 0
   unfolding phaseFrom
   phase-past zero k g l = refl
@@ -108,12 +73,12 @@ module _ (n : ℕ) (xs ys : List ℕ) where
       ap₂ (λ (i j : ℕ). phases (phaseFrom n xs ys f i (phases g j)) 0) (sym (past-next n xs ys k l)) (sym (past-share n xs ys k l)) ∙ phase-past f k (phases g 0) l ∙ phases-again g 0
 
   -- the shares of all stretches from k on
-  phase-are : (f k g : ℕ) → length ys + 1 ≤ f + k → Each (Accepts n xs) (restFrom n ys k) → phases (phaseFrom n xs ys f k g) 0 ≡ phases g (phasesOf n (restFrom n ys k))
+  phase-are : (f k g : ℕ) → length ys + 1 ≤ f + k → All (Accepts n xs) (restFrom n ys k) → phases (phaseFrom n xs ys f k g) 0 ≡ phases g (phasesOf n (restFrom n ys k))
   unfolding phaseFrom phasesOf
   phase-are zero k g h a = sym (ap (λ (ss : List (List ℕ)). phases g (phasesOf n ss)) (rest-past n ys k (omega (arith, h))))
   phase-are (suc f) k g h a = go (phase-are f) (decLt (length ys) k)
     where
-      go : ((i e : ℕ) → length ys + 1 ≤ f + i → Each (Accepts n xs) (restFrom n ys i) → phases (phaseFrom n xs ys f i e) 0 ≡ phases e (phasesOf n (restFrom n ys i))) → Dec (length ys < k)
+      go : ((i e : ℕ) → length ys + 1 ≤ f + i → All (Accepts n xs) (restFrom n ys i) → phases (phaseFrom n xs ys f i e) 0 ≡ phases e (phasesOf n (restFrom n ys i))) → Dec (length ys < k)
           → phases (phaseFrom n xs ys f (nextPart n ys k) (phases g (sharePart n xs ys k))) 0 ≡ phases g (phasesOf n (restFrom n ys k))
       go rest (yes l) = phase-past (suc f) k g l ∙ sym (ap (λ (ss : List (List ℕ)). phases g (phasesOf n ss)) (rest-past n ys k l))
       go rest (no m) =
@@ -121,117 +86,117 @@ module _ (n : ℕ) (xs ys : List ℕ) where
           let s : List ℕ = stretchAt n ys k in
           let i : ℕ = k + length s + 1 in
           let step = lent-step n ys k s refl l in
-          let each : Each (Accepts n xs) (s ∷ restFrom n ys i) = subst (Each (Accepts n xs)) step a in
+          let each : All (Accepts n xs) (s ∷ restFrom n ys i) = subst (All (Accepts n xs)) step a in
           ap₂ (λ (i j : ℕ). phases (phaseFrom n xs ys f i (phases g j)) 0) (sym (part-next n xs ys k l s (hadamardAt n ys k) refl refl))
-          (sym (part-share n xs ys k l s (hadamardAt n ys k) refl refl) ∙ stretch-share n xs s largest (each-head (Accepts n xs) s (restFrom n ys i) each))
-          ∙ rest i (phases g (phaseOf (gatesOf n s))) (omega (arith, h)) (each-tail (Accepts n xs) s (restFrom n ys i) each)
+          (sym (part-share n xs ys k l s (hadamardAt n ys k) refl refl) ∙ stretch-share n xs s largest (all-head (Accepts n xs) s (restFrom n ys i) each))
+          ∙ rest i (phases g (phaseOf (gatesOf n s))) (omega (arith, h)) (all-tail (Accepts n xs) s (restFrom n ys i) each)
           ∙ phases-over g (phaseOf (gatesOf n s)) (phasesOf n (restFrom n ys i)) ∙ sym (ap (λ (ss : List (List ℕ)). phases g (phasesOf n ss)) step)
 
   -- the whole common phase, where all of them are accepted
   phase-whole : (g : ℕ) → numberOf (judgedStretches n xs ys) ≡ 0 → phases (phaseFrom n xs ys (length ys + 1) 0 g) 0 ≡ phases (wholePhase n ys g) 0
   unfolding wholePhase jobPhase
   phase-whole g z =
-      phase-are (length ys + 1) 0 g (omega arith) (subst (Each (Accepts n xs)) (sym (rest-start n ys)) (job-passed n xs ys z .accepts))
+      phase-are (length ys + 1) 0 g (omega arith) (subst (All (Accepts n xs)) (sym (rest-start n ys)) (job-passed n xs ys z .accepts))
       ∙ ap (λ (ss : List (List ℕ)). phases g (phasesOf n ss)) (rest-start n ys) ∙ sym (phases-again g (phasesOf n (stretchesOf n ys)))
 
 -- behind a refusal comes nothing: neither a part nor a common phase
-none-printed : (v : Version) (n : ℕ) (xs ys : List ℕ) (f k : ℕ) → length ys < k → partsFrom v n xs ys f k ++ phaseText v (phaseFrom n xs ys f k 0) ≡ []
+none-printed : (v : Version) (n : ℕ) (xs ys : List ℕ) (f k : ℕ) → length ys < k → partsFrom (gatesText v) n xs ys f k ++ phaseText v (phaseFrom n xs ys f k 0) ≡ []
 unfolding phaseText
-none-printed v n xs ys f k l = ap₂ (λ (x y : List ℕ). x ++ y) (parts-past v n xs ys f k l) (phase-text v (phaseFrom n xs ys f k 0) 0 (phase-past n xs ys f k 0 l))
+none-printed v n xs ys f k l = ap₂ (λ (x y : List ℕ). x ++ y) (parts-past (gatesText v) n xs ys f k l) (phase-text v (phaseFrom n xs ys f k 0) 0 (phase-past n xs ys f k 0 l))
 
 none-behind : (h : Handed) (cs gs : List ℕ) → h ≡ nothingHanded → behindText h cs (take (h .job .gates) gs) ≡ []
 unfolding behindText
 none-behind h cs gs e = ap (λ (i : Handed). behindText i cs (take (i .job .gates) gs)) e ∙ none-printed (nothingHanded .version) 0 cs (take 0 gs) 1 1 (omega arith)
 
 -- its front, and what comes behind it
-circuit-parts : (c : Circuit) (xs ys : List ℕ) → laidCircuit c xs ys ≡ headCircuit c xs ys ++ behindText (handedCircuit c xs ys) xs ys
+circuit-parts : (c : Circuit) (xs ys : List ℕ) → laidCircuit c xs ys ≡ frontCircuit c xs ys ++ behindText (handedCircuit c xs ys) xs ys
 circuit-parts c xs ys = go (ℕ-discrete (numberOf (judgedStretches (c .qubits) xs ys)) 0)
   where
-    go : Dec (numberOf (judgedStretches (c .qubits) xs ys) ≡ 0) → laidCircuit c xs ys ≡ headCircuit c xs ys ++ behindText (handedCircuit c xs ys) xs ys
+    go : Dec (numberOf (judgedStretches (c .qubits) xs ys) ≡ 0) → laidCircuit c xs ys ≡ frontCircuit c xs ys ++ behindText (handedCircuit c xs ys) xs ys
     go (yes z) =
-        unfold laidCircuit headCircuit behindText circuitText in
+        unfold laidCircuit frontCircuit behindText circuitText in
         sym (unless-passed (judgedStretches (c .qubits) xs ys) _ z)
         ∙ ap₂ (λ (x y : List ℕ). x ++ y) (unless-passed (judgedStretches (c .qubits) xs ys) (headText (c .version) (c .qubits)) z)
         (ap₂ (λ (x y : List ℕ). x ++ y)
         (ap (gatesText (c .version)) (sym (parts-all (c .qubits) xs ys))
-        ∙ sym (parts-are (c .version) (c .qubits) xs ys (length ys + 1) 0 (omega arith) (subst (Each (Accepts (c .qubits) xs)) (sym (rest-start (c .qubits) ys)) (job-passed (c .qubits) xs ys z .accepts))))
+        ∙ sym (parts-are (gatesText (c .version)) (c .qubits) xs ys (none (c .version)) (gates-append (c .version)) (length ys + 1) 0 (omega arith) (subst (All (Accepts (c .qubits) xs)) (sym (rest-start (c .qubits) ys)) (job-passed (c .qubits) xs ys z .accepts))))
         (phase-text (c .version) _ _ (sym (phase-whole (c .qubits) xs ys (c .phase) z)))
-        ∙ ap (λ (h : Handed). partsFrom (h .version) (h .job .qubits) xs ys (length ys + 1) (h .from) ++ phaseText (h .version) (phaseFrom (h .job .qubits) xs ys (length ys + 1) (h .from) (h .phase)))
+        ∙ ap (λ (h : Handed). partsFrom (gatesText (h .version)) (h .job .qubits) xs ys (length ys + 1) (h .from) ++ phaseText (h .version) (phaseFrom (h .job .qubits) xs ys (length ys + 1) (h .from) (h .phase)))
         (handed-passed c xs ys z))
     go (no ne) =
-        unfold laidCircuit headCircuit behindText phaseText phases in
+        unfold laidCircuit frontCircuit behindText phaseText phases in
         sym (unless-refused (judgedStretches (c .qubits) xs ys) _ ne) ∙ unless-refused (judgedStretches (c .qubits) xs ys) (headText (c .version) (c .qubits)) ne
         ∙ sym (append-nil (unless (judgedStretches (c .qubits) xs ys) (headText (c .version) (c .qubits))))
         ∙ ap (λ (x : List ℕ). unless (judgedStretches (c .qubits) xs ys) (headText (c .version) (c .qubits)) ++ x)
         (sym (none-printed (c .version) (c .qubits) xs ys (length ys + 1) (length ys + 1) (omega arith))
-        ∙ ap (λ (h : Handed). partsFrom (h .version) (h .job .qubits) xs ys (length ys + 1) (h .from) ++ phaseText (h .version) (phaseFrom (h .job .qubits) xs ys (length ys + 1) (h .from) (h .phase)))
+        ∙ ap (λ (h : Handed). partsFrom (gatesText (h .version)) (h .job .qubits) xs ys (length ys + 1) (h .from) ++ phaseText (h .version) (phaseFrom (h .job .qubits) xs ys (length ys + 1) (h .from) (h .phase)))
         (handed-refused c xs ys ne))
 
 -- ---- a circuit's text: h is handed on, with the couplers cs
 
-module _ (xs t gates gates′ cs : List ℕ) (h : Handed) (he : h ≡ handedDrawing xs t) (g : gates′ ≡ gatesAfter t gates) (same : numberOf (judgedReading t mostGateLines) ≡ 0 → cs ≡ xs) where
+module _ (xs t gates gates′ cs : List ℕ) (h : Handed) (he : h ≡ handedDrawing xs t) (g : gates′ ≡ gatesAfter t gates) (same : numberOf (judgedCircuitText t mostGateLines) ≡ 0 → cs ≡ xs) where
   abbrev rest : List ℕ
   rest = behindText h cs (take (h .job .gates) gates′)
 
-  refused-parts : (v : Verdict) → readingOf t mostGateLines ≡ Refused v → laidDrawing xs t ≡ headDrawing xs t ++ rest
-  unfolding laidDrawing headDrawing
+  refused-parts : (v : Verdict) → circuitReading t mostGateLines ≡ Refused v → laidDrawing xs t ≡ frontDrawing xs t ++ rest
+  unfolding laidDrawing frontDrawing
   refused-parts v e =
-      let ne = refused-says t mostGateLines v e .0 in
-      sym (unless-refused (judgedReading t mostGateLines) _ ne) ∙ unless-refused (judgedReading t mostGateLines) _ ne
-      ∙ sym (append-nil (headDrawing xs t)) ∙ ap (λ (x : List ℕ). headDrawing xs t ++ x) (sym (none-behind h cs gates′ (he ∙ drawn-unread xs t ne)))
+      let ne = circuit-unread-says t mostGateLines v e .0 in
+      sym (unless-refused (judgedCircuitText t mostGateLines) _ ne) ∙ unless-refused (judgedCircuitText t mostGateLines) _ ne
+      ∙ sym (append-nil (frontDrawing xs t)) ∙ ap (λ (x : List ℕ). frontDrawing xs t ++ x) (sym (none-behind h cs gates′ (he ∙ drawn-unread xs t ne)))
 
-  read-parts : (c : Circuit) → readingOf t mostGateLines ≡ Read c → laidDrawing xs t ≡ headDrawing xs t ++ rest
-  unfolding laidDrawing headDrawing handedCircuit
+  read-parts : (c : Circuit) → circuitReading t mostGateLines ≡ Read c → laidDrawing xs t ≡ frontDrawing xs t ++ rest
+  unfolding laidDrawing frontDrawing handedCircuit
   read-parts c e =
-      let z = read-says t mostGateLines c e .0 in
-      let ys : List ℕ = gatesIn (parsed t) in
-      let d : h ≡ handedCircuit (circuitIn (parsed t)) xs ys = he ∙ drawn-read xs t z in
+      let z = circuit-read-says t mostGateLines c e .0 in
+      let ys : List ℕ = circuitGates (parsedCircuit t) in
+      let d : h ≡ handedCircuit (circuitIn (parsedCircuit t)) xs ys = he ∙ drawn-read xs t z in
       let m : h .job .gates ≡ length ys = ap (λ (i : Handed). i .job .gates) d in
       let l : take (h .job .gates) gates′ ≡ ys = ap (λ (i : ℕ). take i gates′) m ∙ gates-front t c gates gates′ e g in
-      let all : rest ≡ behindText (handedCircuit (circuitIn (parsed t)) xs ys) xs ys = ap₂ (behindText h) (same z) l ∙ ap (λ (i : Handed). behindText i xs ys) d in
-      sym (unless-passed (judgedReading t mostGateLines) _ z) ∙ circuit-parts (circuitIn (parsed t)) xs ys ∙ ap₂ (λ (x y : List ℕ). x ++ y) (unless-passed (judgedReading t mostGateLines) _ z) (sym all)
+      let all : rest ≡ behindText (handedCircuit (circuitIn (parsedCircuit t)) xs ys) xs ys = ap₂ (behindText h) (same z) l ∙ ap (λ (i : Handed). behindText i xs ys) d in
+      sym (unless-passed (judgedCircuitText t mostGateLines) _ z) ∙ circuit-parts (circuitIn (parsedCircuit t)) xs ys ∙ ap₂ (λ (x y : List ℕ). x ++ y) (unless-passed (judgedCircuitText t mostGateLines) _ z) (sym all)
 
-  drawing-parts : laidDrawing xs t ≡ headDrawing xs t ++ rest
-  drawing-parts = go (readingOf t mostGateLines) refl
+  drawing-parts : laidDrawing xs t ≡ frontDrawing xs t ++ rest
+  drawing-parts = go (circuitReading t mostGateLines) refl
     where
-      go : (w : Reading) → readingOf t mostGateLines ≡ w → laidDrawing xs t ≡ headDrawing xs t ++ rest
+      go : (w : CircuitReading) → circuitReading t mostGateLines ≡ w → laidDrawing xs t ≡ frontDrawing xs t ++ rest
       go (Read c) e = read-parts c e
       go (Refused v) e = refused-parts v e
 
 -- as beginning leaves it: the front, the parts that are gone on with until the place is above the number of gates, and the common phase are together the whole text
-pub drawing-in-parts : {xs t gates out gates′ out′ : List ℕ} {r : Begun} → BeginsCircuit xs t gates out r gates′ out′
-    → laidDrawing xs t ≡ headDrawing xs t ++ behindText (handedIn r) xs (take (r .job .gates) gates′)
+pub drawing-in-parts : {xs t gates out gates′ out′ : List ℕ} {r : BegunCircuit} → BeginsCircuit xs t gates out r gates′ out′
+    → laidDrawing xs t ≡ frontDrawing xs t ++ behindText (handedIn r) xs (take (r .job .gates) gates′)
 drawing-in-parts {xs} {t} {gates} {gates′ = gates′} {r = r} b = drawing-parts xs t gates gates′ xs (handedIn r) (b .handed) (b .gates-read) (λ z. refl)
 
 -- ---- both texts
 
-module _ {s t couplers gates out couplers′ gates′ out′ : List ℕ} {r : Begun} (b : Begins s t couplers gates out r couplers′ gates′ out′) where
+module _ {s t couplers gates out couplers′ gates′ out′ : List ℕ} {r : BegunCircuit} (b : BeginsTexts s t couplers gates out r couplers′ gates′ out′) where
   abbrev going : List ℕ
   going = behindText (handedIn r) (take (r .job .couplers) couplers′) (take (r .job .gates) gates′)
 
-  unlisted-parts : (v : Verdict) → couplersReading s mostCouplerLines ≡ answers.Refused v → laidTexts s t ≡ headTexts s t ++ going
-  unfolding laidTexts headTexts
+  unlisted-parts : (v : Verdict) → couplersReading s mostCouplerLines ≡ answers.Refused v → laidTexts s t ≡ frontTexts s t ++ going
+  unfolding laidTexts frontTexts
   unlisted-parts v e =
       let ne = unlisted-says s mostCouplerLines v e .0 in
       sym (unless-refused (judgedCouplersText s mostCouplerLines) _ ne) ∙ unless-refused (judgedCouplersText s mostCouplerLines) _ ne
-      ∙ sym (append-nil (headTexts s t)) ∙ ap (λ (x : List ℕ). headTexts s t ++ x) (sym (none-behind (handedIn r) (take (r .job .couplers) couplers′) gates′ (b .handed ∙ texts-unread s t ne)))
+      ∙ sym (append-nil (frontTexts s t)) ∙ ap (λ (x : List ℕ). frontTexts s t ++ x) (sym (none-behind (handedIn r) (take (r .job .couplers) couplers′) gates′ (b .handed ∙ texts-unread s t ne)))
 
-  listed-parts : (i : Job) → couplersReading s mostCouplerLines ≡ answers.Read i → laidTexts s t ≡ headTexts s t ++ going
-  unfolding laidTexts headTexts handedCircuit
+  listed-parts : (i : Job) → couplersReading s mostCouplerLines ≡ answers.Read i → laidTexts s t ≡ frontTexts s t ++ going
+  unfolding laidTexts frontTexts handedCircuit
   listed-parts i e =
       let z = listed-says s mostCouplerLines i e .0 in
       let xs : List ℕ = couplersIn (parsedCouplers s) in
       let h : handedIn r ≡ handedDrawing xs t = b .handed ∙ texts-read s t z in
       let g : gates′ ≡ gatesAfter t gates = b .gates-read ∙ ap (λ (u : Bool). pick u (gatesAfter t gates) gates) (eq-eqb (numberOf (judgedCouplersText s mostCouplerLines)) 0 z) in
       let front : take (length xs) couplers′ ≡ xs = couplers-front s i couplers couplers′ e (b .couplers-read) in
-      let same : numberOf (judgedReading t mostGateLines) ≡ 0 → take (r .job .couplers) couplers′ ≡ xs =
+      let same : numberOf (judgedCircuitText t mostGateLines) ≡ 0 → take (r .job .couplers) couplers′ ≡ xs =
       λ y. ap (λ (k : ℕ). take k couplers′) (ap (λ (k : Handed). k .job .couplers) (h ∙ drawn-read xs t y)) ∙ front in
       sym (unless-passed (judgedCouplersText s mostCouplerLines) _ z) ∙ drawing-parts xs t gates gates′ (take (r .job .couplers) couplers′) (handedIn r) h g same
       ∙ ap (λ (x : List ℕ). x ++ going) (unless-passed (judgedCouplersText s mostCouplerLines) _ z)
 
-  pub in-parts : laidTexts s t ≡ headTexts s t ++ behindText (handedIn r) (take (r .job .couplers) couplers′) (take (r .job .gates) gates′)
+  pub in-parts : laidTexts s t ≡ frontTexts s t ++ behindText (handedIn r) (take (r .job .couplers) couplers′) (take (r .job .gates) gates′)
   in-parts = go (couplersReading s mostCouplerLines) refl
     where
-      go : (w : listings.Reading) → couplersReading s mostCouplerLines ≡ w → laidTexts s t ≡ headTexts s t ++ going
+      go : (w : Reading) → couplersReading s mostCouplerLines ≡ w → laidTexts s t ≡ frontTexts s t ++ going
       go (answers.Read i) e = listed-parts i e
       go (answers.Refused v) e = unlisted-parts v e

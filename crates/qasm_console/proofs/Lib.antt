@@ -1,4 +1,3 @@
-pub mod Fronts
 pub mod Sizes
 pub mod Whole
 pub mod Partly

@@ -11,7 +11,7 @@ use Rattle.gates.specs.declared.gate.Gate.{Gate}
 use Rattle.gates.specs.declared.gate.Gate.the-variants.{Cnot, Rotation, X, Bad}
 use Rattle.gates.specs.Layout.{packed, aIn, recordOf, Good}
 use Rattle.gates.specs.Hadamards.{isHadamard}
-use Rattle.gates.specs.All.{All}
+use Rattle.sets.specs.Lists.{All}
 use Rattle.gates.proofs.Records.{kind-packed, a-packed, b-packed}
 use Rattle.gates.proofs.Hadamards.{hadamard-kind}
 use Rattle.verdicts.specs.Verdicts.{numberOf}
@@ -48,14 +48,14 @@ gate-fits v n (X q) few hq =
     gate-most v (packed 3 (q % 256) 0) (omega (arith, a-packed 3 (q % 256) 0 a b)) (λ k. absurd (omega (arith, k, kind-packed 3 (q % 256) 0 a b)))
 gate-fits v n Bad few h = absurd h
 
-gates-fit : (v : Version) (n : ℕ) (gs : List Gate) → n ≤ 100 → All (Good n) gs → length (gatesText v (map recordOf gs)) ≤ 26 * length gs
+gates-most : (v : Version) (n : ℕ) (gs : List Gate) → n ≤ 100 → All (Good n) gs → length (gatesText v (map recordOf gs)) ≤ 26 * length gs
 unfolding All gatesText
-gates-fit v n [] few a = omega arith
-gates-fit v n (g ∷ gs) few a = omega (arith, length-append (gateText v (recordOf g)) (gatesText v (map recordOf gs)), gate-fits v n g few (a .0), gates-fit v n gs few (a .1))
+gates-most v n [] few a = omega arith
+gates-most v n (g ∷ gs) few a = omega (arith, length-append (gateText v (recordOf g)) (gatesText v (map recordOf gs)), gate-fits v n g few (a .0), gates-most v n gs few (a .1))
 
 pub stretch-most : (v : Version) (n : ℕ) (xs s : List ℕ) (room : ℕ) → numberOf (verdictOf n xs s room) ≡ 0 → length (gatesText v (stretchRecords n xs s)) ≤ 26 * length (stretchRecords n xs s)
 stretch-most v n xs s room z =
-    omega (arith, gates-fit v n (circuitOf n xs s) (omega (arith, job-layable n xs s room z .few)) (demand-2 n xs s room z .good), length-map (circuitOf n xs s) recordOf)
+    omega (arith, gates-most v n (circuitOf n xs s) (omega (arith, job-layable n xs s room z .few)) (demand-2 n xs s room z .good), length-map (circuitOf n xs s) recordOf)
 
 -- ---- a Hadamard's
 

@@ -1,4 +1,6 @@
-// What the program `qasm` prints for a couplers' text and a circuit's: both are read, the circuit is judged, and laid stretch by stretch.
+// What the program `qasm` prints for a couplers' text and a circuit's: both are read, the circuit
+// is judged, and laid stretch by stretch. It knows circuits' texts and laying, and no operating
+// system.
 use tallies::tally;
 
 pub mod printing;

@@ -5,7 +5,8 @@ use console::COUPLER_LINES;
 use console::GATE_LINES;
 use console::INPUT;
 use console::printing;
-use console::printing::Part;
+use console::printing::LaidPart;
+use console::printing::Printed;
 use console::refusing;
 use gates::job::Job;
 use laying::lay;
@@ -13,9 +14,9 @@ use laying::lay::Answer;
 use qasm_lines::put;
 use qasm_reading::read;
 use qasm_reading::read::Circuit;
-use qasm_reading::read::Reading;
+use qasm_reading::read::CircuitReading;
 use reading::couplers;
-use reading::read::Reading as Listing;
+use reading::read::Reading;
 use stretches::cut;
 use stretches::judge;
 use tallies::tally;
@@ -32,13 +33,13 @@ ghost use Rattle.laying.specs.Verdict.{answered, phaseIn};
 ghost use Rattle.stretches.specs.Laid.{stretchRecords};
 ghost use Rattle.reading.specs.Limits.{mostBytes};
 ghost use Rattle.qasm_lines.specs.Spelling.{gatesText, phaseText};
-ghost use Rattle.console.specs.Printed.{mostGateLines, refusalOf, unless};
-ghost use Rattle.console.specs.Parts.{nextPart, sharePart};
-ghost use Rattle.qasm_console.specs.Printed.{Prints};
-ghost use Rattle.qasm_console.specs.Parts.{headCircuit, nothingHanded, handedCircuit, handedIn, BeginsCircuit, Begins, partText};
+ghost use Rattle.console.specs.Printed.{mostGateLines, Prints, refusalOf, unless};
+ghost use Rattle.console.specs.Parts.{partText, nextPart, sharePart};
+ghost use Rattle.qasm_console.specs.Printed.{mostShown};
+ghost use Rattle.qasm_console.specs.Parts.{frontCircuit, nothingHanded, handedCircuit, handedIn, BeginsCircuit, BeginsTexts};
 
 // A front that was printed, and what comes behind it: the circuit, whose first part begins at `from`, and the common phase that was read.
-pub struct Begun {
+pub struct BegunCircuit {
     pub version: Version,
     pub job: Job,
     pub bytes: usize,
@@ -46,17 +47,11 @@ pub struct Begun {
     pub phase: u32,
 }
 
-// What is printed for a stretch, and its common phase.
-struct Printed {
-    bytes: usize,
-    phase: u32,
-}
-
 // Of a refused text nothing is handed on.
-fn refuse(verdict: Verdict, out: &mut [u8; OUTPUT]) -> Begun
-    ensures { λ r. ⌜ Prints (refusalOf verdict) (now (out .entry)) (r .bytes) (now (out .exit)) × (handedIn r ≡ nothingHanded) ⌝ }
+fn refuse(verdict: Verdict, out: &mut [u8; OUTPUT]) -> BegunCircuit
+    ensures { λ r. ⌜ Prints mostShown (refusalOf verdict) (now (out .entry)) (r .bytes) (now (out .exit)) × (handedIn r ≡ nothingHanded) ⌝ }
 {
-    Begun {
+    BegunCircuit {
         version: Version::Two,
         job: Job {
             qubits: 0,
@@ -70,9 +65,14 @@ fn refuse(verdict: Verdict, out: &mut [u8; OUTPUT]) -> Begun
 }
 
 // The whole circuit judged, and the statements before its gates.
-fn begin_gates(circuit: Circuit, couplers: &[u32], gates: &[u32], out: &mut [u8; OUTPUT]) -> Begun
+fn begin_gates(
+    circuit: Circuit,
+    couplers: &[u32],
+    gates: &[u32],
+    out: &mut [u8; OUTPUT],
+) -> BegunCircuit
     requires { ⌜ length (now gates) ≤ mostGateLines ⌝ }
-    ensures { λ r. ⌜ Prints (headCircuit circuit (now (couplers .entry)) (now (gates .entry))) (now (out .entry)) (r .bytes) (now (out .exit)) × (handedIn r ≡ handedCircuit circuit (now (couplers .entry)) (now (gates .entry))) ⌝ }
+    ensures { λ r. ⌜ Prints mostShown (frontCircuit circuit (now (couplers .entry)) (now (gates .entry))) (now (out .entry)) (r .bytes) (now (out .exit)) × (handedIn r ≡ handedCircuit circuit (now (couplers .entry)) (now (gates .entry))) ⌝ }
 {
     let version = circuit.version;
     let n = circuit.qubits;
@@ -83,7 +83,7 @@ fn begin_gates(circuit: Circuit, couplers: &[u32], gates: &[u32], out: &mut [u8;
     };
     let verdict = judge::judge(n, couplers, gates);
     if verdict::number(verdict) != 0 {
-        return Begun {
+        return BegunCircuit {
             version,
             job,
             bytes: refusal::print_refusal(verdict, out),
@@ -91,7 +91,7 @@ fn begin_gates(circuit: Circuit, couplers: &[u32], gates: &[u32], out: &mut [u8;
             phase: 0,
         };
     }
-    Begun {
+    BegunCircuit {
         version,
         job,
         bytes: put::put_head(out, version, n),
@@ -106,15 +106,15 @@ fn begin_drawing(
     text: &[u8],
     gates: &mut [u32; GATE_LINES],
     out: &mut [u8; OUTPUT],
-) -> Begun
+) -> BegunCircuit
     ensures { λ r. ⌜ BeginsCircuit (now (couplers .entry)) (now (text .entry)) (now (gates .entry)) (now (out .entry)) r (now (gates .exit)) (now (out .exit)) ⌝ }
 {
     match read::read(text, &mut *gates) {
-        Reading::Read { circuit } => {
+        CircuitReading::Read { circuit } => {
             let g = circuit.gates;
             begin_gates(circuit, couplers, printing::first(gates, g), out)
         }
-        Reading::Refused { verdict } => refuse(verdict, out),
+        CircuitReading::Refused { verdict } => refuse(verdict, out),
     }
 }
 
@@ -125,7 +125,7 @@ pub fn begin_circuit(
     len: usize,
     gates: &mut [u32; GATE_LINES],
     out: &mut [u8; OUTPUT],
-) -> Begun
+) -> BegunCircuit
     ensures { λ r. ⌜ length (now (input .entry)) ≡ mostBytes + 1 ⌝ }
     ensures { λ r. ⌜ BeginsCircuit (now (couplers .entry)) (take len (now (input .entry))) (now (gates .entry)) (now (out .entry)) r (now (gates .exit)) (now (out .exit)) ⌝ }
 {
@@ -141,17 +141,17 @@ pub fn begin(
     couplers: &mut [u32; COUPLER_LINES],
     gates: &mut [u32; GATE_LINES],
     out: &mut [u8; OUTPUT],
-) -> Begun
+) -> BegunCircuit
     ensures { λ r. ⌜ (length (now (listing .entry)) ≡ mostBytes + 1) × (length (now (input .entry)) ≡ mostBytes + 1) ⌝ }
-    ensures { λ r. ⌜ Begins (take listed (now (listing .entry))) (take len (now (input .entry))) (now (couplers .entry)) (now (gates .entry)) (now (out .entry)) r (now (couplers .exit)) (now (gates .exit)) (now (out .exit)) ⌝ }
+    ensures { λ r. ⌜ BeginsTexts (take listed (now (listing .entry))) (take len (now (input .entry))) (now (couplers .entry)) (now (gates .entry)) (now (out .entry)) r (now (couplers .exit)) (now (gates .exit)) (now (out .exit)) ⌝ }
 {
     let text = refusing::front(input, len);
     match couplers::read_couplers(refusing::front(listing, listed), &mut *couplers) {
-        Listing::Read { job } => {
+        Reading::Read { job } => {
             let c = job.couplers;
             begin_drawing(printing::first(couplers, c), text, gates, out)
         }
-        Listing::Refused { verdict } => refuse(verdict, out),
+        Reading::Refused { verdict } => refuse(verdict, out),
     }
 }
 
@@ -165,7 +165,7 @@ fn print_part(
     out: &mut [u8; OUTPUT],
 ) -> Printed
     requires { ⌜ length (gatesText version (now hadamard)) ≤ 26 ⌝ }
-    ensures { λ r. ⌜ Prints (unless (verdictOf n (now (couplers .entry)) (now (stretch .entry)) largest) (gatesText version (stretchRecords n (now (couplers .entry)) (now (stretch .entry)) ++ now (hadamard .entry)))) (now (out .entry)) (r .bytes) (now (out .exit)) × (r .phase ≡ phaseIn (answered n (now (couplers .entry)) (now (stretch .entry)) largest)) ⌝ }
+    ensures { λ r. ⌜ Prints mostShown (unless (verdictOf n (now (couplers .entry)) (now (stretch .entry)) largest) (gatesText version (stretchRecords n (now (couplers .entry)) (now (stretch .entry)) ++ now (hadamard .entry)))) (now (out .entry)) (r .bytes) (now (out .exit)) × (r .phase ≡ phaseIn (answered n (now (couplers .entry)) (now (stretch .entry)) largest)) ⌝ }
 {
     let mut laid = [0u32; tally::LARGEST];
     match lay::lay(n, couplers, stretch, &mut laid) {
@@ -195,11 +195,11 @@ pub fn lay_part(
     gates: &[u32],
     from: usize,
     out: &mut [u8; OUTPUT],
-) -> Part
-    ensures { λ r. ⌜ Prints (partText version n (now (couplers .entry)) (now (gates .entry)) from) (now (out .entry)) (r .bytes) (now (out .exit)) × (r .next ≡ nextPart n (now (gates .entry)) from) × (r .phase ≡ sharePart n (now (couplers .entry)) (now (gates .entry)) from) ⌝ }
+) -> LaidPart
+    ensures { λ r. ⌜ Prints mostShown (partText (gatesText version) n (now (couplers .entry)) (now (gates .entry)) from) (now (out .entry)) (r .bytes) (now (out .exit)) × (r .next ≡ nextPart n (now (gates .entry)) from) × (r .phase ≡ sharePart n (now (couplers .entry)) (now (gates .entry)) from) ⌝ }
 {
     if gates.len() < from {
-        return Part {
+        return LaidPart {
             bytes: put::put_gates(out, 0, version, &gates[..0]),
             next: from,
             phase: 0,
@@ -214,7 +214,7 @@ pub fn lay_part(
         cut::hadamard_at(n, gates, from),
         out,
     );
-    Part {
+    LaidPart {
         bytes: printed.bytes,
         next: from + stretch.len() + 1,
         phase: printed.phase,
@@ -223,7 +223,7 @@ pub fn lay_part(
 
 // Prints the whole common phase, behind the last part; nothing where it is 0.
 pub fn end(version: Version, phase: u32, out: &mut [u8; OUTPUT]) -> usize
-    ensures { λ r. ⌜ Prints (phaseText version phase) (now (out .entry)) r (now (out .exit)) ⌝ }
+    ensures { λ r. ⌜ Prints mostShown (phaseText version phase) (now (out .entry)) r (now (out .exit)) ⌝ }
 {
     put::put_phase(out, 0, version, phase)
 }

@@ -11,7 +11,7 @@ use borrow.Author.Tests.{leb-true, leb-false}
 use Rattle.lines.specs.Lent.{linesEnd, linesAt}
 use Rattle.lines.proofs.Joined.{joined-append}
 use Rattle.lines.proofs.Recorded.{lines-fit}
-use Rattle.lines.proofs.Writes.{Lined, wrote-none, lined-fits, lined-over}
+use Rattle.lines.proofs.Writes.{Fitted, wrote-nothing, fitted-fits, fitted-over}
 use Rattle.versions.specs.declared.Version.{Version}
 use Rattle.qasm_lines.specs.Spelling.{gateText, gatesText}
 
@@ -21,10 +21,10 @@ module _ (v : Version) where
   gates-append = joined-append (gateText v) (gatesText v) refl (λ x xs. refl)
 
   -- where all of them fit they are the gates' text
-  pub gates-fit : (xs : List ℕ) (from : ℕ) (text : List ℕ) → from + length (gatesText v xs) ≤ length text
+  pub gates-lines-fit : (xs : List ℕ) (from : ℕ) (text : List ℕ) → from + length (gatesText v xs) ≤ length text
       → (linesEnd (gateText v) xs from (length text) ≡ from + length (gatesText v xs)) × (linesAt (gateText v) xs from text ≡ sets text from (gatesText v xs))
   unfolding gatesText
-  gates-fit = lines-fit (gateText v) (gatesText v) refl (λ x xs. refl)
+  gates-lines-fit = lines-fit (gateText v) (gatesText v) refl (λ x xs. refl)
 
   -- one turn of the loop that takes them off a room, and its end
   module _ (xs : List ℕ) (i : ℕ) where
@@ -37,9 +37,9 @@ module _ (v : Version) where
     gates-past h = rw (drop-of-length-le xs h)
 
 -- where there is no line nothing is put
-pub no-line : (l : List ℕ) (i : ℕ) → Lined l i [] l i
+pub no-line : (l : List ℕ) (i : ℕ) → Fitted l i [] l i
 no-line l i = go (leb (i + 0) (length l)) refl
   where
-    go : (t : Bool) → leb (i + 0) (length l) ≡ t → Lined l i [] l i
-    go true e = lined-fits l i [] (leb-true (i + 0) (length l) e) (wrote-none l i)
-    go false e = lined-over l i [] (leb-false (i + 0) (length l) e)
+    go : (t : Bool) → leb (i + 0) (length l) ≡ t → Fitted l i [] l i
+    go true e = fitted-fits l i [] (leb-true (i + 0) (length l) e) (wrote-nothing l i)
+    go false e = fitted-over l i [] (leb-false (i + 0) (length l) e)

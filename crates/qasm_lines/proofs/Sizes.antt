@@ -14,7 +14,7 @@ use Rattle.lines.proofs.Writes.{width-most}
 use Rattle.versions.specs.declared.Version.{Version}
 use Rattle.versions.specs.declared.Version.the-variants.{Two, Three}
 use Rattle.qasm_lines.specs.Spelling.{gateText, gatesText, headText, phaseText, circuitText}
-use Rattle.qasm_lines.proofs.Spelt.{phase-none, gate-cnot, gate-turn, gate-x, gate-other, head-spelt, phase-spelt}
+use Rattle.qasm_lines.proofs.Spelt.{phase-text-none, gate-cnot, gate-turn, gate-x, gate-other, head-spelt, phase-spelt}
 
 -- in 3.0 it is a byte shorter
 pub turn-length : (v : Version) (x : ℕ) → kindIn x ≡ 2 → length (gateText v x) ≤ 19 + length (digits (aIn x)) + length (digits (bIn x))
@@ -22,8 +22,8 @@ turn-length Two x e = rw (gate-turn Two x e) (simp length-append (omega arith))
 turn-length Three x e = rw (gate-turn Three x e) (simp length-append (omega arith))
 
 module _ (v : Version) (x : ℕ) where
-  pub cnot-length : kindIn x ≡ 1 → length (gateText v x) ≡ 12 + length (digits (aIn x)) + length (digits (bIn x))
-  cnot-length e = rw (gate-cnot v x e) (simp length-append (omega arith))
+  pub cx-length : kindIn x ≡ 1 → length (gateText v x) ≡ 12 + length (digits (aIn x)) + length (digits (bIn x))
+  cx-length e = rw (gate-cnot v x e) (simp length-append (omega arith))
 
   pub x-length : kindIn x ≡ 3 → length (gateText v x) ≡ 7 + length (digits (aIn x))
   x-length e = rw (gate-x v x e) (simp length-append (omega arith))
@@ -42,7 +42,7 @@ module _ (v : Version) (x : ℕ) where
       b = width-most 4 (bIn x) (omega (arith, b-lt x))
 
       go : (t u w : Bool) → eqb (kindIn x) 1 ≡ t → eqb (kindIn x) 2 ≡ u → eqb (kindIn x) 3 ≡ w → length (gateText v x) ≤ 26
-      go true u w p q r = let e = eqb-true (kindIn x) 1 p in omega (arith, cnot-length e, a, width-most 1 (bIn x) (k e))
+      go true u w p q r = let e = eqb-true (kindIn x) 1 p in omega (arith, cx-length e, a, width-most 1 (bIn x) (k e))
       go false true w p q r = omega (arith, turn-length v x (eqb-true (kindIn x) 2 q), a, b)
       go false false true p q r = omega (arith, x-length (eqb-true (kindIn x) 3 r), a)
       go false false false p q r = omega (arith, other-length (eqb-false (kindIn x) 1 p) (eqb-false (kindIn x) 2 q) (eqb-false (kindIn x) 3 r), a)
@@ -73,7 +73,7 @@ pub phase-most : (v : Version) (g : ℕ) → length (phaseText v g) ≤ 32
 phase-most v g = go (eqb (g % 131072) 0) refl
   where
     go : (t : Bool) → eqb (g % 131072) 0 ≡ t → length (phaseText v g) ≤ 32
-    go true e = rw (phase-none v g (eqb-true (g % 131072) 0 e)) (omega arith)
+    go true e = rw (phase-text-none v g (eqb-true (g % 131072) 0 e)) (omega arith)
     go false e = omega (arith, phase-length v g (eqb-false (g % 131072) 0 e), width-most 5 (g % 131072) (omega arith))
 
 pub circuit-length : (v : Version) (n : ℕ) (gs : List ℕ) (g : ℕ) → length (circuitText v n gs g) ≡ length (headText v n) + (length (gatesText v gs) + length (phaseText v g))

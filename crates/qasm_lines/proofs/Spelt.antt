@@ -100,9 +100,9 @@ module _ (v : Version) where
   unfolding phaseText
   phase-line g line h e f = rw (ne-eqb (g % 131072) 0 h) (filled-front line (phasePattern v) e f (g % 131072 ∷ []))
 
-  pub phase-none : (g : ℕ) → g % 131072 ≡ 0 → phaseText v g ≡ []
+  pub phase-text-none : (g : ℕ) → g % 131072 ≡ 0 → phaseText v g ≡ []
   unfolding phaseText
-  phase-none g e = rw (eq-eqb (g % 131072) 0 e)
+  phase-text-none g e = rw (eq-eqb (g % 131072) 0 e)
 
 -- ---- each spelt out
 

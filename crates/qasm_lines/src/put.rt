@@ -4,12 +4,12 @@ use lines::pattern;
 use versions::Version;
 ghost use mathlib.Core.Path.{_≡_};
 ghost use lib.ListN.{length};
-ghost use Rattle.lines.specs.Lent.{lineEnd, lineAt, linesEnd, linesAt};
+ghost use Rattle.lines.specs.Lent.{fittedEnd, fittedAt, linesEnd, linesAt};
 ghost use Rattle.qasm_lines.specs.Spelling.{gateText, headText, phaseText};
 
 // The place behind the head, or 0 where it does not fit; then nothing is written.
 pub fn put_head(text: &mut [u8], version: Version, n: usize) -> usize
-    ensures { λ r. ⌜ (r ≡ lineEnd (headText version n) 0 (length (now (text .entry)))) × (now (text .exit) ≡ lineAt (headText version n) 0 (now (text .entry))) ⌝ }
+    ensures { λ r. ⌜ (r ≡ fittedEnd (headText version n) 0 (length (now (text .entry)))) × (now (text .exit) ≡ fittedAt (headText version n) 0 (now (text .entry))) ⌝ }
 {
     let head = spelling::head_pattern(version);
     let bytes = spelling::head_length(version);
@@ -18,7 +18,7 @@ pub fn put_head(text: &mut [u8], version: Version, n: usize) -> usize
 }
 
 fn put_gate(text: &mut [u8], at: usize, version: Version, x: u32) -> usize
-    ensures { λ r. ⌜ (r ≡ lineEnd (gateText version x) at (length (now (text .entry)))) × (now (text .exit) ≡ lineAt (gateText version x) at (now (text .entry))) ⌝ }
+    ensures { λ r. ⌜ (r ≡ fittedEnd (gateText version x) at (length (now (text .entry)))) × (now (text .exit) ≡ fittedAt (gateText version x) at (now (text .entry))) ⌝ }
 {
     let line = spelling::pattern_of(version, x / 16777216);
     let bytes = spelling::length_of(version, x / 16777216);
@@ -41,7 +41,7 @@ pub fn put_gates(text: &mut [u8], from: usize, version: Version, gates: &[u32]) 
 
 // The line of a common phase; none where it is 0.
 pub fn put_phase(text: &mut [u8], at: usize, version: Version, phase: u32) -> usize
-    ensures { λ r. ⌜ (r ≡ lineEnd (phaseText version phase) at (length (now (text .entry)))) × (now (text .exit) ≡ lineAt (phaseText version phase) at (now (text .entry))) ⌝ }
+    ensures { λ r. ⌜ (r ≡ fittedEnd (phaseText version phase) at (length (now (text .entry)))) × (now (text .exit) ≡ fittedAt (phaseText version phase) at (now (text .entry))) ⌝ }
 {
     let g = phase % 131072;
     if g == 0 {

@@ -1,14 +1,14 @@
 // Whether a circuit's lines fit a room: each is taken off it.
 use crate::spelling;
 use lines::pattern;
-use lines::room::Room;
+use lines::room::Leeway;
 use versions::Version;
 ghost use mathlib.Core.Path.{_≡_};
 ghost use lib.ListN.{length};
-ghost use Rattle.lines.specs.Room.{roomAfter};
+ghost use Rattle.lines.specs.Leeway.{roomAfter};
 ghost use Rattle.qasm_lines.specs.Spelling.{gateText, gatesText, headText, phaseText};
 
-pub fn after_head(room: Room, version: Version, n: usize) -> Room
+pub fn after_head(room: Leeway, version: Version, n: usize) -> Leeway
     ensures { λ r. ⌜ r ≡ roomAfter room (length (headText version n)) ⌝ }
 {
     let head = spelling::head_pattern(version);
@@ -17,7 +17,7 @@ pub fn after_head(room: Room, version: Version, n: usize) -> Room
     pattern::after_pattern(room, &head[..bytes], &numbers)
 }
 
-fn after_gate(room: Room, version: Version, x: u32) -> Room
+fn after_gate(room: Leeway, version: Version, x: u32) -> Leeway
     ensures { λ r. ⌜ r ≡ roomAfter room (length (gateText version x)) ⌝ }
 {
     let line = spelling::pattern_of(version, x / 16777216);
@@ -26,7 +26,7 @@ fn after_gate(room: Room, version: Version, x: u32) -> Room
     pattern::after_pattern(room, &line[..bytes], &numbers)
 }
 
-pub fn after_gates(room: Room, version: Version, gates: &[u32]) -> Room
+pub fn after_gates(room: Leeway, version: Version, gates: &[u32]) -> Leeway
     ensures { λ r. ⌜ r ≡ roomAfter room (length (gatesText version (now (gates .entry)))) ⌝ }
 {
     let mut left = room;
@@ -38,7 +38,7 @@ pub fn after_gates(room: Room, version: Version, gates: &[u32]) -> Room
     left
 }
 
-pub fn after_phase(room: Room, version: Version, phase: u32) -> Room
+pub fn after_phase(room: Leeway, version: Version, phase: u32) -> Leeway
     ensures { λ r. ⌜ r ≡ roomAfter room (length (phaseText version phase)) ⌝ }
 {
     let g = phase % 131072;

@@ -13,16 +13,17 @@ use Rattle.verdicts.specs.declared.verdict.Verdict.the-variants.{Accepted, Room
 use Rattle.verdicts.specs.Verdicts.{numberOf}
 use Rattle.verdicts.specs.InOrder.{andThen}
 use Rattle.reading.specs.Limits.{mostBytes}
-use Rattle.words.specs.Bytes.{lineBehind}
+use Rattle.words.specs.Bytes.{lineAt, lineBehind}
 use Rattle.words.specs.Words.{Word}
-use Rattle.words.specs.Taking.{Got}
+use Rattle.spots.specs.Numbers.{Got}
+use Rattle.reading.specs.Readings.{judgedPlaces, lentAfter}
 use Rattle.versions.specs.declared.Version.{Version}
 use Rattle.versions.specs.declared.Version.the-variants.{Two, Three}
-use Rattle.statements.specs.Statements.{versionOf, includeOf, nameOf, registerOf, hasEnd, badAngle}
-use Rattle.qasm_reading.specs.Parsing.{Parsed, circuit, angle, statement, early, unversioned, leftOf, headFault, endOf, registered, included, versioned, parsedWords, parsed}
-use Rattle.qasm_reading.specs.declared.read.Reading.{Reading}
-use Rattle.qasm_reading.specs.declared.read.Reading.the-variants.{Read, Refused}
-use Rattle.qasm_reading.specs.Readings.{circuitIn, listAfter, lineAt, judgedStatements, judgedList, judgedReading, readingOf, answerOf, lineOf}
+use Rattle.statements.specs.Statements.{readVersion, readInclude, readName, readRegister, hasEnd, badAngle}
+use Rattle.qasm_reading.specs.Parsing.{ParsedCircuit, circuit, angle, statement, early, unversioned, leftOf, headFault, endCircuit, registered, included, versioned, parsedWords, parsedCircuit}
+use Rattle.qasm_reading.specs.declared.read.CircuitReading.{CircuitReading}
+use Rattle.qasm_reading.specs.declared.read.CircuitReading.the-variants.{Read, Refused}
+use Rattle.qasm_reading.specs.Readings.{circuitIn, circuitVerdict, judgedStatements, judgedCircuitText, circuitReading, answerOf, lineOf, circuitGates}
 
 -- ---- the line of a word
 
@@ -58,38 +59,38 @@ module _ (s : List ℕ) (ws : List Word) where
       go true = refl
       go false = refl
 
-  pub head-list : (new old : List ℕ) {r : Reading} → r ≡ answerOf s 0 (headFault ws) → old ≡ listAfter r new old
+  pub head-list : (new old : List ℕ) {r : CircuitReading} → r ≡ answerOf s 0 (headFault ws) → old ≡ lentAfter (circuitVerdict r) new old
   unfolding headFault
   head-list new old e = rw e (go (hasEnd ws))
     where
-      go : (t : Bool) → old ≡ listAfter (answerOf s 0 (pick t (statement (leftOf ws)) early)) new old
+      go : (t : Bool) → old ≡ lentAfter (circuitVerdict (answerOf s 0 (pick t (statement (leftOf ws)) early))) new old
       go true = refl
       go false = refl
 
 -- ---- behind the register
 
 module _ (s : List ℕ) (room : ℕ) (v : Version) (name : List ℕ) (n : ℕ) (gs : List ℕ) (h : ℕ) (l : List Word) {p : ℕ} (q : p ≡ lineOf s l) where
-  pub end-angle : 0 < p → badAngle v name (some l) ≡ true → Refused (Angle p) ≡ answerOf s room (endOf v name n gs h l)
-  unfolding endOf
+  pub end-angle : 0 < p → badAngle v name (some l) ≡ true → Refused (Angle p) ≡ answerOf s room (endCircuit v name n gs h l)
+  unfolding endCircuit
   end-angle i b = go l q b
     where
-      go : (l : List Word) → p ≡ lineOf s l → badAngle v name (some l) ≡ true → Refused (Angle p) ≡ answerOf s room (endOf v name n gs h l)
+      go : (l : List Word) → p ≡ lineOf s l → badAngle v name (some l) ≡ true → Refused (Angle p) ≡ answerOf s room (endCircuit v name n gs h l)
       go [] q b = absurd (omega arith)
       go (w ∷ ws) q b = rw b (ap (λ k. Refused (Angle k)) q)
 
-  pub end-statement : 0 < p → badAngle v name (some l) ≡ false → Refused (Statement p) ≡ answerOf s room (endOf v name n gs h l)
-  unfolding endOf
+  pub end-statement : 0 < p → badAngle v name (some l) ≡ false → Refused (Statement p) ≡ answerOf s room (endCircuit v name n gs h l)
+  unfolding endCircuit
   end-statement i b = go l q b
     where
-      go : (l : List Word) → p ≡ lineOf s l → badAngle v name (some l) ≡ false → Refused (Statement p) ≡ answerOf s room (endOf v name n gs h l)
+      go : (l : List Word) → p ≡ lineOf s l → badAngle v name (some l) ≡ false → Refused (Statement p) ≡ answerOf s room (endCircuit v name n gs h l)
       go [] q b = absurd (omega arith)
       go (w ∷ ws) q b = rw b (ap (λ k. Refused (Statement k)) q)
 
-  pub end-done : p ≤ 0 → endOf v name n gs h l ≡ circuit v n gs h
-  unfolding endOf
+  pub end-done : p ≤ 0 → endCircuit v name n gs h l ≡ circuit v n gs h
+  unfolding endCircuit
   end-done i = go l q
     where
-      go : (l : List Word) → p ≡ lineOf s l → endOf v name n gs h l ≡ circuit v n gs h
+      go : (l : List Word) → p ≡ lineOf s l → endCircuit v name n gs h l ≡ circuit v n gs h
       go [] q = refl
       go (w ∷ ws) q = absurd (omega arith)
 
@@ -102,13 +103,13 @@ module _ (s : List ℕ) (room : ℕ) (v : Version) (n : ℕ) (gs : List ℕ) (g 
 
 -- ---- the whole text
 
-pub reading-long : (s : List ℕ) (room : ℕ) → mostBytes < length s → Refused LongText ≡ readingOf s room
-unfolding readingOf judgedReading
+pub reading-long : (s : List ℕ) (room : ℕ) → mostBytes < length s → Refused LongText ≡ circuitReading s room
+unfolding circuitReading judgedCircuitText
 reading-long s room h = rw (lt-leb (length s) mostBytes h)
 
 -- the answer by the tests: what was found, and whether the list is long enough
-answer-by : (s : List ℕ) (room : ℕ) (p : Parsed)
-    → pick (eqb (numberOf (andThen (judgedStatements s p) (judgedList p room))) 0) (Read (circuitIn p)) (Refused (andThen (judgedStatements s p) (judgedList p room))) ≡ answerOf s room p
+answer-by : (s : List ℕ) (room : ℕ) (p : ParsedCircuit)
+    → pick (eqb (numberOf (andThen (judgedStatements s p) (judgedPlaces (length (circuitGates p)) room))) 0) (Read (circuitIn p)) (Refused (andThen (judgedStatements s p) (judgedPlaces (length (circuitGates p)) room))) ≡ answerOf s room p
 answer-by s room (circuit v n gs g) = go (leb (length gs) room)
   where
     go : (t : Bool) → pick (eqb (numberOf (pick t Accepted Room)) 0) (Read (circuitIn (circuit v n gs g))) (Refused (pick t Accepted Room)) ≡ pick t (Read (circuitIn (circuit v n gs g))) (Refused Room)
@@ -119,37 +120,37 @@ answer-by s room (statement l) = refl
 answer-by s room early = refl
 answer-by s room unversioned = refl
 
-pub reading-is : (s : List ℕ) (room : ℕ) → length s ≤ mostBytes → readingOf s room ≡ answerOf s room (parsed s)
-unfolding readingOf judgedReading
-reading-is s room h = rw (le-leb (length s) mostBytes h) (answer-by s room (parsed s))
+pub reading-is : (s : List ℕ) (room : ℕ) → length s ≤ mostBytes → circuitReading s room ≡ answerOf s room (parsedCircuit s)
+unfolding circuitReading judgedCircuitText
+reading-is s room h = rw (le-leb (length s) mostBytes h) (answer-by s room (parsedCircuit s))
 
 -- ---- what stands in front of the gates
 
 -- behind the version v
-module _ (v : Version) (t : List Word) {I : Option (List Word)} (i : I ≡ includeOf v (some t)) where
-  pub included-first : I ≡ none → included v (includeOf v (some t)) t ≡ headFault t
+module _ (v : Version) (t : List Word) {I : Option (List Word)} (i : I ≡ readInclude v (some t)) where
+  pub included-first : I ≡ none → included v (readInclude v (some t)) t ≡ headFault t
   unfolding included
   included-first h = ap (λ o. included v o t) (sym i ∙ h)
 
-  module _ (u : List Word) (h : I ≡ some u) {R : Got} (r : R ≡ registerOf v (some u)) where
-    pub included-second : R .rest ≡ none → included v (includeOf v (some t)) t ≡ headFault u
+  module _ (u : List Word) (h : I ≡ some u) {R : Got Word} (r : R ≡ readRegister v (some u)) where
+    pub included-second : R .rest ≡ none → included v (readInclude v (some t)) t ≡ headFault u
     unfolding included registered
-    included-second k = ap (λ o. included v o t) (sym i ∙ h) ∙ ap (λ o. registered v (nameOf v (some u)) (registerOf v (some u) .value) o u) (sym (ap (λ g. g .rest) r) ∙ k)
+    included-second k = ap (λ o. included v o t) (sym i ∙ h) ∙ ap (λ o. registered v (readName v (some u)) (readRegister v (some u) .value) o u) (sym (ap (λ g. g .rest) r) ∙ k)
 
-    pub included-body : (x : List Word) (name : List ℕ) → R .rest ≡ some x → name ≡ nameOf v (some u) → included v (includeOf v (some t)) t ≡ registered v name (R .value) (some x) []
+    pub included-body : (x : List Word) (name : List ℕ) → R .rest ≡ some x → name ≡ readName v (some u) → included v (readInclude v (some t)) t ≡ registered v name (R .value) (some x) []
     unfolding included registered
     included-body x name k q =
-        ap (λ o. included v o t) (sym i ∙ h) ∙ ap (λ o. registered v (nameOf v (some u)) (registerOf v (some u) .value) o u) (sym (ap (λ g. g .rest) r) ∙ k)
+        ap (λ o. included v o t) (sym i ∙ h) ∙ ap (λ o. registered v (readName v (some u)) (readRegister v (some u) .value) o u) (sym (ap (λ g. g .rest) r) ∙ k)
         ∙ rw (q, r)
 
 -- the version
-module _ (ws : List Word) {U : Option (List Word)} (a : U ≡ versionOf Two (some ws)) where
-  pub parsed-two : (t : List Word) → U ≡ some t → parsedWords ws ≡ included Two (includeOf Two (some t)) t
+module _ (ws : List Word) {U : Option (List Word)} (a : U ≡ readVersion Two (some ws)) where
+  pub parsed-two : (t : List Word) → U ≡ some t → parsedWords ws ≡ included Two (readInclude Two (some t)) t
   unfolding parsedWords versioned
-  parsed-two t e = ap (λ o. versioned o (versionOf Three (some ws))) (sym a ∙ e)
+  parsed-two t e = ap (λ o. versioned o (readVersion Three (some ws))) (sym a ∙ e)
 
-  module _ {W : Option (List Word)} (e : U ≡ none) (b : W ≡ versionOf Three (some ws)) where
-    pub parsed-three : (t : List Word) → W ≡ some t → parsedWords ws ≡ included Three (includeOf Three (some t)) t
+  module _ {W : Option (List Word)} (e : U ≡ none) (b : W ≡ readVersion Three (some ws)) where
+    pub parsed-three : (t : List Word) → W ≡ some t → parsedWords ws ≡ included Three (readInclude Three (some t)) t
     unfolding parsedWords versioned
     parsed-three t f = ap₂ versioned (sym a ∙ e) (sym b ∙ f)
 

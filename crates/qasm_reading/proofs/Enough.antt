@@ -8,12 +8,12 @@ use Rattle.reading.specs.Limits.{mostBytes}
 use Rattle.words.specs.Words.{words}
 use Rattle.versions.specs.declared.Version.{Version}
 use Rattle.versions.specs.declared.Version.the-variants.{Two, Three}
-use Rattle.statements.specs.Forms.{Form, cnot, turn, xgate, hadamard, common, formWords, formsWords, qubitWords, versionWords, includeWords, registerWords, headWords, formRecord, recordsIn}
+use Rattle.statements.specs.Forms.{Form, cnot, turn, xgate, hadamard, common, formWords, formsWords, qubitWords, versionWords, includeWords, registerWords, headWords, formRecord, formRecords}
 use Rattle.statements.proofs.Words.{bodies-length}
-use Rattle.qasm_reading.specs.Parsing.{Parsed, circuit, angle, statement, early, unversioned, parsed}
-use Rattle.qasm_reading.specs.Readings.{gatesIn}
+use Rattle.qasm_reading.specs.Parsing.{ParsedCircuit, circuit, angle, statement, early, unversioned, parsedCircuit}
+use Rattle.qasm_reading.specs.Readings.{circuitGates}
 use Rattle.qasm_reading.proofs.Loops.{words-length}
-use Rattle.qasm_reading.proofs.Found.{Found, found}
+use Rattle.qasm_reading.proofs.Found.{FoundText, found}
 
 -- a form has six words for its gate, if it is one
 form-six : (name : List ℕ) (f : Form) → 6 * length (formRecord f) ≤ length (formWords name f)
@@ -24,10 +24,10 @@ form-six name (xgate a) = omega arith
 form-six name (hadamard a) = omega arith
 form-six name (common m t o) = omega arith
 
-forms-six : (name : List ℕ) (fs : List Form) → 6 * length (recordsIn fs) ≤ length (formsWords name fs)
-unfolding recordsIn formsWords
+forms-six : (name : List ℕ) (fs : List Form) → 6 * length (formRecords fs) ≤ length (formsWords name fs)
+unfolding formRecords formsWords
 forms-six name [] = omega arith
-forms-six name (f ∷ fs) = omega (arith, form-six name f, forms-six name fs, length-append (formWords name f) (formsWords name fs), length-append (formRecord f) (recordsIn fs))
+forms-six name (f ∷ fs) = omega (arith, form-six name f, forms-six name fs, length-append (formWords name f) (formsWords name fs), length-append (formRecord f) (formRecords fs))
 
 head-twelve : (v : Version) (name : List ℕ) (n : ℕ) → length (headWords v name n) ≡ 12
 unfolding headWords versionWords includeWords registerWords
@@ -35,10 +35,10 @@ head-twelve Two name n = refl
 head-twelve Three name n = refl
 
 -- no circuit's text of 65,536 bytes has more than 10,920 gates
-pub gates-few : (s : List ℕ) → length s ≤ mostBytes → length (gatesIn (parsed s)) ≤ 10920
-gates-few s h = go (parsed s) (found s)
+pub gates-few : (s : List ℕ) → length s ≤ mostBytes → length (circuitGates (parsedCircuit s)) ≤ 10920
+gates-few s h = go (parsedCircuit s) (found s)
   where
-    go : (p : Parsed) → Found s p → length (gatesIn p) ≤ 10920
+    go : (p : ParsedCircuit) → FoundText s p → length (circuitGates p) ≤ 10920
     go (circuit v n gates g) c =
         omega (arith, ap length (c .meant), forms-six (c .name) (c .forms), ap length (c .spelt), length-append (headWords v (c .name) n) (formsWords (c .name) (c .forms)), head-twelve v (c .name) n, bodies-length (words s), words-length s)
     go (angle l) f = omega arith

@@ -14,78 +14,80 @@ use Rattle.verdicts.specs.declared.verdict.Verdict.the-variants.{Accepted, Room
 use Rattle.verdicts.specs.Verdicts.{numberOf, placeOf}
 use Rattle.verdicts.specs.InOrder.{andThen}
 use Rattle.verdicts.specs.Rows.{Nowhere}
+use Rattle.reading.specs.Readings.{judgedPlaces}
 use Rattle.reading.specs.Limits.{mostBytes}
 use Rattle.versions.specs.declared.Version.{Version}
-use Rattle.qasm_reading.specs.Parsing.{Parsed, circuit, angle, statement, early, unversioned, parsed}
-use Rattle.qasm_reading.specs.Readings.{lineAt, judgedStatements, judgedList, judgedReading}
+use Rattle.qasm_reading.specs.Parsing.{ParsedCircuit, circuit, angle, statement, early, unversioned, parsedCircuit}
+use Rattle.words.specs.Bytes.{lineAt}
+use Rattle.qasm_reading.specs.Readings.{judgedStatements, judgedCircuitText, circuitGates}
 use Rattle.qasm_reading.specs.Texts.{CircuitText, Unversioned, WrongAngle, WrongStatement}
-use Rattle.qasm_reading.specs.Rows.{Short, ReadingRows}
+use Rattle.qasm_reading.specs.Rows.{Short, CircuitReadingRows}
 use Rattle.qasm_reading.proofs.Parsed.{circuit-parsed}
 use Rattle.qasm_reading.proofs.Faults.{Other, unversioned-parsed, angle-parsed, statement-parsed}
-use Rattle.qasm_reading.proofs.Found.{Found, found}
+use Rattle.qasm_reading.proofs.Found.{FoundText, found}
 
 -- ---- from what a text is to the answer
 
 module _ (s : List ℕ) (room : ℕ) where
-  pub judged-long : mostBytes < length s → judgedReading s room ≡ LongText
-  unfolding judgedReading
+  pub judged-long : mostBytes < length s → judgedCircuitText s room ≡ LongText
+  unfolding judgedCircuitText
   judged-long h = rw (lt-leb (length s) mostBytes h)
 
   module _ (h : Short s) where
-    judged-short : judgedReading s room ≡ andThen (judgedStatements s (parsed s)) (judgedList (parsed s) room)
-    unfolding judgedReading
+    judged-short : judgedCircuitText s room ≡ andThen (judgedStatements s (parsedCircuit s)) (judgedPlaces (length (circuitGates (parsedCircuit s))) room)
+    unfolding judgedCircuitText
     judged-short = rw (le-leb (length s) mostBytes h)
 
-    pub judged-as : (p : Parsed) → parsed s ≡ p → judgedReading s room ≡ andThen (judgedStatements s p) (judgedList p room)
-    judged-as p e = judged-short ∙ ap (λ p. andThen (judgedStatements s p) (judgedList p room)) e
+    pub judged-as : (p : ParsedCircuit) → parsedCircuit s ≡ p → judgedCircuitText s room ≡ andThen (judgedStatements s p) (judgedPlaces (length (circuitGates p)) room)
+    judged-as p e = judged-short ∙ ap (λ p. andThen (judgedStatements s p) (judgedPlaces (length (circuitGates p)) room)) e
 
-    pub judged-good : (v : Version) (n : ℕ) (gates : List ℕ) (g : ℕ) → CircuitText s v n gates g → length gates ≤ room → judgedReading s room ≡ Accepted
+    pub judged-good : (v : Version) (n : ℕ) (gates : List ℕ) (g : ℕ) → CircuitText s v n gates g → length gates ≤ room → judgedCircuitText s room ≡ Accepted
     judged-good v n gates g c l = judged-as (circuit v n gates g) (circuit-parsed s v n gates g c) ∙ rw (le-leb (length gates) room l)
 
-    judged-over : (v : Version) (n : ℕ) (gates : List ℕ) (g : ℕ) → CircuitText s v n gates g → room < length gates → judgedReading s room ≡ Room
+    judged-over : (v : Version) (n : ℕ) (gates : List ℕ) (g : ℕ) → CircuitText s v n gates g → room < length gates → judgedCircuitText s room ≡ Room
     judged-over v n gates g c l = judged-as (circuit v n gates g) (circuit-parsed s v n gates g c) ∙ rw (lt-leb (length gates) room l)
 
-    judged-unversioned : Unversioned s → judgedReading s room ≡ verdicts.Unversioned
+    judged-unversioned : Unversioned s → judgedCircuitText s room ≡ verdicts.Unversioned
     judged-unversioned u = judged-as unversioned (unversioned-parsed s u)
 
-    judged-angle : (k : ℕ) → WrongAngle s k → judgedReading s room ≡ Angle k
+    judged-angle : (k : ℕ) → WrongAngle s k → judgedCircuitText s room ≡ Angle k
     judged-angle k w =
         let p = angle-parsed s k w in
         judged-as (angle (w .fault .word .left)) (p .0) ∙ ap Angle (sym (p .1))
 
-    judged-statement : (k : ℕ) → WrongStatement s k → judgedReading s room ≡ Statement k
+    judged-statement : (k : ℕ) → WrongStatement s k → judgedCircuitText s room ≡ Statement k
     judged-statement k w = go (statement-parsed s k w)
       where
-        go : Other s k → judgedReading s room ≡ Statement k
+        go : Other s k → judgedCircuitText s room ≡ Statement k
         go (inl (l, e, p)) = judged-as (statement l) e ∙ ap Statement (sym p)
         go (inr (e, p)) = judged-as early e ∙ ap Statement (sym p)
 
 -- ---- from the answer to what the text is
 
-data Answered (s : List ℕ) (room : ℕ) (said : Verdict) : Type 0 where
-  long : mostBytes < length s → said ≡ LongText → Answered s room said
-  good : Short s → (v : Version) (n : ℕ) (gates : List ℕ) (g : ℕ) → CircuitText s v n gates g → length gates ≤ room → said ≡ Accepted → Answered s room said
-  over : Short s → (v : Version) (n : ℕ) (gates : List ℕ) (g : ℕ) → CircuitText s v n gates g → room < length gates → said ≡ Room → Answered s room said
-  no-version : Short s → Unversioned s → said ≡ verdicts.Unversioned → Answered s room said
-  other-angle : Short s → (k : ℕ) → WrongAngle s k → said ≡ Angle k → Answered s room said
-  other-statement : Short s → (k : ℕ) → WrongStatement s k → said ≡ Statement k → Answered s room said
+data AnsweredText (s : List ℕ) (room : ℕ) (said : Verdict) : Type 0 where
+  long : mostBytes < length s → said ≡ LongText → AnsweredText s room said
+  good : Short s → (v : Version) (n : ℕ) (gates : List ℕ) (g : ℕ) → CircuitText s v n gates g → length gates ≤ room → said ≡ Accepted → AnsweredText s room said
+  over : Short s → (v : Version) (n : ℕ) (gates : List ℕ) (g : ℕ) → CircuitText s v n gates g → room < length gates → said ≡ Room → AnsweredText s room said
+  no-version : Short s → Unversioned s → said ≡ verdicts.Unversioned → AnsweredText s room said
+  other-angle : Short s → (k : ℕ) → WrongAngle s k → said ≡ Angle k → AnsweredText s room said
+  other-statement : Short s → (k : ℕ) → WrongStatement s k → said ≡ Statement k → AnsweredText s room said
 
-answered : (s : List ℕ) (room : ℕ) → Answered s room (judgedReading s room)
-answered s room = length-of (leb (length s) mostBytes) refl
+answered-so : (s : List ℕ) (room : ℕ) → AnsweredText s room (judgedCircuitText s room)
+answered-so s room = length-of (leb (length s) mostBytes) refl
   where
-    room-of : Short s → (v : Version) (n : ℕ) (gates : List ℕ) (g : ℕ) → CircuitText s v n gates g → (t : Bool) → leb (length gates) room ≡ t → Answered s room (judgedReading s room)
+    room-of : Short s → (v : Version) (n : ℕ) (gates : List ℕ) (g : ℕ) → CircuitText s v n gates g → (t : Bool) → leb (length gates) room ≡ t → AnsweredText s room (judgedCircuitText s room)
     room-of h v n gates g c true e = let l = leb-true (length gates) room e in good h v n gates g c l (judged-good s room h v n gates g c l)
     room-of h v n gates g c false e = let l = leb-false (length gates) room e in over h v n gates g c l (judged-over s room h v n gates g c l)
 
-    text-of : Short s → (p : Parsed) → parsed s ≡ p → Found s p → Answered s room (judgedReading s room)
+    text-of : Short s → (p : ParsedCircuit) → parsedCircuit s ≡ p → FoundText s p → AnsweredText s room (judgedCircuitText s room)
     text-of h (circuit v n gates g) e f = room-of h v n gates g f (leb (length gates) room) refl
     text-of h (angle l) e f = other-angle h (lineAt s l) f (judged-as s room h (angle l) e)
     text-of h (statement l) e f = other-statement h (lineAt s l) f (judged-as s room h (statement l) e)
     text-of h early e f = other-statement h 0 f (judged-as s room h early e)
     text-of h unversioned e f = no-version h f (judged-unversioned s room h f)
 
-    length-of : (t : Bool) → leb (length s) mostBytes ≡ t → Answered s room (judgedReading s room)
-    length-of true e = text-of (leb-true (length s) mostBytes e) (parsed s) refl (found s)
+    length-of : (t : Bool) → leb (length s) mostBytes ≡ t → AnsweredText s room (judgedCircuitText s room)
+    length-of true e = text-of (leb-true (length s) mostBytes e) (parsedCircuit s) refl (found s)
     length-of false e = let h = leb-false (length s) mostBytes e in long h (judged-long s room h)
 
 -- it answers another number
@@ -97,9 +99,9 @@ at At q a = subst (λ (u : Verdict). At (placeOf u)) (sym q) a
 
 module _ (s : List ℕ) (room : ℕ) where
   abbrev said : Verdict
-  said = judgedReading s room
+  said = judgedCircuitText s room
 
-  zero-row : numberOf said ≡ 0 → Answered s room said → (Short s × ((v : Version) × (n : ℕ) × (gates : List ℕ) × (g : ℕ) × CircuitText s v n gates g × (length gates ≤ room))) × Nowhere (placeOf said)
+  zero-row : numberOf said ≡ 0 → AnsweredText s room said → (Short s × ((v : Version) × (n : ℕ) × (gates : List ℕ) × (g : ℕ) × CircuitText s v n gates g × (length gates ≤ room))) × Nowhere (placeOf said)
   zero-row e (good h v n gates g c l q) = ((h, (v, n, gates, g, c, l)), at Nowhere q refl)
   zero-row e (long h q) = off 0 e q (λ (z : 11 ≡ 0). omega arith)
   zero-row e (no-version h w q) = off 0 e q (λ (z : 14 ≡ 0). omega arith)
@@ -107,7 +109,7 @@ module _ (s : List ℕ) (room : ℕ) where
   zero-row e (other-angle h k w q) = off 0 e q (λ (z : 12 ≡ 0). omega arith)
   zero-row e (other-statement h k w q) = off 0 e q (λ (z : 13 ≡ 0). omega arith)
 
-  long-row : numberOf said ≡ 11 → Answered s room said → (mostBytes < length s) × Nowhere (placeOf said)
+  long-row : numberOf said ≡ 11 → AnsweredText s room said → (mostBytes < length s) × Nowhere (placeOf said)
   long-row e (good h v n gates g c l q) = off 11 e q (λ (z : 0 ≡ 11). omega arith)
   long-row e (long h q) = (h, at Nowhere q refl)
   long-row e (no-version h w q) = off 11 e q (λ (z : 14 ≡ 11). omega arith)
@@ -115,7 +117,7 @@ module _ (s : List ℕ) (room : ℕ) where
   long-row e (other-angle h k w q) = off 11 e q (λ (z : 12 ≡ 11). omega arith)
   long-row e (other-statement h k w q) = off 11 e q (λ (z : 13 ≡ 11). omega arith)
 
-  over-row : numberOf said ≡ 8 → Answered s room said → (Short s × ((v : Version) × (n : ℕ) × (gates : List ℕ) × (g : ℕ) × CircuitText s v n gates g × (room < length gates))) × Nowhere (placeOf said)
+  over-row : numberOf said ≡ 8 → AnsweredText s room said → (Short s × ((v : Version) × (n : ℕ) × (gates : List ℕ) × (g : ℕ) × CircuitText s v n gates g × (room < length gates))) × Nowhere (placeOf said)
   over-row e (good h v n gates g c l q) = off 8 e q (λ (z : 0 ≡ 8). omega arith)
   over-row e (long h q) = off 8 e q (λ (z : 11 ≡ 8). omega arith)
   over-row e (no-version h w q) = off 8 e q (λ (z : 14 ≡ 8). omega arith)
@@ -123,7 +125,7 @@ module _ (s : List ℕ) (room : ℕ) where
   over-row e (other-angle h k w q) = off 8 e q (λ (z : 12 ≡ 8). omega arith)
   over-row e (other-statement h k w q) = off 8 e q (λ (z : 13 ≡ 8). omega arith)
 
-  angle-row : numberOf said ≡ 12 → Answered s room said → (Short s × ((k : ℕ) × WrongAngle s k)) × WrongAngle s (placeOf said)
+  angle-row : numberOf said ≡ 12 → AnsweredText s room said → (Short s × ((k : ℕ) × WrongAngle s k)) × WrongAngle s (placeOf said)
   angle-row e (good h v n gates g c l q) = off 12 e q (λ (z : 0 ≡ 12). omega arith)
   angle-row e (long h q) = off 12 e q (λ (z : 11 ≡ 12). omega arith)
   angle-row e (no-version h w q) = off 12 e q (λ (z : 14 ≡ 12). omega arith)
@@ -131,7 +133,7 @@ module _ (s : List ℕ) (room : ℕ) where
   angle-row e (other-angle h k w q) = ((h, (k, w)), at (WrongAngle s) q w)
   angle-row e (other-statement h k w q) = off 12 e q (λ (z : 13 ≡ 12). omega arith)
 
-  statement-row : numberOf said ≡ 13 → Answered s room said → (Short s × ((k : ℕ) × WrongStatement s k)) × WrongStatement s (placeOf said)
+  statement-row : numberOf said ≡ 13 → AnsweredText s room said → (Short s × ((k : ℕ) × WrongStatement s k)) × WrongStatement s (placeOf said)
   statement-row e (good h v n gates g c l q) = off 13 e q (λ (z : 0 ≡ 13). omega arith)
   statement-row e (long h q) = off 13 e q (λ (z : 11 ≡ 13). omega arith)
   statement-row e (no-version h w q) = off 13 e q (λ (z : 14 ≡ 13). omega arith)
@@ -139,7 +141,7 @@ module _ (s : List ℕ) (room : ℕ) where
   statement-row e (other-angle h k w q) = off 13 e q (λ (z : 12 ≡ 13). omega arith)
   statement-row e (other-statement h k w q) = ((h, (k, w)), at (WrongStatement s) q w)
 
-  unversioned-row : numberOf said ≡ 14 → Answered s room said → (Short s × Unversioned s) × (placeOf said ≡ 1)
+  unversioned-row : numberOf said ≡ 14 → AnsweredText s room said → (Short s × Unversioned s) × (placeOf said ≡ 1)
   unversioned-row e (good h v n gates g c l q) = off 14 e q (λ (z : 0 ≡ 14). omega arith)
   unversioned-row e (long h q) = off 14 e q (λ (z : 11 ≡ 14). omega arith)
   unversioned-row e (no-version h w q) = ((h, w), at (λ k. k ≡ 1) q refl)
@@ -148,9 +150,9 @@ module _ (s : List ℕ) (room : ℕ) where
   unversioned-row e (other-statement h k w q) = off 14 e q (λ (z : 13 ≡ 14). omega arith)
 
   -- THEOREM: reading answers each number exactly then, and gives the place
-  pub reading-rows : ReadingRows s room (judgedReading s room)
+  pub reading-rows : CircuitReadingRows s room (judgedCircuitText s room)
   reading-rows =
-      let a = answered s room in
+      let a = answered-so s room in
       record {
         row-0 = record { exactly = (λ e. zero-row e a .0, λ w. ap numberOf (judged-good s room (w .0) (w .1 .0) (w .1 .1) (w .1 .2) (w .1 .3) (w .1 .4) (w .1 .5))); place = λ e. zero-row e a .1 };
         row-11 = record { exactly = (λ e. long-row e a .0, λ w. ap numberOf (judged-long s room w)); place = λ e. long-row e a .1 };

@@ -9,15 +9,16 @@ use borrow.Author.Tests.{eqb-true, eqb-false, ne-eqb}
 use Rattle.reading.specs.Misfit.{NoLf}
 use Rattle.words.specs.Bytes.{blank, small, inName, inWord, goesOn, slashes, AllOn}
 use Rattle.words.specs.Words.{gap, note, run, after, ended, lex, words, bodies}
-use Rattle.words.proofs.Steps.{both-true, run-on, run-stop, gap-is, note-is, run-is}
-use Rattle.qasm_reading.specs.Standing.{Gap, empty, space, comment, Apart, Stands, last, last-comment, next}
+use Rattle.sets.proofs.Deciding.{both-true}
+use Rattle.words.proofs.Steps.{run-on, run-stop, gap-is, note-is, run-is}
+use Rattle.qasm_reading.specs.Standing.{Gap, empty, space, comment, Parted, Stands, last, last-comment, next}
 use Rattle.words.proofs.Forth.{word-forth}
 
 -- ---- what stands there is found
 
-note-on : (c r : List ℕ) → NoLf c → lex note (c ++ r) ≡ lex note r
-note-on [] r h = refl
-note-on (x ∷ c) r h = rw (note-is, ne-eqb x 10 (h .0)) (note-on c r (h .1))
+note-past : (c r : List ℕ) → NoLf c → lex note (c ++ r) ≡ lex note r
+note-past [] r h = refl
+note-past (x ∷ c) r h = rw (note-is, ne-eqb x 10 (h .0)) (note-past c r (h .1))
 
 note-done : (r : List ℕ) → lex note (10 ∷ r) ≡ words r
 note-done r = note-is 10 r
@@ -30,11 +31,11 @@ gap-words : {g : List ℕ} (t : List ℕ) → Gap g → words (g ++ t) ≡ words
 gap-words t empty = refl
 gap-words t (space {x} {g} b h) = rw (gap-is, b) (gap-words t h)
 gap-words t (comment c g n h e) =
-    ap (λ l. words (l ++ t)) e ∙ note-opens _ ∙ ap (lex note) (append-assoc c (10 ∷ g) t) ∙ note-on c (10 ∷ (g ++ t)) n ∙ note-done (g ++ t) ∙ gap-words t h
+    ap (λ l. words (l ++ t)) e ∙ note-opens _ ∙ ap (lex note) (append-assoc c (10 ∷ g) t) ∙ note-past c (10 ∷ (g ++ t)) n ∙ note-done (g ++ t) ∙ gap-words t h
 
 note-none : (c : List ℕ) → NoLf c → lex note c ≡ []
 unfolding lex
-note-none c h = ap (lex note) (sym (append-nil c)) ∙ note-on c [] h
+note-none c h = ap (lex note) (sym (append-nil c)) ∙ note-past c [] h
 
 pub stands-words : {s : List ℕ} {bs : List (List ℕ)} → Stands s bs → bodies (words s) ≡ bs
 unfolding lex
@@ -63,7 +64,7 @@ data InNote : List ℕ → List (List ℕ) → Type 0 where
 
 -- in a word that begins with f, of which w stands before
 data InRun (f : ℕ) (w s : List ℕ) : Type 0 where
-  goes : (xs r : List ℕ) (bs : List (List ℕ)) → AllOn f xs → Apart f r → Stands r bs → s ≡ xs ++ r → bodies (lex (run f w) s) ≡ (w ++ xs) ∷ bs → InRun f w s
+  goes : (xs r : List ℕ) (bs : List (List ℕ)) → AllOn f xs → Parted f r → Stands r bs → s ≡ xs ++ r → bodies (lex (run f w) s) ≡ (w ++ xs) ∷ bs → InRun f w s
   turns : (r : List ℕ) (bs : List (List ℕ)) → f ≡ 47 → s ≡ 47 ∷ r → InNote r bs → bodies (lex (run f w) s) ≡ bs → InRun f w s
 
 note-stands : (r : List ℕ) {bs : List (List ℕ)} → InNote r bs → Stands (47 ∷ 47 ∷ r) bs
@@ -71,12 +72,12 @@ note-stands r (to-end n) = last-comment [] r empty n refl
 note-stands r {bs} (to-lf c t n l e) =
     subst (λ s. Stands s bs) (ap (λ l. 47 ∷ 47 ∷ l) (append-assoc c (10 ∷ []) t ∙ sym e)) (gap-stands (47 ∷ 47 ∷ (c ++ (10 ∷ []))) (comment c [] n empty refl) l)
 
-record All (s : List ℕ) : Type 0 where
+record InEach (s : List ℕ) : Type 0 where
   in-gap : Stands s (bodies (lex gap s))
   in-note : InNote s (bodies (lex note s))
   in-run : (f : ℕ) (w : List ℕ) → InRun f w s
 
-gap-next : (x : ℕ) (s : List ℕ) → All s → Stands (x ∷ s) (bodies (lex gap (x ∷ s)))
+gap-next : (x : ℕ) (s : List ℕ) → InEach s → Stands (x ∷ s) (bodies (lex gap (x ∷ s)))
 gap-next x s ih = go (blank x) refl (ih .in-run x (x ∷ []))
   where
     go : (t : Bool) → blank x ≡ t → InRun x (x ∷ []) s → Stands (x ∷ s) (bodies (lex gap (x ∷ s)))
@@ -85,7 +86,7 @@ gap-next x s ih = go (blank x) refl (ih .in-run x (x ∷ []))
     go false b (turns r bs f e n q) =
         rw (gap-is, b, q) (subst (λ l. Stands l bs) (sym (ap (λ y. y ∷ s) f ∙ ap (λ l. 47 ∷ l) e)) (note-stands r n))
 
-note-next : (x : ℕ) (s : List ℕ) → All s → InNote (x ∷ s) (bodies (lex note (x ∷ s)))
+note-next : (x : ℕ) (s : List ℕ) → InEach s → InNote (x ∷ s) (bodies (lex note (x ∷ s)))
 note-next x s ih = go (eqb x 10) refl (ih .in-note)
   where
     put : {bs : List (List ℕ)} → (x ≡ 10 → ⊥) → InNote s bs → InNote (x ∷ s) bs
@@ -102,7 +103,7 @@ never-slash f x e p =
     let q : goesOn 47 x ≡ true = ap (λ k. goesOn k x) (sym e) ∙ p in
     let z : _≡_ {A = ℕ} 0 1 = cc q in absurd (omega arith)
 
-run-next : (x : ℕ) (s : List ℕ) → All s → (f : ℕ) (w : List ℕ) → InRun f w (x ∷ s)
+run-next : (x : ℕ) (s : List ℕ) → InEach s → (f : ℕ) (w : List ℕ) → InRun f w (x ∷ s)
 unfolding slashes
 run-next x s ih f w = go (goesOn f x) (slashes f x) refl refl (ih .in-run f (w ++ (x ∷ [])))
   where
@@ -117,7 +118,7 @@ run-next x s ih f w = go (goesOn f x) (slashes f x) refl refl (ih .in-run f (w +
         goes [] (x ∷ s) (bodies (lex gap (x ∷ s))) tt (record { stop = λ _. p; clear = λ _. q }) (gap-next x s ih) refl
         (ap (λ l. bodies l) (run-stop f w (x ∷ s) (record { stop = λ _. p; clear = λ _. q })) ∙ ap (λ l. l ∷ bodies (lex gap (x ∷ s))) (sym (append-nil w)))
 
-all : (s : List ℕ) → All s
+all : (s : List ℕ) → InEach s
 unfolding lex
 all [] = record {
   in-gap = last empty;

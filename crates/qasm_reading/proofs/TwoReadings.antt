@@ -7,7 +7,7 @@ use Rattle.circuit.specs.Phase.{phases}
 use Rattle.words.specs.Words.{words, bodies}
 use Rattle.words.specs.Taking.{isName}
 use Rattle.versions.specs.declared.Version.the-variants.{Two, Three}
-use Rattle.statements.specs.Forms.{Form, AllGood, formsWords, headWords, recordsIn, rzAngles, phaseOfForms}
+use Rattle.statements.specs.Forms.{Form, AllGood, formsWords, headWords, formRecords, rzAngles, phaseOfForms}
 use Rattle.statements.proofs.TwoReadings.{two-readings}
 use Rattle.qasm_reading.specs.Texts.{CircuitText}
 
@@ -26,9 +26,9 @@ pub record SameForms (s t : List ℕ) : Type 0 where
 
 -- what they are read as
 pub record BothRead (s t : List ℕ) (f : SameForms s t) : Type 0 where
-  pub two : CircuitText s Two (f .qubits) (recordsIn (f .forms)) 0
+  pub two : CircuitText s Two (f .qubits) (formRecords (f .forms)) 0
   pub phase : ℕ
-  pub three : CircuitText t Three (f .qubits) (recordsIn (f .forms)) phase
+  pub three : CircuitText t Three (f .qubits) (formRecords (f .forms)) phase
   pub differ : phases phase (rzAngles (f .forms)) ≡ 0
 
 -- THEOREM: a units of an angle are 2a half units, and half of them are a, so that the angles' sum is taken as it stands

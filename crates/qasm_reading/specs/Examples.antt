@@ -6,8 +6,8 @@ use Rattle.gates.specs.Layout.{packed}
 use Rattle.gates.specs.Example.{Example}
 use Rattle.verdicts.specs.declared.verdict.Verdict.the-variants.{Angle, Statement, Unversioned}
 use Rattle.versions.specs.declared.Version.the-variants.{Two, Three}
-use Rattle.qasm_reading.specs.Parsing.{circuit, parsed}
-use Rattle.qasm_reading.specs.Readings.{judgedReading}
+use Rattle.qasm_reading.specs.Parsing.{circuit, parsedCircuit}
+use Rattle.qasm_reading.specs.Readings.{judgedCircuitText}
 
 -- `OPENQASM 2.0;`, `include "qelib1.inc";`, `qreg q[2];`, a line each
 abbrev pub threeLines : List ℕ
@@ -17,52 +17,52 @@ threeLines =
     ++ (113 ∷ 114 ∷ 101 ∷ 103 ∷ 32 ∷ 113 ∷ 91 ∷ 50 ∷ 93 ∷ 59 ∷ 10 ∷ [])
 
 -- `u1(ANGLE) q[1];` behind them
-abbrev pub turned : List ℕ → List ℕ
-turned angle = threeLines ++ ((117 ∷ 49 ∷ 40 ∷ []) ++ (angle ++ (41 ∷ 32 ∷ 113 ∷ 91 ∷ 49 ∷ 93 ∷ 59 ∷ 10 ∷ [])))
+abbrev pub u1Of : List ℕ → List ℕ
+u1Of angle = threeLines ++ ((117 ∷ 49 ∷ 40 ∷ []) ++ (angle ++ (41 ∷ 32 ∷ 113 ∷ 91 ∷ 49 ∷ 93 ∷ 59 ∷ 10 ∷ [])))
 
 -- the angle is read as k units
-abbrev pub Units : List ℕ → ℕ → Type 0
-Units angle k = parsed (turned angle) ≡ circuit Two 2 (packed 2 1 k ∷ []) 0
+abbrev pub ReadsUnits : List ℕ → ℕ → Type 0
+ReadsUnits angle k = parsedCircuit (u1Of angle) ≡ circuit Two 2 (packed 2 1 k ∷ []) 0
 
 -- "`-pi/4` is -8,192 units, so 57,344"
 abbrev pub negative : Example
-negative = record { number = 15; says = Units (45 ∷ 112 ∷ 105 ∷ 47 ∷ 52 ∷ []) 57344 }
+negative = record { number = 15; says = ReadsUnits (45 ∷ 112 ∷ 105 ∷ 47 ∷ 52 ∷ []) 57344 }
 
 -- 0, -0, pi, 65535*pi, -65535*pi, pi/32768, 3*pi/2
-abbrev pub ends : Example
-ends = record {
+abbrev pub angleEnds : Example
+angleEnds = record {
   number = 16;
-  says = Units (48 ∷ []) 0
-      × Units (45 ∷ 48 ∷ []) 0
-      × Units (112 ∷ 105 ∷ []) 32768
-      × Units (54 ∷ 53 ∷ 53 ∷ 51 ∷ 53 ∷ 42 ∷ 112 ∷ 105 ∷ []) 32768
-      × Units (45 ∷ 54 ∷ 53 ∷ 53 ∷ 51 ∷ 53 ∷ 42 ∷ 112 ∷ 105 ∷ []) 32768
-      × Units (112 ∷ 105 ∷ 47 ∷ 51 ∷ 50 ∷ 55 ∷ 54 ∷ 56 ∷ []) 1
-      × Units (51 ∷ 42 ∷ 112 ∷ 105 ∷ 47 ∷ 50 ∷ []) 49152;
+  says = ReadsUnits (48 ∷ []) 0
+      × ReadsUnits (45 ∷ 48 ∷ []) 0
+      × ReadsUnits (112 ∷ 105 ∷ []) 32768
+      × ReadsUnits (54 ∷ 53 ∷ 53 ∷ 51 ∷ 53 ∷ 42 ∷ 112 ∷ 105 ∷ []) 32768
+      × ReadsUnits (45 ∷ 54 ∷ 53 ∷ 53 ∷ 51 ∷ 53 ∷ 42 ∷ 112 ∷ 105 ∷ []) 32768
+      × ReadsUnits (112 ∷ 105 ∷ 47 ∷ 51 ∷ 50 ∷ 55 ∷ 54 ∷ 56 ∷ []) 1
+      × ReadsUnits (51 ∷ 42 ∷ 112 ∷ 105 ∷ 47 ∷ 50 ∷ []) 49152;
 }
 
 -- a text that ends before the register: 13, place 0
 abbrev pub endsEarly : Example
-endsEarly = record { number = 17; says = (room : ℕ) → judgedReading (79 ∷ 80 ∷ 69 ∷ 78 ∷ 81 ∷ 65 ∷ 83 ∷ 77 ∷ 32 ∷ 50 ∷ 46 ∷ 48 ∷ 59 ∷ 10 ∷ 105 ∷ 110 ∷ 99 ∷ 108 ∷ 117 ∷ 100 ∷ 101 ∷ []) room ≡ Statement 0 }
+endsEarly = record { number = 17; says = (room : ℕ) → judgedCircuitText (79 ∷ 80 ∷ 69 ∷ 78 ∷ 81 ∷ 65 ∷ 83 ∷ 77 ∷ 32 ∷ 50 ∷ 46 ∷ 48 ∷ 59 ∷ 10 ∷ 105 ∷ 110 ∷ 99 ∷ 108 ∷ 117 ∷ 100 ∷ 101 ∷ []) room ≡ Statement 0 }
 
 -- both faults in one statement, `u1(pi/3) q[256];`: 13 on its line; the angle alone, `u1(pi/3) q[255];`: 12
 abbrev pub bothFaults : Example
 bothFaults = record {
   number = 18;
-  says = (room : ℕ) → (judgedReading (threeLines ++ (117 ∷ 49 ∷ 40 ∷ 112 ∷ 105 ∷ 47 ∷ 51 ∷ 41 ∷ 32 ∷ 113 ∷ 91 ∷ 50 ∷ 53 ∷ 54 ∷ 93 ∷ 59 ∷ [])) room ≡ Statement 4)
-      × (judgedReading (threeLines ++ (117 ∷ 49 ∷ 40 ∷ 112 ∷ 105 ∷ 47 ∷ 51 ∷ 41 ∷ 32 ∷ 113 ∷ 91 ∷ 50 ∷ 53 ∷ 53 ∷ 93 ∷ 59 ∷ [])) room ≡ Angle 4);
+  says = (room : ℕ) → (judgedCircuitText (threeLines ++ (117 ∷ 49 ∷ 40 ∷ 112 ∷ 105 ∷ 47 ∷ 51 ∷ 41 ∷ 32 ∷ 113 ∷ 91 ∷ 50 ∷ 53 ∷ 54 ∷ 93 ∷ 59 ∷ [])) room ≡ Statement 4)
+      × (judgedCircuitText (threeLines ++ (117 ∷ 49 ∷ 40 ∷ 112 ∷ 105 ∷ 47 ∷ 51 ∷ 41 ∷ 32 ∷ 113 ∷ 91 ∷ 50 ∷ 53 ∷ 53 ∷ 93 ∷ 59 ∷ [])) room ≡ Angle 4);
 }
 
 -- a semicolon in a comment ends nothing: `cx q[0], // to;` and `q[1];` on the next line
 abbrev pub inComment : Example
 inComment = record {
   number = 19;
-  says = parsed (threeLines ++ (99 ∷ 120 ∷ 32 ∷ 113 ∷ 91 ∷ 48 ∷ 93 ∷ 44 ∷ 32 ∷ 47 ∷ 47 ∷ 32 ∷ 116 ∷ 111 ∷ 59 ∷ 10 ∷ 113 ∷ 91 ∷ 49 ∷ 93 ∷ 59 ∷ 10 ∷ [])) ≡ circuit Two 2 (packed 1 0 1 ∷ []) 0;
+  says = parsedCircuit (threeLines ++ (99 ∷ 120 ∷ 32 ∷ 113 ∷ 91 ∷ 48 ∷ 93 ∷ 44 ∷ 32 ∷ 47 ∷ 47 ∷ 32 ∷ 116 ∷ 111 ∷ 59 ∷ 10 ∷ 113 ∷ 91 ∷ 49 ∷ 93 ∷ 59 ∷ 10 ∷ [])) ≡ circuit Two 2 (packed 1 0 1 ∷ []) 0;
 }
 
 -- a statement over three lines has the line on which it starts: `u1(`, `pi/3`, `) q[1];`
 abbrev pub overLines : Example
-overLines = record { number = 20; says = (room : ℕ) → judgedReading (threeLines ++ (117 ∷ 49 ∷ 40 ∷ 10 ∷ 112 ∷ 105 ∷ 47 ∷ 51 ∷ 10 ∷ 41 ∷ 32 ∷ 113 ∷ 91 ∷ 49 ∷ 93 ∷ 59 ∷ 10 ∷ [])) room ≡ Angle 4 }
+overLines = record { number = 20; says = (room : ℕ) → judgedCircuitText (threeLines ++ (117 ∷ 49 ∷ 40 ∷ 10 ∷ 112 ∷ 105 ∷ 47 ∷ 51 ∷ 10 ∷ 41 ∷ 32 ∷ 113 ∷ 91 ∷ 49 ∷ 93 ∷ 59 ∷ 10 ∷ [])) room ≡ Angle 4 }
 
 -- ---- of request E5
 
@@ -79,7 +79,7 @@ rzOf angle = (114 ∷ 122 ∷ 40 ∷ []) ++ (angle ++ (41 ∷ 32 ∷ 113 ∷ 91 
 
 -- these statements behind them are read as these records and this common phase
 abbrev pub Reads : List ℕ → List ℕ → ℕ → Type 0
-Reads statements records phase = parsed (threeNewer ++ statements) ≡ circuit Three 1 records phase
+Reads statements records phase = parsedCircuit (threeNewer ++ statements) ≡ circuit Three 1 records phase
 
 -- "an angle is kept modulo two turns until the common phase is taken": `rz(2*pi)` is the record 0 and half a turn of common phase, `rz(4*pi)` nothing, `rz(pi)` twice half a turn;
 -- `rz(-pi/32768)` takes one half unit less than a turn
@@ -100,10 +100,10 @@ gphaseExample = record { number = 22; says = Reads (103 ∷ 112 ∷ 104 ∷ 97 �
 abbrev pub versionExample : Example
 versionExample = record {
   number = 23;
-  says = (room : ℕ) → (judgedReading [] room ≡ Unversioned)
-      × (judgedReading (10 ∷ 79 ∷ 80 ∷ 69 ∷ 78 ∷ 81 ∷ 65 ∷ 83 ∷ 77 ∷ 32 ∷ 51 ∷ 59 ∷ []) room ≡ Unversioned)
-      × (judgedReading (79 ∷ 80 ∷ 69 ∷ 78 ∷ 81 ∷ 65 ∷ 83 ∷ 77 ∷ 32 ∷ 50 ∷ 46 ∷ 48 ∷ []) room ≡ Unversioned);
+  says = (room : ℕ) → (judgedCircuitText [] room ≡ Unversioned)
+      × (judgedCircuitText (10 ∷ 79 ∷ 80 ∷ 69 ∷ 78 ∷ 81 ∷ 65 ∷ 83 ∷ 77 ∷ 32 ∷ 51 ∷ 59 ∷ []) room ≡ Unversioned)
+      × (judgedCircuitText (79 ∷ 80 ∷ 69 ∷ 78 ∷ 81 ∷ 65 ∷ 83 ∷ 77 ∷ 32 ∷ 50 ∷ 46 ∷ 48 ∷ []) room ≡ Unversioned);
 }
 
 abbrev pub qasmExamples : List Example
-qasmExamples = negative ∷ ends ∷ endsEarly ∷ bothFaults ∷ inComment ∷ overLines ∷ rzExamples ∷ gphaseExample ∷ versionExample ∷ []
+qasmExamples = negative ∷ angleEnds ∷ endsEarly ∷ bothFaults ∷ inComment ∷ overLines ∷ rzExamples ∷ gphaseExample ∷ versionExample ∷ []

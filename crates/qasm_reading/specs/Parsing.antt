@@ -8,34 +8,34 @@ use Rattle.circuit.specs.Phase.{phases}
 use Rattle.words.specs.Words.{Word, words}
 use Rattle.versions.specs.declared.Version.{Version}
 use Rattle.versions.specs.declared.Version.the-variants.{Two, Three}
-use Rattle.statements.specs.Statements.{Said, versionOf, includeOf, nameOf, registerOf, gateOf, hasEnd, badAngle}
+use Rattle.statements.specs.Statements.{Said, readVersion, readInclude, readName, readRegister, readGate, hasEnd, badAngle}
 
 -- the longest run of statements behind the register, at most f: the records of its gates, its common phase, and the words that are left behind it
-pub record Run : Type 0 where
+pub record StatementRun : Type 0 where
   pub records : List ℕ
   pub phase : ℕ
   pub left : List Word
 
-abbrev pub runOn : Said → Option (List Word) → (List Word → Run) → List Word → Run
-runOn g none more ws = record { records = []; phase = 0; left = ws }
-runOn g (some t) more ws = record { records = g .records ++ more t .records; phase = phases (g .phase) (more t .phase); left = more t .left }
+abbrev pub statementRunOn : Said → Option (List Word) → (List Word → StatementRun) → List Word → StatementRun
+statementRunOn g none more ws = record { records = []; phase = 0; left = ws }
+statementRunOn g (some t) more ws = record { records = g .records ++ more t .records; phase = phases (g .phase) (more t .phase); left = more t .left }
 
-unfoldable pub runIn : ℕ → Version → List ℕ → List Word → Run
-runIn zero v name ws = record { records = []; phase = 0; left = ws }
-runIn (suc f) v name ws = runOn (gateOf v name (some ws)) (gateOf v name (some ws) .rest) (runIn f v name) ws
+unfoldable pub statementRunIn : ℕ → Version → List ℕ → List Word → StatementRun
+statementRunIn zero v name ws = record { records = []; phase = 0; left = ws }
+statementRunIn (suc f) v name ws = statementRunOn (readGate v name (some ws)) (readGate v name (some ws) .rest) (statementRunIn f v name) ws
 
 -- a statement has at least one word
-unfoldable pub runOf : Version → List ℕ → List Word → Run
-runOf v name ws = runIn (length ws) v name ws
+unfoldable pub statementRun : Version → List ℕ → List Word → StatementRun
+statementRun v name ws = statementRunIn (length ws) v name ws
 
 -- what a text is found to be: a circuit with its version, n, gates and common phase; a statement with a wrong angle, or another that cannot stand there, with the bytes left where
 -- it begins; or it ends before the register; or no version is stated
-pub data Parsed : Type 0 where
-  circuit : Version → ℕ → List ℕ → ℕ → Parsed
-  angle : ℕ → Parsed
-  statement : ℕ → Parsed
-  early : Parsed
-  unversioned : Parsed
+pub data ParsedCircuit : Type 0 where
+  circuit : Version → ℕ → List ℕ → ℕ → ParsedCircuit
+  angle : ℕ → ParsedCircuit
+  statement : ℕ → ParsedCircuit
+  early : ParsedCircuit
+  unversioned : ParsedCircuit
 
 -- how many bytes are left where the first of the words begins
 abbrev pub leftOf : List Word → ℕ
@@ -43,30 +43,30 @@ leftOf [] = 0
 leftOf (w ∷ ws) = w .left
 
 -- the include line or the register does not stand there
-unfoldable pub headFault : List Word → Parsed
+unfoldable pub headFault : List Word → ParsedCircuit
 headFault ws = pick (hasEnd ws) (statement (leftOf ws)) early
 
 -- behind the gates stands nothing
-unfoldable pub endOf : Version → List ℕ → ℕ → List ℕ → ℕ → List Word → Parsed
-endOf v name n gates phase [] = circuit v n gates phase
-endOf v name n gates phase (w ∷ ws) = pick (badAngle v name (some (w ∷ ws))) (angle (w .left)) (statement (w .left))
+unfoldable pub endCircuit : Version → List ℕ → ℕ → List ℕ → ℕ → List Word → ParsedCircuit
+endCircuit v name n gates phase [] = circuit v n gates phase
+endCircuit v name n gates phase (w ∷ ws) = pick (badAngle v name (some (w ∷ ws))) (angle (w .left)) (statement (w .left))
 
-unfoldable pub registered : Version → List ℕ → ℕ → Option (List Word) → List Word → Parsed
+unfoldable pub registered : Version → List ℕ → ℕ → Option (List Word) → List Word → ParsedCircuit
 registered v name n none ws = headFault ws
-registered v name n (some t) ws = endOf v name n (runOf v name t .records) (runOf v name t .phase) (runOf v name t .left)
+registered v name n (some t) ws = endCircuit v name n (statementRun v name t .records) (statementRun v name t .phase) (statementRun v name t .left)
 
-unfoldable pub included : Version → Option (List Word) → List Word → Parsed
+unfoldable pub included : Version → Option (List Word) → List Word → ParsedCircuit
 included v none ws = headFault ws
-included v (some t) ws = registered v (nameOf v (some t)) (registerOf v (some t) .value) (registerOf v (some t) .rest) t
+included v (some t) ws = registered v (readName v (some t)) (readRegister v (some t) .value) (readRegister v (some t) .rest) t
 
 -- "The version line decides"
-unfoldable pub versioned : Option (List Word) → Option (List Word) → Parsed
-versioned (some t) o = included Two (includeOf Two (some t)) t
-versioned none (some t) = included Three (includeOf Three (some t)) t
+unfoldable pub versioned : Option (List Word) → Option (List Word) → ParsedCircuit
+versioned (some t) o = included Two (readInclude Two (some t)) t
+versioned none (some t) = included Three (readInclude Three (some t)) t
 versioned none none = unversioned
 
-unfoldable pub parsedWords : List Word → Parsed
-parsedWords ws = versioned (versionOf Two (some ws)) (versionOf Three (some ws))
+unfoldable pub parsedWords : List Word → ParsedCircuit
+parsedWords ws = versioned (readVersion Two (some ws)) (readVersion Three (some ws))
 
-unfoldable pub parsed : List ℕ → Parsed
-parsed s = parsedWords (words s)
+unfoldable pub parsedCircuit : List ℕ → ParsedCircuit
+parsedCircuit s = parsedWords (words s)

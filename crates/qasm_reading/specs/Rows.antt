@@ -14,7 +14,7 @@ abbrev pub Short : List ℕ → Type 0
 Short s = length s ≤ mostBytes
 
 -- a list of `room` places is lent; `said` is what reading answers
-pub record ReadingRows (s : List ℕ) (room : ℕ) (said : Verdict) : Type 0 where
+pub record CircuitReadingRows (s : List ℕ) (room : ℕ) (said : Verdict) : Type 0 where
   pub row-0 : Row said 0 (Short s × ((v : Version) × (n : ℕ) × (gates : List ℕ) × (phase : ℕ) × CircuitText s v n gates phase × (length gates ≤ room))) Nowhere
   pub row-11 : Row said 11 (mostBytes < length s) Nowhere
   pub row-14 : Row said 14 (Short s × Unversioned s) (λ k. k ≡ 1)

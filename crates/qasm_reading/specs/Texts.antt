@@ -4,14 +4,13 @@ use mathlib.Core.Path.{_≡_}
 use mathlib.Core.Logic.{_⊎_}
 use mathlib.Core.Bool.{true}
 use mathlib.Core.List.{List, _∷_, _++_}
-use Prim.Native.Nat.{ℕ, _-_, _≤_}
-use lib.ListN.{length, take}
-use Rattle.words.specs.Bytes.{lineBehind}
+use Prim.Native.Nat.{ℕ, _≤_}
+use Rattle.words.specs.Bytes.{lineAt}
 use Rattle.words.specs.Words.{Word, words, bodies}
 use Rattle.words.specs.Taking.{isName}
 use Rattle.versions.specs.declared.Version.{Version}
 use Rattle.statements.specs.Limits.{mostQubit}
-use Rattle.statements.specs.Forms.{Form, GoodForm, AllGood, formWords, formsWords, versionWords, includeWords, registerWords, headWords, Unended, OnlyAngle, recordsIn, phaseOfForms}
+use Rattle.statements.specs.Forms.{Form, GoodForm, AllGood, formWords, formsWords, versionWords, includeWords, registerWords, headWords, Unended, OnlyAngle, formRecords, phaseOfForms}
 
 -- the text is that of a circuit on n qubits with the gates and the common phase: its words are those of the version's first three statements and of gates, in some form each
 pub record CircuitText (s : List ℕ) (v : Version) (n : ℕ) (gates : List ℕ) (phase : ℕ) : Type 0 where
@@ -20,7 +19,7 @@ pub record CircuitText (s : List ℕ) (v : Version) (n : ℕ) (gates : List ℕ)
   pub named : isName name ≡ true
   pub few : n ≤ mostQubit
   pub good : AllGood v forms
-  pub meant : gates ≡ recordsIn forms
+  pub meant : gates ≡ formRecords forms
   pub shifted : phase ≡ phaseOfForms v forms
   pub spelt : bodies (words s) ≡ headWords v name n ++ formsWords name forms
 
@@ -47,14 +46,14 @@ pub data Early (bs : List (List ℕ)) : Type 0 where
   versionLine : (v : Version) → bs ≡ versionWords v → Early bs
   bothLines : (v : Version) → bs ≡ versionWords v ++ includeWords v → Early bs
 
-abbrev pub Begun : List (List ℕ) → Type 0
-Begun bs = Early bs ⊎ SeenAny bs
+abbrev pub Beginning : List (List ℕ) → Type 0
+Beginning bs = Early bs ⊎ SeenAny bs
 
 -- the statement that can stand behind it
-pub data Next (bs st : List (List ℕ)) : Type 0 where
-  second : (v : Version) → bs ≡ versionWords v → st ≡ includeWords v → Next bs st
-  third : (v : Version) (name : List ℕ) (n : ℕ) → bs ≡ versionWords v ++ includeWords v → isName name ≡ true → n ≤ mostQubit → st ≡ registerWords v name n → Next bs st
-  gate : (v : Version) (name : List ℕ) (f : Form) → Seen v name bs → GoodForm v f → st ≡ formWords name f → Next bs st
+pub data NextStatement (bs st : List (List ℕ)) : Type 0 where
+  second : (v : Version) → bs ≡ versionWords v → st ≡ includeWords v → NextStatement bs st
+  third : (v : Version) (name : List ℕ) (n : ℕ) → bs ≡ versionWords v ++ includeWords v → isName name ≡ true → n ≤ mostQubit → st ≡ registerWords v name n → NextStatement bs st
+  gate : (v : Version) (name : List ℕ) (f : Form) → Seen v name bs → GoodForm v f → st ≡ formWords name f → NextStatement bs st
 
 -- ---- "the first such statement decides"
 
@@ -64,12 +63,12 @@ pub record Fault (s : List ℕ) : Type 0 where
   pub word : Word
   pub behind : List Word
   pub split : words s ≡ before ++ (word ∷ behind)
-  pub begun : Begun (bodies before)
-  pub stuck : (st rest : List (List ℕ)) → Next (bodies before) st → bodies (word ∷ behind) ≡ st ++ rest → ⊥
+  pub begun : Beginning (bodies before)
+  pub stuck : (st rest : List (List ℕ)) → NextStatement (bodies before) st → bodies (word ∷ behind) ≡ st ++ rest → ⊥
 
 -- "the line it starts on"
 abbrev pub faultLine : (s : List ℕ) → Fault s → ℕ
-faultLine s f = lineBehind (take (length s - f .word .left) s)
+faultLine s f = lineAt s (f .word .left)
 
 -- 12: "any other angle"
 pub record WrongAngle (s : List ℕ) (k : ℕ) : Type 0 where

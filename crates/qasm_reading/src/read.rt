@@ -12,10 +12,11 @@ ghost use mathlib.Core.Path.{_≡_};
 ghost use mathlib.Core.List.{[]};
 ghost use mathlib.Core.Option.{some};
 ghost use lib.ListN.{length, drop};
+ghost use Rattle.reading.specs.Readings.{lentAfter};
 ghost use Rattle.words.specs.Words.{words};
-ghost use Rattle.statements.specs.Statements.{includeOf};
-ghost use Rattle.qasm_reading.specs.Parsing.{headFault, registered, included, parsed};
-ghost use Rattle.qasm_reading.specs.Readings.{readingOf, listAfter, gatesIn, answerOf, lineOf, FoundRead};
+ghost use Rattle.statements.specs.Statements.{readInclude};
+ghost use Rattle.qasm_reading.specs.Parsing.{headFault, registered, included, parsedCircuit};
+ghost use Rattle.qasm_reading.specs.Readings.{circuitReading, circuitVerdict, circuitGates, answerOf, lineOf, FoundRead};
 
 // What a circuit's text holds beside the records of its gates: how many they are, and the common phase in half units.
 pub struct Circuit {
@@ -25,7 +26,7 @@ pub struct Circuit {
     pub phase: u32,
 }
 
-pub enum Reading {
+pub enum CircuitReading {
     Read { circuit: Circuit },
     Refused { verdict: Verdict },
 }
@@ -43,21 +44,28 @@ fn line_of(text: &[u8], at: usize) -> usize
 }
 
 // The include line or the register does not stand at `at`.
-fn head_fault(text: &[u8], at: usize) -> Reading
+fn head_fault(text: &[u8], at: usize) -> CircuitReading
     ensures { λ r. ⌜ r ≡ answerOf (now (text .entry)) 0 (headFault (words (drop at (now (text .entry))))) ⌝ }
 {
     if head::has_end(text, at) {
-        return Reading::Refused {
+        return CircuitReading::Refused {
             verdict: Verdict::Statement(line_of(text, at)),
         };
     }
-    Reading::Refused {
+    CircuitReading::Refused {
         verdict: Verdict::Statement(0),
     }
 }
 
 // The gates, behind the register.
-fn body(text: &[u8], version: Version, name: &[u8], n: u32, at: usize, gates: &mut [u32]) -> Reading
+fn body(
+    text: &[u8],
+    version: Version,
+    name: &[u8],
+    n: u32,
+    at: usize,
+    gates: &mut [u32],
+) -> CircuitReading
     ensures { λ r. ⌜ FoundRead (now (text .entry)) (registered version (now (name .entry)) n (some (words (drop at (now (text .entry))))) []) (now (gates .entry)) r (now (gates .exit)) ⌝ }
 {
     let g = run::count(text, version, name, at);
@@ -65,21 +73,21 @@ fn body(text: &[u8], version: Version, name: &[u8], n: u32, at: usize, gates: &m
     let place = line_of(text, next);
     if 0 < place {
         if gate::bad_angle(text, version, name, next) {
-            return Reading::Refused {
+            return CircuitReading::Refused {
                 verdict: Verdict::Angle(place),
             };
         }
-        return Reading::Refused {
+        return CircuitReading::Refused {
             verdict: Verdict::Statement(place),
         };
     }
     if gates.len() < g.count {
-        return Reading::Refused {
+        return CircuitReading::Refused {
             verdict: Verdict::Room,
         };
     }
     run::fill(text, version, name, at, &mut *gates);
-    Reading::Read {
+    CircuitReading::Read {
         circuit: Circuit {
             version,
             qubits: n as usize,
@@ -90,8 +98,8 @@ fn body(text: &[u8], version: Version, name: &[u8], n: u32, at: usize, gates: &m
 }
 
 // Behind the version, which ends at `at`.
-fn behind_version(text: &[u8], version: Version, at: usize, gates: &mut [u32]) -> Reading
-    ensures { λ r. ⌜ FoundRead (now (text .entry)) (included version (includeOf version (some (words (drop at (now (text .entry)))))) (words (drop at (now (text .entry))))) (now (gates .entry)) r (now (gates .exit)) ⌝ }
+fn behind_version(text: &[u8], version: Version, at: usize, gates: &mut [u32]) -> CircuitReading
+    ensures { λ r. ⌜ FoundRead (now (text .entry)) (included version (readInclude version (some (words (drop at (now (text .entry)))))) (words (drop at (now (text .entry))))) (now (gates .entry)) r (now (gates .exit)) ⌝ }
 {
     let i = head::include(text, Spot::At(at), version);
     match i {
@@ -109,11 +117,11 @@ fn behind_version(text: &[u8], version: Version, at: usize, gates: &mut [u32]) -
     }
 }
 
-pub fn read(text: &[u8], gates: &mut [u32]) -> Reading
-    ensures { λ r. ⌜ (r ≡ readingOf (now (text .entry)) (length (now (gates .entry)))) × (now (gates .exit) ≡ listAfter r (gatesIn (parsed (now (text .entry)))) (now (gates .entry))) ⌝ }
+pub fn read(text: &[u8], gates: &mut [u32]) -> CircuitReading
+    ensures { λ r. ⌜ (r ≡ circuitReading (now (text .entry)) (length (now (gates .entry)))) × (now (gates .exit) ≡ lentAfter (circuitVerdict r) (circuitGates (parsedCircuit (now (text .entry)))) (now (gates .entry))) ⌝ }
 {
     if MOST_BYTES < text.len() {
-        return Reading::Refused {
+        return CircuitReading::Refused {
             verdict: Verdict::LongText,
         };
     }
@@ -124,7 +132,7 @@ pub fn read(text: &[u8], gates: &mut [u32]) -> Reading
             let three = head::version(text, Spot::At(0), Version::Three);
             match three {
                 Spot::At(p) => behind_version(text, Version::Three, p, &mut *gates),
-                Spot::Lost => Reading::Refused {
+                Spot::Lost => CircuitReading::Refused {
                     verdict: Verdict::Unversioned,
                 },
             }

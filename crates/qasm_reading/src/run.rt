@@ -9,10 +9,10 @@ ghost use lib.ListN.{length, drop, set};
 ghost use Rattle.sets.specs.Pick.{pick};
 ghost use Rattle.lines.specs.Lent.{onto};
 ghost use Rattle.words.specs.Words.{words};
-ghost use Rattle.qasm_reading.specs.Parsing.{runOf};
+ghost use Rattle.qasm_reading.specs.Parsing.{statementRun};
 
 // How many gates there are, what all statements add to the common phase, and the place behind them.
-pub(crate) struct Counted {
+pub(crate) struct GateCount {
     pub count: usize,
     pub phase: u32,
     pub next: usize,
@@ -24,8 +24,8 @@ fn as_count(gate: bool) -> usize
     if gate { 1 } else { 0 }
 }
 
-pub(crate) fn count(text: &[u8], version: Version, name: &[u8], from: usize) -> Counted
-    ensures { λ r. ⌜ (r .count ≡ length (runOf version (now (name .entry)) (words (drop from (now (text .entry)))) .records)) × (r .phase ≡ runOf version (now (name .entry)) (words (drop from (now (text .entry)))) .phase) × (words (drop (r .next) (now (text .entry))) ≡ runOf version (now (name .entry)) (words (drop from (now (text .entry)))) .left) ⌝ }
+pub(crate) fn count(text: &[u8], version: Version, name: &[u8], from: usize) -> GateCount
+    ensures { λ r. ⌜ (r .count ≡ length (statementRun version (now (name .entry)) (words (drop from (now (text .entry)))) .records)) × (r .phase ≡ statementRun version (now (name .entry)) (words (drop from (now (text .entry)))) .phase) × (words (drop (r .next) (now (text .entry))) ≡ statementRun version (now (name .entry)) (words (drop from (now (text .entry)))) .left) ⌝ }
 {
     let mut n: usize = 0;
     let mut phase: u32 = 0;
@@ -35,7 +35,7 @@ pub(crate) fn count(text: &[u8], version: Version, name: &[u8], from: usize) -> 
         let next = p.next;
         match next {
             Spot::Lost => {
-                return Counted {
+                return GateCount {
                     count: n,
                     phase,
                     next: at,
@@ -62,8 +62,8 @@ fn put(out: &mut [u32], n: usize, gate: bool, x: u32)
 }
 
 pub(crate) fn fill(text: &[u8], version: Version, name: &[u8], from: usize, out: &mut [u32])
-    requires { ⌜ length (runOf version (now name) (words (drop from (now text))) .records) ≤ length (now out) ⌝ }
-    ensures { λ r. ⌜ now (out .exit) ≡ onto (runOf version (now (name .entry)) (words (drop from (now (text .entry)))) .records) (now (out .entry)) ⌝ }
+    requires { ⌜ length (statementRun version (now name) (words (drop from (now text))) .records) ≤ length (now out) ⌝ }
+    ensures { λ r. ⌜ now (out .exit) ≡ onto (statementRun version (now (name .entry)) (words (drop from (now (text .entry)))) .records) (now (out .entry)) ⌝ }
 {
     let mut n: usize = 0;
     let mut at = from;

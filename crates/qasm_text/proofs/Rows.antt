@@ -11,17 +11,18 @@ use Rattle.verdicts.specs.Verdicts.{judgedQubits, judgedDrawn}
 use Rattle.verdicts.specs.InOrder.{andThen}
 use Rattle.verdicts.specs.Rows.{Row, Nowhere, Passes1, PassesDrawn}
 use Rattle.verdicts.proofs.Rows.{Tests, row-fails, row-passes, row-then, row-first, Beyond, beyond-not, beyond-test, beyond-then, tests-1, tests-drawn}
-use Rattle.text.specs.Writings.{writeVerdict, judgedRoom}
+use Rattle.reading.specs.Readings.{judgedPlaces}
+use Rattle.text.specs.Writings.{writeVerdict}
 use Rattle.text.proofs.Rows.{room-tests}
 use Rattle.versions.specs.declared.Version.{Version}
 use Rattle.qasm_lines.specs.Spelling.{circuitText}
-use Rattle.qasm_text.specs.Writings.{judgedCircuit, writingOf}
-use Rattle.qasm_text.specs.Rows.{WritingRows}
+use Rattle.qasm_text.specs.Writings.{judgedCircuit, circuitWriting}
+use Rattle.qasm_text.specs.Rows.{CircuitWritingRows}
 use Rattle.qasm_text.proofs.Values.{writing-verdict}
 
 module _ (v : Version) (n : ℕ) (gates : List ℕ) (g room : ℕ) where
   abbrev judgedFit : Verdict
-  judgedFit = judgedRoom (length (circuitText v n gates g)) room
+  judgedFit = judgedPlaces (length (circuitText v n gates g)) room
 
   abbrev behind1 : Verdict
   behind1 = andThen (judgedDrawn n gates) judgedFit
@@ -41,7 +42,7 @@ module _ (v : Version) (n : ℕ) (gates : List ℕ) (g room : ℕ) where
   past5 : (j : ℕ) {When : Type 0} {At : ℕ → Type 0} → j ≢ 1 → j ≢ 5 → Row judgedFit j When At → Row (andThen (judgedQubits n) behind1) j (Passes1 n × (PassesDrawn n gates × When)) At
   past5 j a b r = past1 j a (row-then (tests-drawn n gates) judgedFit j b (λ p. r))
 
-  judged-rows : WritingRows v n gates g room (judgedCircuit v n gates g room)
+  judged-rows : CircuitWritingRows v n gates g room (judgedCircuit v n gates g room)
   unfolding judgedCircuit
   judged-rows = record {
     row-0 = past5 0 (λ e. omega (arith, e)) (λ e. omega (arith, e)) (row-passes tests-8);
@@ -50,5 +51,5 @@ module _ (v : Version) (n : ℕ) (gates : List ℕ) (g room : ℕ) where
     row-8 = past5 8 (λ e. omega (arith, e)) (λ e. omega (arith, e)) (row-fails tests-8);
   }
 
-  pub writing-rows : WritingRows v n gates g room (writeVerdict (writingOf v n gates g room))
-  writing-rows = subst (WritingRows v n gates g room) (sym (writing-verdict v n gates g room)) judged-rows
+  pub writing-rows : CircuitWritingRows v n gates g room (writeVerdict (circuitWriting v n gates g room))
+  writing-rows = subst (CircuitWritingRows v n gates g room) (sym (writing-verdict v n gates g room)) judged-rows

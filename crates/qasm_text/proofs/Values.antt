@@ -14,19 +14,19 @@ use Rattle.text.specs.declared.write.Writing.the-variants.{Written, Refused}
 use Rattle.text.specs.Writings.{writeVerdict, writeBytes}
 use Rattle.versions.specs.declared.Version.{Version}
 use Rattle.qasm_lines.specs.Spelling.{circuitText}
-use Rattle.qasm_text.specs.Writings.{judgedCircuit, writingOf}
+use Rattle.qasm_text.specs.Writings.{judgedCircuit, circuitWriting}
 
 module _ (v : Version) (n : ℕ) (gates : List ℕ) (g room : ℕ) where
-  pub writing-verdict : writeVerdict (writingOf v n gates g room) ≡ judgedCircuit v n gates g room
-  unfolding writingOf
+  pub writing-verdict : writeVerdict (circuitWriting v n gates g room) ≡ judgedCircuit v n gates g room
+  unfolding circuitWriting
   writing-verdict = go (judgedCircuit v n gates g room) (eqb (numberOf (judgedCircuit v n gates g room)) 0) refl
     where
       go : (w : Verdict) (t : Bool) → eqb (numberOf w) 0 ≡ t → writeVerdict (pick t (Written (length (circuitText v n gates g))) (Refused w)) ≡ w
       go w true e = sym (zero-accepted w (eqb-true (numberOf w) 0 e))
       go w false e = refl
 
-  pub writing-values : writeBytes (writingOf v n gates g room) ≡ pick (eqb (numberOf (judgedCircuit v n gates g room)) 0) (length (circuitText v n gates g)) 0
-  unfolding writingOf
+  pub writing-values : writeBytes (circuitWriting v n gates g room) ≡ pick (eqb (numberOf (judgedCircuit v n gates g room)) 0) (length (circuitText v n gates g)) 0
+  unfolding circuitWriting
   writing-values = go (judgedCircuit v n gates g room) (eqb (numberOf (judgedCircuit v n gates g room)) 0)
     where
       go : (w : Verdict) (t : Bool) → writeBytes (pick t (Written (length (circuitText v n gates g))) (Refused w)) ≡ pick t (length (circuitText v n gates g)) 0

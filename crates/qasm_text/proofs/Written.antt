@@ -27,10 +27,10 @@ use Rattle.words.proofs.Forth.{word-forth}
 use Rattle.versions.specs.declared.Version.{Version}
 use Rattle.versions.specs.declared.Version.the-variants.{Two, Three}
 use Rattle.statements.specs.Spelling.{openqasm, numeral, include, library, qreg, qubit, gphase, mark}
-use Rattle.statements.specs.Forms.{Rotor, asU1, asP, Form, cnot, turn, xgate, hadamard, common, many, over, Newer, Carried, GoodForm, GoodTimes, GoodOver, AllGood, timesWords, overWords, minusWords, qubitWords, rotorWord, formWords, formsWords, versionWords, includeWords, registerWords, headWords, timesIn, overIn, formRecord, recordsIn, formPhase, phaseOfForms}
+use Rattle.statements.specs.Forms.{Rotor, asU1, asP, Form, cnot, turn, xgate, hadamard, common, many, over, Newer, Carried, GoodForm, GoodTimes, GoodDivisor, AllGood, timesWords, divisorWords, minusWords, qubitWords, rotorWord, formWords, formsWords, versionWords, includeWords, registerWords, headWords, timesIn, divisorIn, formRecord, formRecords, formPhase, phaseOfForms}
 use Rattle.qasm_reading.specs.Texts.{CircuitText}
 use Rattle.qasm_lines.specs.Spelling.{gateText, gatesText, headText, phaseText, circuitText}
-use Rattle.qasm_lines.proofs.Spelt.{turnFront, headFront, phaseFront, phase-none, gate-cnot, gate-turn, gate-x, gate-hadamard, head-spelt, phase-spelt}
+use Rattle.qasm_lines.proofs.Spelt.{turnFront, headFront, phaseFront, phase-text-none, gate-cnot, gate-turn, gate-x, gate-hadamard, head-spelt, phase-spelt}
 use Rattle.qasm_text.specs.Writings.{readPhase}
 use Rattle.qasm_text.proofs.Sizes.{first-within, second-within}
 
@@ -49,9 +49,9 @@ on-digit : (f d : ℕ) → inWord f ≡ true → d < 10 → goesOn f (48 + d) �
 unfolding goesOn
 on-digit f d h k = rw (h, digit-word d k)
 
-all-append : (f : ℕ) (xs ys : List ℕ) → AllOn f xs → AllOn f ys → AllOn f (xs ++ ys)
-all-append f [] ys a b = b
-all-append f (x ∷ xs) ys a b = (a .0, all-append f xs ys (a .1) b)
+all-on-append : (f : ℕ) (xs ys : List ℕ) → AllOn f xs → AllOn f ys → AllOn f (xs ++ ys)
+all-on-append f [] ys a b = b
+all-on-append f (x ∷ xs) ys a b = (a .0, all-on-append f xs ys (a .1) b)
 
 -- the digits of a number: the first one, and the others, which go on
 record Number (b : List ℕ) : Type 0 where
@@ -74,7 +74,7 @@ number-in (suc f) v h = go (ltb v 10) refl (number-in f (v / 10))
           first = d .first;
           others = d .others ++ ((48 + v % 10) ∷ []);
           low = d .low;
-          on = all-append (48 + d .first) (d .others) ((48 + v % 10) ∷ []) (d .on) (on-digit (48 + d .first) (v % 10) (digit-word (d .first) (d .low)) (omega arith), tt);
+          on = all-on-append (48 + d .first) (d .others) ((48 + v % 10) ∷ []) (d .on) (on-digit (48 + d .first) (v % 10) (digit-word (d .first) (d .low)) (omega arith), tt);
           same = digits-big v l ∙ ap (λ b. b ++ ((48 + v % 10) ∷ [])) (d .same);
         }
 
@@ -214,7 +214,7 @@ module _ (v : Version) (x : ℕ) (t : List ℕ) where
       rw (gate-cnot v x k, append-assoc (digits (aIn x)), append-assoc (digits (bIn x))) (cnot-front _ ∙ rw (bracket-digits (aIn x) 93 _ refl, cnot-middle, bracket-digits (bIn x) 93 _ refl, ending))
 
   turn-words : kindIn x ≡ 2 → bodies (words (gateText v x ++ t)) ≡ formWords (mark 113) (turn (rotorOf v) false (many (bIn x)) (over 32768) (aIn x)) ++ bodies (words t)
-  unfolding formWords minusWords timesWords overWords qubitWords inWord inName small
+  unfolding formWords minusWords timesWords divisorWords qubitWords inWord inName small
   turn-words k =
       rw (gate-turn v x k, append-assoc (turnFront v), append-assoc (digits (bIn x)), append-assoc (digits (aIn x)))
       (turn-front _ v ∙ rw (mark-digits 40 (bIn x) _ refl refl refl, digits-word (bIn x) 42 _ refl, turn-middle, bracket-digits (aIn x) 93 _ refl, ending))
@@ -240,7 +240,7 @@ module _ (g : ℕ) (h : g % 131072 ≡ 0 → ⊥) where
   comment-words = rw (phase-spelt Two g h) (ap (λ l. bodies l) (comment-front _ ∙ note-digits (g % 131072) _ ∙ comment-ending))
 
   phase-words : bodies (words (phaseText Three g)) ≡ formWords (mark 113) (common false (many (g % 131072)) (over 65536))
-  unfolding formWords minusWords timesWords overWords inWord inName small
+  unfolding formWords minusWords timesWords divisorWords inWord inName small
   phase-words = rw (phase-spelt Three g h) (phase-front _ ∙ rw (mark-digits 40 (g % 131072) _ refl refl refl, digits-word (g % 131072) 42 _ refl, phase-ending))
 
 -- ---- the text of a circuit
@@ -291,7 +291,7 @@ module _ (v : Version) (n x : ℕ) (few : n ≤ 255) (fine : BadDrawn n x → �
   }
 
   spelt-turn : kindIn x ≡ 2 → Spelt v x
-  unfolding GoodForm GoodTimes GoodOver formRecord timesIn overIn isOver
+  unfolding GoodForm GoodTimes GoodDivisor formRecord timesIn divisorIn isOver
   spelt-turn k = record {
     form = turn (rotorOf v) false (many (bIn x)) (over 32768) (aIn x);
     good = (carried v, omega (arith, b-lt x), refl, low);
@@ -322,31 +322,31 @@ module _ (v : Version) (n x : ℕ) (few : n ≤ 255) (fine : BadDrawn n x → �
 record AllSpelt (v : Version) (xs : List ℕ) (g : ℕ) : Type 0 where
   forms : List Form
   good : AllGood v forms
-  meant : recordsIn forms ≡ xs
+  meant : formRecords forms ≡ xs
   shifted : phaseOfForms v forms ≡ readPhase v g
   spelt : bodies (words (gatesText v xs ++ phaseText v g)) ≡ formsWords (mark 113) forms
 
 -- none of them, where the common phase has no word
 none-spelt : (v : Version) (g : ℕ) → readPhase v g ≡ 0 → bodies (words (phaseText v g)) ≡ [] → AllSpelt v [] g
-unfolding gatesText formsWords AllGood recordsIn phaseOfForms
+unfolding gatesText formsWords AllGood formRecords phaseOfForms
 none-spelt v g e s = record { forms = []; good = tt; meant = refl; shifted = sym e; spelt = s }
 
-no-words : (v : Version) (g : ℕ) → g % 131072 ≡ 0 → bodies (words (phaseText v g)) ≡ []
+phase-no-words : (v : Version) (g : ℕ) → g % 131072 ≡ 0 → bodies (words (phaseText v g)) ≡ []
 unfolding lex
-no-words v g e = rw (phase-none v g e)
+phase-no-words v g e = rw (phase-text-none v g e)
 
 -- the common phase alone
 last-spelt : (v : Version) (g : ℕ) → AllSpelt v [] g
-unfolding readPhase gatesText formsWords GoodForm GoodTimes GoodOver Newer AllGood formRecord recordsIn formPhase timesIn overIn phaseOfForms phases isOver
+unfolding readPhase gatesText formsWords GoodForm GoodTimes GoodDivisor Newer AllGood formRecord formRecords formPhase timesIn divisorIn phaseOfForms phases isOver
 last-spelt Two g = go (eqb (g % 131072) 0) refl
   where
     go : (t : Bool) → eqb (g % 131072) 0 ≡ t → AllSpelt Two [] g
-    go true e = none-spelt Two g refl (no-words Two g (eqb-true (g % 131072) 0 e))
+    go true e = none-spelt Two g refl (phase-no-words Two g (eqb-true (g % 131072) 0 e))
     go false e = none-spelt Two g refl (comment-words g (eqb-false (g % 131072) 0 e))
 last-spelt Three g = go (eqb (g % 131072) 0) refl
   where
     go : (t : Bool) → eqb (g % 131072) 0 ≡ t → AllSpelt Three [] g
-    go true e = none-spelt Three g (eqb-true (g % 131072) 0 e) (no-words Three g (eqb-true (g % 131072) 0 e))
+    go true e = none-spelt Three g (eqb-true (g % 131072) 0 e) (phase-no-words Three g (eqb-true (g % 131072) 0 e))
     go false e = record {
       forms = common false (many (g % 131072)) (over 65536) ∷ [];
       good = ((tt, omega arith, refl), tt);
@@ -361,7 +361,7 @@ read-lt Two g = omega arith
 read-lt Three g = omega arith
 
 all-spelt : (v : Version) (n : ℕ) (xs : List ℕ) (g : ℕ) → n ≤ 255 → PassesDrawn n xs → AllSpelt v xs g
-unfolding gatesText formsWords AllGood recordsIn phaseOfForms phases
+unfolding gatesText formsWords AllGood formRecords phaseOfForms phases
 all-spelt v n [] g few fine = last-spelt v g
 all-spelt v n (x ∷ xs) g few fine =
     let a = spelt-record v n x few (fine 0 (omega arith)) in
@@ -369,7 +369,7 @@ all-spelt v n (x ∷ xs) g few fine =
     record {
       forms = a .form ∷ b .forms;
       good = (a .good, b .good);
-      meant = ap (λ l. l ++ recordsIn (b .forms)) (a .meant) ∙ ap (λ l. x ∷ l) (b .meant);
+      meant = ap (λ l. l ++ formRecords (b .forms)) (a .meant) ∙ ap (λ l. x ∷ l) (b .meant);
       shifted = omega (arith, a .still, b .shifted, read-lt v g);
       spelt = ap (λ l. bodies (words l)) (append-assoc (gateText v x) (gatesText v xs) (phaseText v g)) ∙ a .spelt (gatesText v xs ++ phaseText v g) ∙ ap (λ l. formWords (mark 113) (a .form) ++ l) (b .spelt);
     }

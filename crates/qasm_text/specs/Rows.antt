@@ -8,7 +8,7 @@ use Rattle.versions.specs.declared.Version.{Version}
 use Rattle.qasm_lines.specs.Spelling.{circuitText}
 
 -- 1, 5 and then 8, "given exactly when the text is longer than the room": `said` is what writing answers
-pub record WritingRows (v : Version) (n : ℕ) (gates : List ℕ) (phase room : ℕ) (said : Verdict) : Type 0 where
+pub record CircuitWritingRows (v : Version) (n : ℕ) (gates : List ℕ) (phase room : ℕ) (said : Verdict) : Type 0 where
   pub row-0 : Row said 0 (Passes1 n × (PassesDrawn n gates × (length (circuitText v n gates phase) ≤ room))) Nowhere
   pub row-1 : Row said 1 (Passes1 n → ⊥) Nowhere
   pub row-5 : Row said 5 (Passes1 n × Some (BadDrawn n) gates) (First (BadDrawn n) gates)

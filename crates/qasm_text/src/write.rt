@@ -1,5 +1,5 @@
 // The writer of a circuit's text. It judges the gates and the room before it writes a byte.
-use lines::room::Room;
+use lines::room::Leeway;
 use qasm_lines::put;
 use qasm_lines::room;
 use text::write::Writing;
@@ -11,9 +11,10 @@ ghost use Prim.Native.Nat.{_≤_, _+_};
 ghost use lib.Dec.{leb};
 ghost use lib.ListN.{length};
 ghost use lib.Seq.{sets};
-ghost use Rattle.text.specs.Writings.{textAfter};
+ghost use Rattle.reading.specs.Readings.{lentAfter};
+ghost use Rattle.text.specs.Writings.{writeVerdict};
 ghost use Rattle.qasm_lines.specs.Spelling.{circuitText};
-ghost use Rattle.qasm_text.specs.Writings.{judgedCircuit, writingOf};
+ghost use Rattle.qasm_text.specs.Writings.{judgedCircuit, circuitWriting};
 
 fn put_circuit(version: Version, n: usize, gates: &[u32], phase: u32, text: &mut [u8]) -> usize
     requires { ⌜ length (circuitText version n (now gates) phase) ≤ length (now text) ⌝ }
@@ -27,12 +28,12 @@ fn put_circuit(version: Version, n: usize, gates: &[u32], phase: u32, text: &mut
 fn fits(version: Version, n: usize, gates: &[u32], phase: u32, room: usize) -> bool
     ensures { λ r. ⌜ r ≡ leb (length (circuitText version n (now (gates .entry)) phase)) room ⌝ }
 {
-    let first = room::after_head(Room::Left(room), version, n);
+    let first = room::after_head(Leeway::Left(room), version, n);
     let second = room::after_gates(first, version, gates);
     let left = room::after_phase(second, version, phase);
     match left {
-        Room::Over => false,
-        Room::Left(_) => true,
+        Leeway::Over => false,
+        Leeway::Left(_) => true,
     }
 }
 
@@ -56,7 +57,7 @@ fn judge(version: Version, n: usize, gates: &[u32], phase: u32, room: usize) -> 
 
 // The common phase is in half units, modulo 131,072.
 pub fn write(version: Version, n: usize, gates: &[u32], phase: u32, text: &mut [u8]) -> Writing
-    ensures { λ r. ⌜ (r ≡ writingOf version n (now (gates .entry)) phase (length (now (text .entry)))) × (now (text .exit) ≡ textAfter r (circuitText version n (now (gates .entry)) phase) (now (text .entry))) ⌝ }
+    ensures { λ r. ⌜ (r ≡ circuitWriting version n (now (gates .entry)) phase (length (now (text .entry)))) × (now (text .exit) ≡ lentAfter (writeVerdict r) (circuitText version n (now (gates .entry)) phase) (now (text .entry))) ⌝ }
 {
     let room = text.len();
     let v = judge(version, n, gates, phase, room);

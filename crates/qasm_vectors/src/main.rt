@@ -1,6 +1,6 @@
 // The stored circuits: for each pair of texts of the bundle on standard input, a couplers' and a circuit's, what `qasm` prints. Then too little is lent: what reading
 // the circuit's text answers and, where it accepts, what writing the circuit answers, an `x` line each. An acceptance is number 0 at place 0. Between them stands, where it
-// is not 0, the common phase that was read, a `p` line.
+// is not 0, the common phase that was read, a `p` line. It knows what `qasm` knows, and the entry points.
 use circuit::wires;
 use console::COUPLER_LINES;
 use console::GATE_LINES;
@@ -12,7 +12,7 @@ use lines::put;
 use qasm_console::OUTPUT;
 use qasm_console::printing;
 use qasm_reading::read;
-use qasm_reading::read::Reading;
+use qasm_reading::read::CircuitReading;
 use qasm_text::write;
 use text::write::Writing;
 use verdicts::verdict;
@@ -157,14 +157,14 @@ fn write_scant(version: Version, n: usize, gates: &[u32], phase: u32) {
 fn read_scant(text: &[u8]) {
     let mut gates = [0u32; GATES];
     match read::read(text, &mut gates) {
-        Reading::Read { circuit } => {
+        CircuitReading::Read { circuit } => {
             say(Verdict::Accepted);
             say_phase(circuit.phase);
             let version = circuit.version;
             let g = circuit.gates;
             write_scant(version, circuit.qubits, &gates[..g], circuit.phase);
         }
-        Reading::Refused { verdict } => say(verdict),
+        CircuitReading::Refused { verdict } => say(verdict),
     }
 }
 

@@ -10,18 +10,18 @@ use borrow.Author.Tests.{le-leb, lt-leb}
 use Rattle.verdicts.specs.declared.verdict.Verdict.the-variants.{Room, Line, LongText}
 use Rattle.reading.specs.Limits.{mostBytes}
 use Rattle.lines.specs.Lines.{lineText, recordText, recordsText}
-use Rattle.reading.specs.Parsing.{runOf, headOf, misfit, job, endOf, bodyOf, parsed}
+use Rattle.reading.specs.Parsing.{runOf, readHead, misfit, job, endOf, bodyOf, parsed}
 use Rattle.reading.specs.Readings.{judgedReading, readingOf}
 use Rattle.reading.specs.declared.read.Reading.the-variants.{Read, Refused}
-use Rattle.reading.proofs.Runs.{run-whole}
+use Rattle.reading.proofs.Runs.{line-run-whole}
 
 longer : (rs : List ℕ) → length rs ≤ length (recordsText rs)
 unfolding recordsText recordText lineText
 longer [] = omega arith
 longer (r ∷ rs) = simp length-append (omega (arith, longer rs))
 
-pub run-length : (g : Bool) (s : List ℕ) → length (runOf g s .records) + length (runOf g s .left) ≤ length s
-run-length g s = omega (arith, longer (runOf g s .records), simp length-append at (ap length (run-whole g s .same)))
+pub line-run-length : (g : Bool) (s : List ℕ) → length (runOf g s .records) + length (runOf g s .left) ≤ length s
+line-run-length g s = omega (arith, longer (runOf g s .records), simp length-append at (ap length (line-run-whole g s .same)))
 
 module _ (s : List ℕ) (a b : ℕ) where
   pub answer-long : mostBytes < length s → Refused LongText ≡ readingOf s a b
@@ -32,13 +32,13 @@ module _ (s : List ℕ) (a b : ℕ) where
   unfolding readingOf judgedReading
   answer-line k h e = rw (le-leb (length s) mostBytes h, e)
 
-pub parsed-first : (s : List ℕ) → headOf s .rest ≡ none → parsed s ≡ misfit 1
+pub parsed-first : (s : List ℕ) → readHead s .rest ≡ none → parsed s ≡ misfit 1
 unfolding parsed bodyOf
 parsed-first s e = rw e
 
 -- t is left behind the first line, m behind the couplers, l behind the gates
-module _ (s t m l : List ℕ) (f : headOf s .rest ≡ some t) (em : m ≡ runOf false t .left) (el : l ≡ runOf true m .left) where
-  ended : parsed s ≡ endOf (headOf s .value) (runOf false t .records) (runOf true m .records) l
+module _ (s t m l : List ℕ) (f : readHead s .rest ≡ some t) (em : m ≡ runOf false t .left) (el : l ≡ runOf true m .left) where
+  ended : parsed s ≡ endOf (readHead s .value) (runOf false t .records) (runOf true m .records) l
   unfolding parsed bodyOf
   ended = rw (el, f, em)
 
@@ -46,11 +46,11 @@ module _ (s t m l : List ℕ) (f : headOf s .rest ≡ some t) (em : m ≡ runOf 
   unfolding endOf
   parsed-misfit h = ended ∙ go l h
     where
-      go : (l : List ℕ) → 0 < length l → endOf (headOf s .value) (runOf false t .records) (runOf true m .records) l ≡ misfit (2 + length (runOf false t .records) + length (runOf true m .records))
+      go : (l : List ℕ) → 0 < length l → endOf (readHead s .value) (runOf false t .records) (runOf true m .records) l ≡ misfit (2 + length (runOf false t .records) + length (runOf true m .records))
       go [] h = absurd (omega arith)
       go (x ∷ l) h = refl
 
-  pub parsed-job : l ≡ [] → parsed s ≡ job (headOf s .value) (runOf false t .records) (runOf true m .records)
+  pub parsed-job : l ≡ [] → parsed s ≡ job (readHead s .value) (runOf false t .records) (runOf true m .records)
   unfolding endOf
   parsed-job e = ended ∙ rw e
 

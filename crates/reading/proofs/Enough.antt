@@ -18,7 +18,8 @@ use Rattle.verdicts.specs.InOrder.{andThen}
 use Rattle.lines.specs.Lines.{digitsIn, digits, fieldsText, lineText, letter, fieldsIn, recordText, recordsText, textOf}
 use Rattle.lines.proofs.Writes.{text-length}
 use Rattle.reading.specs.Limits.{mostBytes}
-use Rattle.reading.specs.Misfit.{Fit, AllFit}
+use Rattle.reading.specs.Misfit.{FitsLine}
+use Rattle.sets.specs.Lists.{All}
 use Rattle.reading.specs.Parsing.{Parsed, misfit, job, parsed}
 use Rattle.reading.specs.Readings.{judgedLines, judgedLists, judgedReading}
 use Rattle.reading.proofs.Runs.{text-parsed}
@@ -57,13 +58,13 @@ module _ (s : List ℕ) (a b : ℕ) (ha : mostBytes < 4 + 6 * (a + 1)) (hb : mos
 -- ---- with less it does
 
 -- k times the same line
-pub same-length : (m k x : ℕ) → length (recordText x) ≡ m → length (recordsText (replicate k x)) ≡ k * m
+pub repeated-length : (m k x : ℕ) → length (recordText x) ≡ m → length (recordsText (replicate k x)) ≡ k * m
 unfolding recordsText
-same-length m zero x e = omega arith
-same-length m (suc k) x e = rw (suc-mul k m) (omega (arith, length-append (recordText x) (recordsText (replicate k x)), same-length m k x e))
+repeated-length m zero x e = omega arith
+repeated-length m (suc k) x e = rw (suc-mul k m) (omega (arith, length-append (recordText x) (recordsText (replicate k x)), repeated-length m k x e))
 
-pub same-fit : (g : Bool) (k x : ℕ) → Fit g x → AllFit g (replicate k x)
-unfolding AllFit
+pub same-fit : (g : Bool) (k x : ℕ) → FitsLine g x → All (FitsLine g) (replicate k x)
+unfolding All
 same-fit g zero x h = tt
 same-fit g (suc k) x h = (h, same-fit g k x h)
 
@@ -75,7 +76,7 @@ module _ (c d : ℕ) where
   least-length : length (leastText c d) ≡ 4 + 6 * c + 4 * d
   unfolding packed kindIn aIn bIn recordText letter fieldsIn lineText fieldsText digits digitsIn
   least-length =
-      omega (arith, text-length 0 (replicate c (packed 0 0 0)) (replicate d (packed 3 0 0)), same-length 6 c (packed 0 0 0) refl, same-length 4 d (packed 3 0 0) refl)
+      omega (arith, text-length 0 (replicate c (packed 0 0 0)) (replicate d (packed 3 0 0)), repeated-length 6 c (packed 0 0 0) refl, repeated-length 4 d (packed 3 0 0) refl)
 
   least-parsed : parsed (leastText c d) ≡ job 0 (replicate c (packed 0 0 0)) (replicate d (packed 3 0 0))
   unfolding packed kindIn bIn

@@ -12,17 +12,18 @@ use borrow.Author.Tests.{ne-eqb, ltb-true, ltb-false}
 use Rattle.sets.specs.Pick.{pick}
 use Rattle.gates.specs.Layout.{kindIn, aIn, bIn}
 use Rattle.lines.specs.Lines.{digits, fieldsText, lineText, letter, fieldsIn, recordText, recordsText, textOf}
-use Rattle.reading.specs.Misfit.{AllFit, JobText, front, NoLf}
-use Rattle.reading.specs.Parsing.{oneOf, headOf}
-use Rattle.spots.proofs.Numbers.{never}
+use Rattle.reading.specs.Misfit.{JobText, firstLines, NoLf, FitsLine}
+use Rattle.sets.specs.Lists.{All}
+use Rattle.reading.specs.Parsing.{readOne, readHead}
+use Rattle.spots.proofs.Numbers.{never-some}
 use Rattle.lines.proofs.Digits.{digits-small, digits-big}
 use Rattle.reading.proofs.Lines.{one-back, one-forth, head-back}
 
 -- ---- a line has one LF, its last byte
 
-plain-append : (xs ys : List ℕ) → NoLf xs → NoLf ys → NoLf (xs ++ ys)
-plain-append [] ys p q = q
-plain-append (x ∷ xs) ys p q = (p .0, plain-append xs ys (p .1) q)
+no-lf-append : (xs ys : List ℕ) → NoLf xs → NoLf ys → NoLf (xs ++ ys)
+no-lf-append [] ys p q = q
+no-lf-append (x ∷ xs) ys p q = (p .0, no-lf-append xs ys (p .1) q)
 
 digits-plain : (f v : ℕ) → v < f → NoLf (digits v)
 digits-plain zero v h = absurd (omega arith)
@@ -32,24 +33,24 @@ digits-plain (suc f) v h = go (ltb v 10) refl (digits-plain f (v / 10))
     go true e ih = rw (digits-small v (ltb-true v 10 e)) ((λ (z : 48 + v ≡ 10). omega arith), tt)
     go false e ih =
         let l : 10 ≤ v = ltb-false v 10 e in
-        rw (digits-big v l) (plain-append (digits (v / 10)) ((48 + v % 10) ∷ []) (ih (omega arith)) ((λ (z : 48 + v % 10 ≡ 10). omega arith), tt))
+        rw (digits-big v l) (no-lf-append (digits (v / 10)) ((48 + v % 10) ∷ []) (ih (omega arith)) ((λ (z : 48 + v % 10 ≡ 10). omega arith), tt))
 
 fields-plain : (vs : List ℕ) → NoLf (fieldsText vs)
 unfolding fieldsText
 fields-plain [] = tt
 fields-plain (v ∷ vs) =
-    plain-append (9 ∷ digits v) (fieldsText vs) ((λ (z : 9 ≡ 10). omega arith), digits-plain (suc v) v (omega arith)) (fields-plain vs)
+    no-lf-append (9 ∷ digits v) (fieldsText vs) ((λ (z : 9 ≡ 10). omega arith), digits-plain (suc v) v (omega arith)) (fields-plain vs)
 
-front-plain : (k : ℕ) (xs t : List ℕ) → NoLf xs → front (suc k) (xs ++ (10 ∷ t)) ≡ xs ++ (10 ∷ front k t)
-unfolding front
+front-plain : (k : ℕ) (xs t : List ℕ) → NoLf xs → firstLines (suc k) (xs ++ (10 ∷ t)) ≡ xs ++ (10 ∷ firstLines k t)
+unfolding firstLines
 front-plain k [] t p = refl
 front-plain k (x ∷ xs) t p = rw (ne-eqb x 10 (p .0)) (ap (λ l. x ∷ l) (front-plain k xs t (p .1)))
 
-line-front : (k l : ℕ) (vs t : List ℕ) → (l ≡ 10 → ⊥) → front (suc k) (lineText l vs ++ t) ≡ lineText l vs ++ front k t
+line-front : (k l : ℕ) (vs t : List ℕ) → (l ≡ 10 → ⊥) → firstLines (suc k) (lineText l vs ++ t) ≡ lineText l vs ++ firstLines k t
 unfolding lineText
 line-front k l vs t h =
-    ap (λ s. front (suc k) (l ∷ s)) (append-assoc (fieldsText vs) (10 ∷ []) t) ∙ front-plain k (l ∷ fieldsText vs) t (h, fields-plain vs)
-    ∙ sym (ap (λ s. l ∷ s) (append-assoc (fieldsText vs) (10 ∷ []) (front k t)))
+    ap (λ s. firstLines (suc k) (l ∷ s)) (append-assoc (fieldsText vs) (10 ∷ []) t) ∙ front-plain k (l ∷ fieldsText vs) t (h, fields-plain vs)
+    ∙ sym (ap (λ s. l ∷ s) (append-assoc (fieldsText vs) (10 ∷ []) (firstLines k t)))
 
 -- what holds a whole line has an LF
 line-ends : (l : ℕ) (vs t : List ℕ) → NoLf (lineText l vs ++ t) → ⊥
@@ -68,43 +69,43 @@ letter-plain (suc (suc zero)) e = let z : _≡_ {A = ℕ} 114 10 = e in omega ar
 letter-plain (suc (suc (suc zero))) e = let z : _≡_ {A = ℕ} 110 10 = e in omega arith
 letter-plain (suc (suc (suc (suc k)))) e = let z : _≡_ {A = ℕ} 104 10 = e in omega arith
 
-record-front : (k x : ℕ) (t : List ℕ) → front (suc k) (recordText x ++ t) ≡ recordText x ++ front k t
+record-front : (k x : ℕ) (t : List ℕ) → firstLines (suc k) (recordText x ++ t) ≡ recordText x ++ firstLines k t
 unfolding recordText
 record-front k x t = line-front k (letter (kindIn x)) (take (fieldsIn (kindIn x)) (aIn x ∷ bIn x ∷ [])) t (letter-plain (kindIn x))
 
-pub front-zero : (t : List ℕ) → front 0 t ≡ []
-unfolding front
+pub front-zero : (t : List ℕ) → firstLines 0 t ≡ []
+unfolding firstLines
 front-zero t = refl
 
-pub records-front : (j : ℕ) (xs t : List ℕ) → front j (recordsText xs ++ t) ≡ recordsText (take j xs) ++ front (j - length xs) t
+pub records-front : (j : ℕ) (xs t : List ℕ) → firstLines j (recordsText xs ++ t) ≡ recordsText (take j xs) ++ firstLines (j - length xs) t
 unfolding recordsText
 records-front zero xs t =
     let z : 0 - length xs ≡ 0 = omega arith in
-    front-zero (recordsText xs ++ t) ∙ sym (ap (λ k. front k t) z ∙ front-zero t)
+    front-zero (recordsText xs ++ t) ∙ sym (ap (λ k. firstLines k t) z ∙ front-zero t)
 records-front (suc j) [] t = let z : suc j - 0 ≡ suc j = omega arith in rw z
 records-front (suc j) (x ∷ xs) t =
     let z : suc j - suc (length xs) ≡ j - length xs = omega arith in
     rw (z, append-assoc) (record-front j x (recordsText xs ++ t) ∙ ap (λ l. recordText x ++ l) (records-front j xs t) ∙ sym (append-assoc (recordText x) (recordsText (take j xs)) _))
 
 pub text-front : (j n : ℕ) (es gs t : List ℕ)
-    → front (suc j) (textOf n es gs ++ t) ≡ textOf n (take j es) (take (j - length es) gs) ++ front (j - length es - length gs) t
+    → firstLines (suc j) (textOf n es gs ++ t) ≡ textOf n (take j es) (take (j - length es) gs) ++ firstLines (j - length es - length gs) t
 unfolding textOf
 text-front j n es gs t =
     let q = lineText 113 (n ∷ []) in
-    ap (front (suc j)) (append-assoc q (recordsText es ++ recordsText gs) t ∙ ap (λ l. q ++ l) (append-assoc (recordsText es) (recordsText gs) t))
+    ap (firstLines (suc j)) (append-assoc q (recordsText es ++ recordsText gs) t ∙ ap (λ l. q ++ l) (append-assoc (recordsText es) (recordsText gs) t))
     ∙ line-front j 113 (n ∷ []) (recordsText es ++ (recordsText gs ++ t)) (λ (z : 113 ≡ 10). omega arith)
     ∙ ap (λ l. q ++ l) (records-front j es (recordsText gs ++ t) ∙ ap (λ l. recordsText (take j es) ++ l) (records-front (j - length es) gs t))
     ∙ sym (append-assoc q _ _ ∙ ap (λ l. q ++ l) (append-assoc (recordsText (take j es)) _ _))
 
 -- ---- the first lines of a job's text
 
-pub fit-take : (g : Bool) (k : ℕ) (xs : List ℕ) → AllFit g xs → AllFit g (take k xs)
-unfolding AllFit
+pub fit-take : (g : Bool) (k : ℕ) (xs : List ℕ) → All (FitsLine g) xs → All (FitsLine g) (take k xs)
+unfolding All
 fit-take g zero xs h = tt
 fit-take g (suc k) [] h = tt
 fit-take g (suc k) (x ∷ xs) h = (h .0, fit-take g k xs (h .1))
 
-pub front-job : (j n : ℕ) (es gs t : List ℕ) → n ≤ 255 → AllFit false es → AllFit true gs → j ≤ length es + length gs → JobText (front (suc j) (textOf n es gs ++ t))
+pub front-job : (j n : ℕ) (es gs t : List ℕ) → n ≤ 255 → All (FitsLine false) es → All (FitsLine true) gs → j ≤ length es + length gs → JobText (firstLines (suc j) (textOf n es gs ++ t))
 front-job j n es gs t h a b l =
     let z : j - length es - length gs ≡ 0 = omega arith in
     record {
@@ -114,16 +115,16 @@ front-job j n es gs t h a b l =
       few = h;
       couplers-fit = fit-take false j es a;
       gates-fit = fit-take true (j - length es) gs b;
-      same = text-front j n es gs t ∙ ap (λ k. textOf n (take j es) (take (j - length es) gs) ++ front k t) z
+      same = text-front j n es gs t ∙ ap (λ k. textOf n (take j es) (take (j - length es) gs) ++ firstLines k t) z
           ∙ ap (λ l. textOf n (take j es) (take (j - length es) gs) ++ l) (front-zero t) ∙ append-nil _;
     }
 
-pub front-nil : (k : ℕ) → front k [] ≡ []
-unfolding front
+pub front-nil : (k : ℕ) → firstLines k [] ≡ []
+unfolding firstLines
 front-nil zero = refl
 front-nil (suc k) = refl
 
-pub job-fronts : (s : List ℕ) (k : ℕ) → JobText s → JobText (front (suc k) s)
+pub job-fronts : (s : List ℕ) (k : ℕ) → JobText s → JobText (firstLines (suc k) s)
 job-fronts s k j =
     let n = j .qubits in
     let es = j .couplers in
@@ -136,11 +137,11 @@ job-fronts s k j =
       few = j .few;
       couplers-fit = fit-take false k es (j .couplers-fit);
       gates-fit = fit-take true (k - length es) gs (j .gates-fit);
-      same = ap (front (suc k)) (j .same ∙ sym (append-nil (textOf n es gs))) ∙ text-front k n es gs [] ∙ ap (λ t. l ++ t) (front-nil _) ∙ append-nil l;
+      same = ap (firstLines (suc k)) (j .same ∙ sym (append-nil (textOf n es gs))) ∙ text-front k n es gs [] ∙ ap (λ t. l ++ t) (front-nil _) ∙ append-nil l;
     }
 
 -- a job's text and one line more
-pub front-more : (n : ℕ) (es gs t : List ℕ) → front (2 + length es + length gs) (textOf n es gs ++ t) ≡ textOf n es gs ++ front 1 t
+pub front-more : (n : ℕ) (es gs t : List ℕ) → firstLines (2 + length es + length gs) (textOf n es gs ++ t) ≡ textOf n es gs ++ firstLines 1 t
 front-more n es gs t =
     let m = 1 + length es + length gs in
     let z : 2 + length es + length gs ≡ suc m = omega arith in
@@ -156,41 +157,41 @@ back zero s = s
 back (suc k) [] = []
 back (suc k) (x ∷ s) = pick (eqb x 10) (back k s) (back (suc k) s)
 
-pub front-back : (k : ℕ) (s : List ℕ) → front k s ++ back k s ≡ s
-unfolding front
+pub front-back : (k : ℕ) (s : List ℕ) → firstLines k s ++ back k s ≡ s
+unfolding firstLines
 front-back zero s = refl
 front-back (suc k) [] = refl
 front-back (suc k) (x ∷ s) = ap (λ l. x ∷ l) (go (eqb x 10) (front-back k s) (front-back (suc k) s))
   where
-    go : (t : Bool) → front k s ++ back k s ≡ s → front (suc k) s ++ back (suc k) s ≡ s
-        → pick t (front k s) (front (suc k) s) ++ pick t (back k s) (back (suc k) s) ≡ s
+    go : (t : Bool) → firstLines k s ++ back k s ≡ s → firstLines (suc k) s ++ back (suc k) s ≡ s
+        → pick t (firstLines k s) (firstLines (suc k) s) ++ pick t (back k s) (back (suc k) s) ≡ s
     go true a b = a
     go false a b = b
 
 -- a line that stands at the front of the first lines stands at the front of the text
-pub front-none : (g : Bool) (k : ℕ) (s : List ℕ) → oneOf g s .rest ≡ none → oneOf g (front k s) .rest ≡ none
-front-none g k s h = go (oneOf g (front k s) .rest) refl
+pub front-none : (g : Bool) (k : ℕ) (s : List ℕ) → readOne g s .rest ≡ none → readOne g (firstLines k s) .rest ≡ none
+front-none g k s h = go (readOne g (firstLines k s) .rest) refl
   where
-    go : (o : Option (List ℕ)) → oneOf g (front k s) .rest ≡ o → o ≡ none
+    go : (o : Option (List ℕ)) → readOne g (firstLines k s) .rest ≡ o → o ≡ none
     go none e = refl
     go (some t) e =
-        let b = one-back g (front k s) t e in
-        let x = oneOf g (front k s) .value in
+        let b = one-back g (firstLines k s) t e in
+        let x = readOne g (firstLines k s) .value in
         let w : s ≡ recordText x ++ (t ++ back k s) = sym (front-back k s) ∙ ap (λ l. l ++ back k s) (b .0) ∙ append-assoc (recordText x) t (back k s) in
-        never (sym h ∙ ap (λ l. oneOf g l .rest) w ∙ ap (λ r. r .rest) (one-forth g x (t ++ back k s) (b .1)))
+        never-some (sym h ∙ ap (λ l. readOne g l .rest) w ∙ ap (λ r. r .rest) (one-forth g x (t ++ back k s) (b .1)))
 
 -- a line without LF is none of a job's
-pub unended-none : (g : Bool) (t : List ℕ) → NoLf t → oneOf g t .rest ≡ none
+pub unended-none : (g : Bool) (t : List ℕ) → NoLf t → readOne g t .rest ≡ none
 unfolding recordText
-unended-none g t h = go (oneOf g t .rest) refl
+unended-none g t h = go (readOne g t .rest) refl
   where
-    go : (o : Option (List ℕ)) → oneOf g t .rest ≡ o → o ≡ none
+    go : (o : Option (List ℕ)) → readOne g t .rest ≡ o → o ≡ none
     go none e = refl
     go (some u) e = absurd (line-ends _ _ u (subst NoLf (one-back g t u e .0) h))
 
-pub unended-head : (t : List ℕ) → NoLf t → headOf t .rest ≡ none
-unended-head t h = go (headOf t .rest) refl
+pub unended-head : (t : List ℕ) → NoLf t → readHead t .rest ≡ none
+unended-head t h = go (readHead t .rest) refl
   where
-    go : (o : Option (List ℕ)) → headOf t .rest ≡ o → o ≡ none
+    go : (o : Option (List ℕ)) → readHead t .rest ≡ o → o ≡ none
     go none e = refl
-    go (some u) e = absurd (line-ends 113 (headOf t .value ∷ []) u (subst NoLf (head-back t u e .0) h))
+    go (some u) e = absurd (line-ends 113 (readHead t .value ∷ []) u (subst NoLf (head-back t u e .0) h))

@@ -62,14 +62,14 @@ module _ (s : List ℕ) (room : ℕ) where
 -- ---- from the answers to what was found
 
 -- the answer by the tests: the text is short enough, what was found, the list is long enough
-abbrev answerBy : Bool → Parsed → Bool → Reading
+abbrev pub answerBy : Bool → Parsed → Bool → Reading
 answerBy t p u =
     let v = andThen (pick t Accepted LongText) (andThen (judgedLines p) (pick u Accepted Room)) in
     pick (eqb (numberOf v) 0) (Read (jobIn p)) (Refused v)
 
 -- the answers differ
-apart : {B : Type 0} {j : Job} {v : Verdict} → Refused v ≡ Read j → B
-apart e = let z : _≡_ {A = ℕ} 0 1 = cc e in absurd (omega arith)
+pub read-refused : {B : Type 0} {j : Job} {v : Verdict} → Refused v ≡ Read j → B
+read-refused e = let z : _≡_ {A = ℕ} 0 1 = cc e in absurd (omega arith)
 
 pub listed-job : (s : List ℕ) (room : ℕ) (j : Job) → couplersReading s room ≡ Read j → parsedCouplers s ≡ job 0 (couplersIn (parsedCouplers s)) []
 unfolding couplersReading judgedCouplersText
@@ -77,16 +77,16 @@ listed-job s room j e = go (leb (length s) mostBytes) (parsedCouplers s) (leb (l
   where
     go : (t : Bool) (p : Parsed) (u : Bool) → parsedCouplers s ≡ p → answerBy t p u ≡ Read j → p ≡ job 0 (couplersIn p) []
     go true (job n es gs) true q e = let f = couplers-found s n es gs q in ap₂ (λ k l. job k es l) (f .no-qubits) (f .no-gates)
-    go true (job n es gs) false q e = apart e
-    go true (misfit k) u q e = apart e
-    go false p u q e = apart e
+    go true (job n es gs) false q e = read-refused e
+    go true (misfit k) u q e = read-refused e
+    go false p u q e = read-refused e
 
 pub listed-line : (s : List ℕ) (room k : ℕ) → couplersReading s room ≡ Refused (Line k) → parsedCouplers s ≡ misfit k
 unfolding couplersReading judgedCouplersText
 listed-line s room k e = go (leb (length s) mostBytes) (parsedCouplers s) (leb (length (couplersIn (parsedCouplers s))) room) e
   where
     go : (t : Bool) (p : Parsed) (u : Bool) → answerBy t p u ≡ Refused (Line k) → p ≡ misfit k
-    go true (job n es gs) true e = apart (sym e)
+    go true (job n es gs) true e = read-refused (sym e)
     go true (job n es gs) false e = let z : _≡_ {A = ℕ} 0 1 = cc e in absurd (omega arith)
     go true (misfit i) u e = let z : i ≡ k = cc e in ap misfit z
     go false p u e = let z : _≡_ {A = ℕ} 0 1 = cc e in absurd (omega arith)

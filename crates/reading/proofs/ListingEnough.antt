@@ -16,15 +16,15 @@ use Rattle.verdicts.specs.InOrder.{andThen}
 use Rattle.lines.specs.Lines.{digitsIn, digits, fieldsText, lineText, letter, fieldsIn, recordText, recordsText}
 use Rattle.reading.specs.Limits.{mostBytes}
 use Rattle.reading.specs.Parsing.{Parsed, misfit, job}
-use Rattle.reading.specs.Readings.{judgedLines}
-use Rattle.reading.specs.Listing.{parsedCouplers, judgedPlaces, judgedCouplersText}
+use Rattle.reading.specs.Readings.{judgedLines, couplersIn, judgedPlaces}
+use Rattle.reading.specs.Listing.{parsedCouplers, judgedCouplersText}
 use Rattle.reading.proofs.Sizes.{couplers-least}
 use Rattle.reading.proofs.Listings.{couplers-found, couplers-parsed}
-use Rattle.reading.proofs.Enough.{same-length, same-fit}
+use Rattle.reading.proofs.Enough.{repeated-length, same-fit}
 
 -- one more line would make the text too long
 module _ (s : List ℕ) (room : ℕ) (h : mostBytes < 6 * (room + 1)) where
-  within : length s ≤ mostBytes → (p : Parsed) → parsedCouplers s ≡ p → numberOf (andThen (judgedLines p) (judgedPlaces p room)) ≢ 8
+  within : length s ≤ mostBytes → (p : Parsed) → parsedCouplers s ≡ p → numberOf (andThen (judgedLines p) (judgedPlaces (length (couplersIn p)) room)) ≢ 8
   within l (misfit k) e z = let y : _≡_ {A = ℕ} 10 8 = z in omega arith
   within l (job n es gs) e z =
       let f = couplers-found s n es gs e in
@@ -36,7 +36,7 @@ module _ (s : List ℕ) (room : ℕ) (h : mostBytes < 6 * (room + 1)) where
   unfolding judgedCouplersText
   listing-never-8 z = go (leb (length s) mostBytes) refl z
     where
-      go : (t : Bool) → leb (length s) mostBytes ≡ t → numberOf (andThen (pick t Accepted LongText) (andThen (judgedLines (parsedCouplers s)) (judgedPlaces (parsedCouplers s) room))) ≢ 8
+      go : (t : Bool) → leb (length s) mostBytes ≡ t → numberOf (andThen (pick t Accepted LongText) (andThen (judgedLines (parsedCouplers s)) (judgedPlaces (length (couplersIn (parsedCouplers s))) room))) ≢ 8
       go true e z = within (leb-true (length s) mostBytes e) (parsedCouplers s) refl z
       go false e z = let y : _≡_ {A = ℕ} 11 8 = z in omega arith
 
@@ -49,6 +49,6 @@ leastCouplers c = recordsText (replicate c (packed 0 0 0))
 pub listing-8 : (c room : ℕ) → 6 * c ≤ mostBytes → room < c → numberOf (judgedCouplersText (leastCouplers c) room) ≡ 8
 unfolding judgedCouplersText packed kindIn aIn bIn recordText letter fieldsIn lineText fieldsText digits digitsIn
 listing-8 c room h more =
-    let l : length (leastCouplers c) ≡ c * 6 = same-length 6 c (packed 0 0 0) refl in
+    let l : length (leastCouplers c) ≡ c * 6 = repeated-length 6 c (packed 0 0 0) refl in
     let p : parsedCouplers (leastCouplers c) ≡ job 0 (replicate c (packed 0 0 0)) [] = couplers-parsed _ (record { couplers = replicate c (packed 0 0 0); fit = same-fit false c (packed 0 0 0) refl; same = refl }) in
     rw (le-leb (length (leastCouplers c)) mostBytes (omega (arith, l)), p, length-replicate c (packed 0 0 0), lt-leb c room more)

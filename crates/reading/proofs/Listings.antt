@@ -8,35 +8,36 @@ use native.Mathlib.Omega.{arith}
 use lib.ListN.{length, take}
 use lib.Seq.{take-all}
 use Rattle.lines.specs.Lines.{recordsText}
-use Rattle.reading.specs.Misfit.{AllFit, front}
-use Rattle.reading.specs.Parsing.{runOf, oneOf, Parsed, misfit, job}
+use Rattle.reading.specs.Misfit.{firstLines, FitsLine}
+use Rattle.sets.specs.Lists.{All}
+use Rattle.reading.specs.Parsing.{runOf, readOne, Parsed, misfit, job}
 use Rattle.reading.specs.Listing.{CouplersText, MisfitCoupler, endCouplers, parsedCouplers}
 use Rattle.reading.proofs.Lines.{one-nil}
-use Rattle.reading.proofs.Runs.{run-whole, run-forth}
+use Rattle.reading.proofs.Runs.{line-run-whole, run-forth}
 use Rattle.reading.proofs.Fronts.{front-zero, front-nil, records-front, fit-take, front-none}
 use Rattle.reading.proofs.Misfits.{two, first-once}
 
 -- ---- from the parsing to what the text is
 
 -- couplers that were found: there are no qubits and no gates beside them
-pub record Listed (s : List ℕ) (n : ℕ) (es gs : List ℕ) : Type 0 where
+pub record FoundCouplers (s : List ℕ) (n : ℕ) (es gs : List ℕ) : Type 0 where
   pub same : s ≡ recordsText es
-  pub fit : AllFit false es
+  pub fit : All (FitsLine false) es
   pub no-qubits : n ≡ 0
   pub no-gates : gs ≡ []
 
-pub couplers-found : (s : List ℕ) (n : ℕ) (es gs : List ℕ) → parsedCouplers s ≡ job n es gs → Listed s n es gs
+pub couplers-found : (s : List ℕ) (n : ℕ) (es gs : List ℕ) → parsedCouplers s ≡ job n es gs → FoundCouplers s n es gs
 unfolding parsedCouplers endCouplers
-couplers-found s n es gs e = let w = run-whole false s in go (runOf false s .records) (runOf false s .left) (w .same) (w .fit) e
+couplers-found s n es gs e = let w = line-run-whole false s in go (runOf false s .records) (runOf false s .left) (w .same) (w .fit) e
   where
-    go : (cs l : List ℕ) → s ≡ recordsText cs ++ l → AllFit false cs → endCouplers cs l ≡ job n es gs → Listed s n es gs
+    go : (cs l : List ℕ) → s ≡ recordsText cs ++ l → All (FitsLine false) cs → endCouplers cs l ≡ job n es gs → FoundCouplers s n es gs
     go cs [] w f e =
         let q : cs ≡ es = cc e in
-        subst (λ cs. Listed s n cs gs) q (record { same = w ∙ append-nil (recordsText cs); fit = f; no-qubits = cc e; no-gates = cc e })
+        subst (λ cs. FoundCouplers s n cs gs) q (record { same = w ∙ append-nil (recordsText cs); fit = f; no-qubits = cc e; no-gates = cc e })
     go cs (x ∷ l) w f e = two e
 
 -- behind couplers stands t, where no line of a coupler stands
-pub couplers-forth : (es t : List ℕ) → AllFit false es → oneOf false t .rest ≡ none → parsedCouplers (recordsText es ++ t) ≡ endCouplers es t
+pub couplers-forth : (es t : List ℕ) → All (FitsLine false) es → readOne false t .rest ≡ none → parsedCouplers (recordsText es ++ t) ≡ endCouplers es t
 unfolding parsedCouplers
 couplers-forth es t f h = rw (run-forth false es t f h)
 
@@ -47,26 +48,26 @@ couplers-parsed s c =
 
 -- ---- the first lines
 
-front-couplers : (j : ℕ) (es t : List ℕ) → AllFit false es → j ≤ length es → CouplersText (front j (recordsText es ++ t))
+front-couplers : (j : ℕ) (es t : List ℕ) → All (FitsLine false) es → j ≤ length es → CouplersText (firstLines j (recordsText es ++ t))
 front-couplers j es t f l =
     let z : j - length es ≡ 0 = omega arith in
     record {
       couplers = take j es;
       fit = fit-take false j es f;
-      same = records-front j es t ∙ ap (λ k. recordsText (take j es) ++ front k t) z ∙ ap (λ l. recordsText (take j es) ++ l) (front-zero t) ∙ append-nil _;
+      same = records-front j es t ∙ ap (λ k. recordsText (take j es) ++ firstLines k t) z ∙ ap (λ l. recordsText (take j es) ++ l) (front-zero t) ∙ append-nil _;
     }
 
-couplers-fronts : (s : List ℕ) (k : ℕ) → CouplersText s → CouplersText (front k s)
+couplers-fronts : (s : List ℕ) (k : ℕ) → CouplersText s → CouplersText (firstLines k s)
 couplers-fronts s k c =
     let l = recordsText (take k (c .couplers)) in
     record {
       couplers = take k (c .couplers);
       fit = fit-take false k (c .couplers) (c .fit);
-      same = ap (front k) (c .same ∙ sym (append-nil (recordsText (c .couplers)))) ∙ records-front k (c .couplers) [] ∙ ap (λ t. l ++ t) (front-nil _) ∙ append-nil l;
+      same = ap (firstLines k) (c .same ∙ sym (append-nil (recordsText (c .couplers)))) ∙ records-front k (c .couplers) [] ∙ ap (λ t. l ++ t) (front-nil _) ∙ append-nil l;
     }
 
 -- couplers and one line more
-front-further : (es t : List ℕ) → front (1 + length es) (recordsText es ++ t) ≡ recordsText es ++ front 1 t
+front-further : (es t : List ℕ) → firstLines (1 + length es) (recordsText es ++ t) ≡ recordsText es ++ firstLines 1 t
 front-further es t =
     let m = 1 + length es in
     let e : take m es ≡ es = take-all m es (omega arith) in
@@ -76,24 +77,24 @@ front-further es t =
 -- ---- the line that is refused
 
 -- what is left behind the couplers begins with a line of another sort
-coupler-misfit : (s es : List ℕ) (x : ℕ) (t : List ℕ) → s ≡ recordsText es ++ (x ∷ t) → AllFit false es → oneOf false (x ∷ t) .rest ≡ none → MisfitCoupler s (1 + length es)
-unfolding endCouplers front
+coupler-misfit : (s es : List ℕ) (x : ℕ) (t : List ℕ) → s ≡ recordsText es ++ (x ∷ t) → All (FitsLine false) es → readOne false (x ∷ t) .rest ≡ none → MisfitCoupler s (1 + length es)
+unfolding endCouplers firstLines
 coupler-misfit s es x t same fit stop = record { counted = omega arith; before = before; here = here }
   where
-    before : (j : ℕ) → j < 1 + length es → CouplersText (front j s)
-    before j b = subst (λ l. CouplersText (front j l)) (sym same) (front-couplers j es (x ∷ t) fit (omega arith))
+    before : (j : ℕ) → j < 1 + length es → CouplersText (firstLines j s)
+    before j b = subst (λ l. CouplersText (firstLines j l)) (sym same) (front-couplers j es (x ∷ t) fit (omega arith))
 
-    here : CouplersText (front (1 + length es) s) → ⊥
+    here : CouplersText (firstLines (1 + length es) s) → ⊥
     here c =
-        let w : front (1 + length es) s ≡ recordsText es ++ front 1 (x ∷ t) = ap (front (1 + length es)) same ∙ front-further es (x ∷ t) in
-        let p : parsedCouplers (recordsText es ++ front 1 (x ∷ t)) ≡ endCouplers es (front 1 (x ∷ t)) = couplers-forth es (front 1 (x ∷ t)) fit (front-none false 1 (x ∷ t) stop) in
+        let w : firstLines (1 + length es) s ≡ recordsText es ++ firstLines 1 (x ∷ t) = ap (firstLines (1 + length es)) same ∙ front-further es (x ∷ t) in
+        let p : parsedCouplers (recordsText es ++ firstLines 1 (x ∷ t)) ≡ endCouplers es (firstLines 1 (x ∷ t)) = couplers-forth es (firstLines 1 (x ∷ t)) fit (front-none false 1 (x ∷ t) stop) in
         two (sym p ∙ ap parsedCouplers (sym w) ∙ couplers-parsed _ c)
 
 pub coupler-misfit-first : (s : List ℕ) (k : ℕ) → parsedCouplers s ≡ misfit k → MisfitCoupler s k
 unfolding parsedCouplers endCouplers
-coupler-misfit-first s k e = let w = run-whole false s in go (runOf false s .records) (runOf false s .left) (w .same) (w .fit) (w .stop) e
+coupler-misfit-first s k e = let w = line-run-whole false s in go (runOf false s .records) (runOf false s .left) (w .same) (w .fit) (w .stop) e
   where
-    go : (cs l : List ℕ) → s ≡ recordsText cs ++ l → AllFit false cs → oneOf false l .rest ≡ none → endCouplers cs l ≡ misfit k → MisfitCoupler s k
+    go : (cs l : List ℕ) → s ≡ recordsText cs ++ l → All (FitsLine false) cs → readOne false l .rest ≡ none → endCouplers cs l ≡ misfit k → MisfitCoupler s k
     go cs [] w f h e = two (sym e)
     go cs (x ∷ l) w f h e = let z : 1 + length cs ≡ k = cc e in subst (MisfitCoupler s) z (coupler-misfit s cs x l w f h)
 
@@ -103,7 +104,7 @@ pub coupler-misfit-parsed : (s : List ℕ) (k : ℕ) → MisfitCoupler s k → p
 coupler-misfit-parsed s k m = go (parsedCouplers s) refl
   where
     once : (j : ℕ) → MisfitCoupler s j → j ≡ k
-    once j a = first-once (λ i. CouplersText (front i s)) j k (a .here) (m .here) (m .before j) (a .before k)
+    once j a = first-once (λ i. CouplersText (firstLines i s)) j k (a .here) (m .here) (m .before j) (a .before k)
 
     go : (p : Parsed) → parsedCouplers s ≡ p → p ≡ misfit k
     go (misfit j) e = ap misfit (once j (coupler-misfit-first s j e))

@@ -8,88 +8,89 @@ use native.Mathlib.Omega.{arith}
 use lib.ListN.{length}
 use Rattle.reading.specs.Limits.{mostFirst}
 use Rattle.lines.specs.Lines.{lineText, recordText, recordsText, textOf}
-use Rattle.reading.specs.Misfit.{AllFit}
-use Rattle.reading.specs.Parsing.{Run, oneOf, runIn, runOf, headOf, job, endOf, bodyOf, parsed}
+use Rattle.reading.specs.Misfit.{FitsLine}
+use Rattle.sets.specs.Lists.{All}
+use Rattle.reading.specs.Parsing.{Run, readOne, runIn, runOf, readHead, job, endOf, bodyOf, parsed}
 use Rattle.reading.proofs.Lines.{one-back, one-short, one-forth, one-nil, gate-none, head-forth, head-back}
 
-run-fuel : (f k : ℕ) (g : Bool) (s : List ℕ) → length s ≤ f → length s ≤ k → runIn f g s ≡ runIn k g s
+line-run-fuel : (f k : ℕ) (g : Bool) (s : List ℕ) → length s ≤ f → length s ≤ k → runIn f g s ≡ runIn k g s
 unfolding runIn
-run-fuel zero zero g s a b = refl
-run-fuel zero (suc k) g [] a b = rw (runIn, one-nil g)
-run-fuel zero (suc k) g (x ∷ s) a b = absurd (omega arith)
-run-fuel (suc f) zero g [] a b = rw (runIn, one-nil g)
-run-fuel (suc f) zero g (x ∷ s) a b = absurd (omega arith)
-run-fuel (suc f) (suc k) g s a b = go (oneOf g s .rest) refl (run-fuel f k g)
+line-run-fuel zero zero g s a b = refl
+line-run-fuel zero (suc k) g [] a b = rw (runIn, one-nil g)
+line-run-fuel zero (suc k) g (x ∷ s) a b = absurd (omega arith)
+line-run-fuel (suc f) zero g [] a b = rw (runIn, one-nil g)
+line-run-fuel (suc f) zero g (x ∷ s) a b = absurd (omega arith)
+line-run-fuel (suc f) (suc k) g s a b = go (readOne g s .rest) refl (line-run-fuel f k g)
   where
-    go : (o : Option (List ℕ)) → oneOf g s .rest ≡ o → ((t : List ℕ) → length t ≤ f → length t ≤ k → runIn f g t ≡ runIn k g t) → runIn (suc f) g s ≡ runIn (suc k) g s
+    go : (o : Option (List ℕ)) → readOne g s .rest ≡ o → ((t : List ℕ) → length t ≤ f → length t ≤ k → runIn f g t ≡ runIn k g t) → runIn (suc f) g s ≡ runIn (suc k) g s
     go none e ih = rw (runIn, e)
     go (some t) e ih =
         let h : length t < length s = one-short g s t e in
         rw (runIn, e, ih t (omega arith) (omega arith))
 
-pub run-none : (g : Bool) (s : List ℕ) → oneOf g s .rest ≡ none → runOf g s ≡ record { records = []; left = s }
+pub line-run-none : (g : Bool) (s : List ℕ) → readOne g s .rest ≡ none → runOf g s ≡ record { records = []; left = s }
 unfolding runOf runIn
-run-none g [] e = refl
-run-none g (x ∷ s) e = rw (runIn, e)
+line-run-none g [] e = refl
+line-run-none g (x ∷ s) e = rw (runIn, e)
 
-pub run-some : (g : Bool) (s t : List ℕ) → oneOf g s .rest ≡ some t → runOf g s ≡ record { records = oneOf g s .value ∷ runOf g t .records; left = runOf g t .left }
+pub line-run-some : (g : Bool) (s t : List ℕ) → readOne g s .rest ≡ some t → runOf g s ≡ record { records = readOne g s .value ∷ runOf g t .records; left = runOf g t .left }
 unfolding runOf runIn
-run-some g [] t e = absurd (omega (arith, one-short g [] t e))
-run-some g (x ∷ s) t e =
+line-run-some g [] t e = absurd (omega (arith, one-short g [] t e))
+line-run-some g (x ∷ s) t e =
     let h : length t < length (x ∷ s) = one-short g (x ∷ s) t e in
-    rw (runIn, e, run-fuel (length s) (length t) g t (omega arith) (omega arith))
+    rw (runIn, e, line-run-fuel (length s) (length t) g t (omega arith) (omega arith))
 
 -- a run is written as it was read, and no line of its sort stands behind it
-pub record Whole (g : Bool) (s : List ℕ) (r : Run) : Type 0 where
+pub record WholeRun (g : Bool) (s : List ℕ) (r : Run) : Type 0 where
   pub same : s ≡ recordsText (r .records) ++ r .left
-  pub fit : AllFit g (r .records)
-  pub stop : oneOf g (r .left) .rest ≡ none
+  pub fit : All (FitsLine g) (r .records)
+  pub stop : readOne g (r .left) .rest ≡ none
 
-run-back : (f : ℕ) (g : Bool) (s : List ℕ) → length s ≤ f → Whole g s (runIn f g s)
-unfolding runIn recordsText AllFit
+run-back : (f : ℕ) (g : Bool) (s : List ℕ) → length s ≤ f → WholeRun g s (runIn f g s)
+unfolding runIn recordsText All
 run-back zero g [] h = record { same = refl; fit = tt; stop = one-nil g }
 run-back zero g (x ∷ s) h = absurd (omega arith)
-run-back (suc f) g s h = go (oneOf g s .rest) refl (run-back f g)
+run-back (suc f) g s h = go (readOne g s .rest) refl (run-back f g)
   where
-    go : (o : Option (List ℕ)) → oneOf g s .rest ≡ o → ((t : List ℕ) → length t ≤ f → Whole g t (runIn f g t)) → Whole g s (runIn (suc f) g s)
+    go : (o : Option (List ℕ)) → readOne g s .rest ≡ o → ((t : List ℕ) → length t ≤ f → WholeRun g t (runIn f g t)) → WholeRun g s (runIn (suc f) g s)
     go none e ih = rw (runIn, e) (record { same = refl; fit = tt; stop = e })
     go (some t) e ih =
         let b = one-back g s t e in
         let w = ih t (omega (arith, one-short g s t e)) in
         rw (runIn, e) (record {
-          same = b .0 ∙ ap (λ l. recordText (oneOf g s .value) ++ l) (w .same) ∙ sym (append-assoc (recordText (oneOf g s .value)) _ _);
+          same = b .0 ∙ ap (λ l. recordText (readOne g s .value) ++ l) (w .same) ∙ sym (append-assoc (recordText (readOne g s .value)) _ _);
           fit = (b .1, w .fit);
           stop = w .stop;
         })
 
-pub run-whole : (g : Bool) (s : List ℕ) → Whole g s (runOf g s)
+pub line-run-whole : (g : Bool) (s : List ℕ) → WholeRun g s (runOf g s)
 unfolding runOf
-run-whole g s = run-back (length s) g s (omega arith)
+line-run-whole g s = run-back (length s) g s (omega arith)
 
-pub run-forth : (g : Bool) (rs t : List ℕ) → AllFit g rs → oneOf g t .rest ≡ none → runOf g (recordsText rs ++ t) ≡ record { records = rs; left = t }
-unfolding recordsText AllFit
-run-forth g [] t h e = run-none g t e
+pub run-forth : (g : Bool) (rs t : List ℕ) → All (FitsLine g) rs → readOne g t .rest ≡ none → runOf g (recordsText rs ++ t) ≡ record { records = rs; left = t }
+unfolding recordsText All
+run-forth g [] t h e = line-run-none g t e
 run-forth g (r ∷ rs) t h e =
-    let o : oneOf g (recordText r ++ (recordsText rs ++ t)) ≡ record { value = r; rest = some (recordsText rs ++ t) } = one-forth g r (recordsText rs ++ t) (h .0) in
-    rw append-assoc (run-some g (recordText r ++ (recordsText rs ++ t)) (recordsText rs ++ t) (ap (λ x. x .rest) o) ∙ rw (o, run-forth g rs t (h .1) e))
+    let o : readOne g (recordText r ++ (recordsText rs ++ t)) ≡ record { value = r; rest = some (recordsText rs ++ t) } = one-forth g r (recordsText rs ++ t) (h .0) in
+    rw append-assoc (line-run-some g (recordText r ++ (recordsText rs ++ t)) (recordsText rs ++ t) (ap (λ x. x .rest) o) ∙ rw (o, run-forth g rs t (h .1) e))
 
 -- ---- the two laws
 
 -- no coupler's line stands before gates
-gates-none : (gs t : List ℕ) → AllFit true gs → (gs ≡ [] → oneOf false t .rest ≡ none) → oneOf false (recordsText gs ++ t) .rest ≡ none
-unfolding recordsText AllFit
+gates-none : (gs t : List ℕ) → All (FitsLine true) gs → (gs ≡ [] → readOne false t .rest ≡ none) → readOne false (recordsText gs ++ t) .rest ≡ none
+unfolding recordsText All
 gates-none [] t h e = e refl
 gates-none (x ∷ gs) t h e = rw append-assoc (gate-none x (recordsText gs ++ t) (h .0))
 
 -- behind a job's text stands t, where no line of a coupler or a gate stands
-pub parsed-forth : (n : ℕ) (es gs t : List ℕ) → n ≤ mostFirst → AllFit false es → AllFit true gs → (gs ≡ [] → oneOf false t .rest ≡ none) → oneOf true t .rest ≡ none
+pub parsed-forth : (n : ℕ) (es gs t : List ℕ) → n ≤ mostFirst → All (FitsLine false) es → All (FitsLine true) gs → (gs ≡ [] → readOne false t .rest ≡ none) → readOne true t .rest ≡ none
     → parsed (textOf n es gs ++ t) ≡ endOf n es gs t
 unfolding parsed bodyOf textOf
 parsed-forth n es gs t h a b p q =
     let e : (lineText 113 (n ∷ []) ++ (recordsText es ++ recordsText gs)) ++ t ≡ lineText 113 (n ∷ []) ++ (recordsText es ++ (recordsText gs ++ t)) = simp append-assoc in
     rw (e, head-forth n (recordsText es ++ (recordsText gs ++ t)) h, run-forth false es (recordsText gs ++ t) a (gates-none gs t b p), run-forth true gs t b q)
 
-pub text-parsed : (n : ℕ) (es gs : List ℕ) → n ≤ mostFirst → AllFit false es → AllFit true gs → parsed (textOf n es gs) ≡ job n es gs
+pub text-parsed : (n : ℕ) (es gs : List ℕ) → n ≤ mostFirst → All (FitsLine false) es → All (FitsLine true) gs → parsed (textOf n es gs) ≡ job n es gs
 unfolding endOf
 text-parsed n es gs h a b = ap parsed (sym (append-nil (textOf n es gs))) ∙ parsed-forth n es gs [] h a b (λ _. one-nil false) (one-nil true)
 
@@ -97,20 +98,20 @@ text-parsed n es gs h a b = ap parsed (sym (append-nil (textOf n es gs))) ∙ pa
 pub record Taken (s : List ℕ) (n : ℕ) (es gs t : List ℕ) : Type 0 where
   pub same : s ≡ textOf n es gs ++ t
   pub few : n ≤ mostFirst
-  pub couplers : AllFit false es
-  pub gates : AllFit true gs
-  pub stop : oneOf true t .rest ≡ none
-  pub stop-coupler : gs ≡ [] → oneOf false t .rest ≡ none
+  pub couplers : All (FitsLine false) es
+  pub gates : All (FitsLine true) gs
+  pub stop : readOne true t .rest ≡ none
+  pub stop-coupler : gs ≡ [] → readOne false t .rest ≡ none
 
-pub taken : (s t : List ℕ) → headOf s .rest ≡ some t
-    → Taken s (headOf s .value) (runOf false t .records) (runOf true (runOf false t .left) .records) (runOf true (runOf false t .left) .left)
+pub taken : (s t : List ℕ) → readHead s .rest ≡ some t
+    → Taken s (readHead s .value) (runOf false t .records) (runOf true (runOf false t .left) .records) (runOf true (runOf false t .left) .left)
 unfolding textOf recordsText
 taken s t e =
     let h = head-back s t e in
-    let c = run-whole false t in
+    let c = line-run-whole false t in
     let m = runOf false t .left in
-    let g = run-whole true m in
-    let n = headOf s .value in
+    let g = line-run-whole true m in
+    let n = readHead s .value in
     record {
       same =
           h .0
@@ -120,7 +121,7 @@ taken s t e =
       couplers = c .fit;
       gates = g .fit;
       stop = g .stop;
-      stop-coupler = λ z. ap (λ l. oneOf false l .rest) (sym (g .same ∙ none-left z)) ∙ c .stop;
+      stop-coupler = λ z. ap (λ l. readOne false l .rest) (sym (g .same ∙ none-left z)) ∙ c .stop;
     }
   where
     none-left : runOf true (runOf false t .left) .records ≡ []

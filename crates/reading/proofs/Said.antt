@@ -18,17 +18,17 @@ use Rattle.reading.specs.declared.read.Reading.the-variants.{Read, Refus
 
 -- an answer is i where the verdict accepts, and else its refusal
 module _ (verdict : Verdict) (i : Job) where
-  abbrev pub answerOf : Reading
-  answerOf = pick (eqb (numberOf verdict) 0) (Read i) (Refused verdict)
+  abbrev pub answerFor : Reading
+  answerFor = pick (eqb (numberOf verdict) 0) (Read i) (Refused verdict)
 
-  pub answered-read : (j : Job) → answerOf ≡ Read j → (numberOf verdict ≡ 0) × (j ≡ i)
+  pub answered-read : (j : Job) → answerFor ≡ Read j → (numberOf verdict ≡ 0) × (j ≡ i)
   answered-read j e = go (eqb (numberOf verdict) 0) refl e
     where
       go : (t : Bool) → eqb (numberOf verdict) 0 ≡ t → pick t (Read i) (Refused verdict) ≡ Read j → (numberOf verdict ≡ 0) × (j ≡ i)
       go true q e = (eqb-true (numberOf verdict) 0 q, cc e)
       go false q e = let z : _≡_ {A = ℕ} 0 1 = cc e in absurd (omega arith)
 
-  pub answered-refused : (v : Verdict) → answerOf ≡ Refused v → (numberOf verdict ≡ 0 → ⊥) × (v ≡ verdict)
+  pub answered-refused : (v : Verdict) → answerFor ≡ Refused v → (numberOf verdict ≡ 0 → ⊥) × (v ≡ verdict)
   answered-refused v e = go (eqb (numberOf verdict) 0) refl e
     where
       go : (t : Bool) → eqb (numberOf verdict) 0 ≡ t → pick t (Read i) (Refused verdict) ≡ Refused v → (numberOf verdict ≡ 0 → ⊥) × (v ≡ verdict)
@@ -43,9 +43,9 @@ module _ (s : List ℕ) (a b : ℕ) where
   unfolding readingOf
   read-says j e = answered-read verdict (jobIn (parsed s)) j e
 
-  pub refused-says : (v : Verdict) → readingOf s a b ≡ Refused v → (numberOf verdict ≡ 0 → ⊥) × (v ≡ verdict)
+  pub unread-says : (v : Verdict) → readingOf s a b ≡ Refused v → (numberOf verdict ≡ 0 → ⊥) × (v ≡ verdict)
   unfolding readingOf
-  refused-says v e = answered-refused verdict (jobIn (parsed s)) v e
+  unread-says v e = answered-refused verdict (jobIn (parsed s)) v e
 
 module _ (s : List ℕ) (room : ℕ) where
   pub listed-says : (j : Job) → couplersReading s room ≡ Read j → (numberOf (judgedCouplersText s room) ≡ 0) × (j ≡ jobIn (parsedCouplers s))

@@ -12,7 +12,8 @@ use Rattle.lines.specs.Lines.{digits, fieldsText, lineText, letter, recordText,
 use Rattle.lines.proofs.Layouts.{a-lt, b-lt}
 use Rattle.lines.proofs.Writes.{width-least, width-most, line-length, record-two, record-one, text-length}
 use Rattle.reading.specs.Limits.{mostFirst}
-use Rattle.reading.specs.Misfit.{Fit, AllFit}
+use Rattle.reading.specs.Misfit.{FitsLine}
+use Rattle.sets.specs.Lists.{All}
 
 -- ---- lines of one, two and three numbers
 
@@ -43,7 +44,7 @@ module _ (x : ℕ) where
   width-one h = ap length (record-one x h) ∙ line-one (letter (kindIn x)) (aIn x)
 
   -- as in `e 0 1`
-  coupler-least : Fit false x → 6 ≤ length (recordText x)
+  coupler-least : FitsLine false x → 6 ≤ length (recordText x)
   coupler-least h = omega (arith, width-two (omega (arith, h)), width-least (aIn x), width-least (bIn x))
 
   -- as in `n 0`, and in `r 255 65535`
@@ -62,8 +63,8 @@ module _ (x : ℕ) where
 
 -- ---- a text
 
-pub couplers-least : (xs : List ℕ) → AllFit false xs → 6 * length xs ≤ length (recordsText xs)
-unfolding recordsText AllFit
+pub couplers-least : (xs : List ℕ) → All (FitsLine false) xs → 6 * length xs ≤ length (recordsText xs)
+unfolding recordsText All
 couplers-least [] h = omega arith
 couplers-least (x ∷ xs) h = omega (arith, length-append (recordText x) (recordsText xs), coupler-least x (h .0), couplers-least xs (h .1))
 
@@ -78,7 +79,7 @@ records-most [] = omega arith
 records-most (x ∷ xs) = omega (arith, length-append (recordText x) (recordsText xs), record-sizes x .1, records-most xs)
 
 -- 4 bytes for the `q` line, 6 for each coupler and 4 for each gate, as in `q 1`, `e 0 1` and `n 0`
-pub text-least : (n : ℕ) (es gs : List ℕ) → AllFit false es → 4 + 6 * length es + 4 * length gs ≤ length (textOf n es gs)
+pub text-least : (n : ℕ) (es gs : List ℕ) → All (FitsLine false) es → 4 + 6 * length es + 4 * length gs ≤ length (textOf n es gs)
 text-least n es gs h = omega (arith, text-length n es gs, line-one 113 n, width-least n, couplers-least es h, records-least gs)
 
 -- 6 bytes for the `q` line and 12 for each other line, as in `q 255` and `r 255 65535`

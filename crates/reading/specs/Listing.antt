@@ -3,17 +3,17 @@ use mathlib.Core.Path.{_≡_}
 use mathlib.Core.Bool.{false}
 use mathlib.Core.List.{List, [], _∷_}
 use Prim.Native.Nat.{ℕ, _+_, _≤_, _<_}
-use lib.Dec.{leb, eqb}
+use lib.Dec.{eqb}
 use lib.ListN.{length}
 use Rattle.sets.specs.Pick.{pick}
 use Rattle.verdicts.specs.declared.verdict.Verdict.{Verdict}
-use Rattle.verdicts.specs.declared.verdict.Verdict.the-variants.{Accepted, Room}
 use Rattle.verdicts.specs.Verdicts.{numberOf}
 use Rattle.verdicts.specs.InOrder.{andThen}
 use Rattle.lines.specs.Lines.{recordsText}
-use Rattle.reading.specs.Misfit.{AllFit, front}
+use Rattle.reading.specs.Misfit.{firstLines, FitsLine}
+use Rattle.sets.specs.Lists.{All}
 use Rattle.reading.specs.Parsing.{Parsed, misfit, job, runOf}
-use Rattle.reading.specs.Readings.{couplersIn, jobIn, judgedBytes, judgedLines}
+use Rattle.reading.specs.Readings.{couplersIn, jobIn, judgedBytes, judgedLines, judgedPlaces}
 use Rattle.reading.specs.declared.read.Reading.{Reading}
 use Rattle.reading.specs.declared.read.Reading.the-variants.{Read, Refused}
 
@@ -22,14 +22,14 @@ use Rattle.reading.specs.declared.read.Reading.the-variants.{Read, Refus
 -- the text is that of couplers; there may be none
 pub record CouplersText (s : List ℕ) : Type 0 where
   pub couplers : List ℕ
-  pub fit : AllFit false couplers
+  pub fit : All (FitsLine false) couplers
   pub same : s ≡ recordsText couplers
 
 -- the first line that cannot continue one: up to the line before it the text lists couplers, and with it no more. A last line without LF is one
 pub record MisfitCoupler (s : List ℕ) (k : ℕ) : Type 0 where
   pub counted : 1 ≤ k
-  pub before : (j : ℕ) → j < k → CouplersText (front j s)
-  pub here : CouplersText (front k s) → ⊥
+  pub before : (j : ℕ) → j < k → CouplersText (firstLines j s)
+  pub here : CouplersText (firstLines k s) → ⊥
 
 -- ---- how it is read, in the terms of a job's text
 
@@ -41,14 +41,10 @@ endCouplers couplers (x ∷ s) = misfit (1 + length couplers)
 unfoldable pub parsedCouplers : List ℕ → Parsed
 parsedCouplers s = let couplers = runOf false s in endCouplers (couplers .records) (couplers .left)
 
--- ---- what is answered: 11, 10, 8
-
--- 8: the lent list, of `room` places, is shorter than the lines need
-abbrev pub judgedPlaces : Parsed → ℕ → Verdict
-judgedPlaces p room = pick (leb (length (couplersIn p)) room) Accepted Room
+-- ---- what is answered: 11, 10, and 8 where the lent list, of `room` places, is shorter than the lines need
 
 unfoldable pub judgedCouplersText : List ℕ → ℕ → Verdict
-judgedCouplersText s room = andThen (judgedBytes s) (andThen (judgedLines (parsedCouplers s)) (judgedPlaces (parsedCouplers s) room))
+judgedCouplersText s room = andThen (judgedBytes s) (andThen (judgedLines (parsedCouplers s)) (judgedPlaces (length (couplersIn (parsedCouplers s))) room))
 
 unfoldable pub couplersReading : List ℕ → ℕ → Reading
 couplersReading s room =

@@ -5,36 +5,31 @@ use mathlib.Core.List.{List, [], _∷_}
 use mathlib.Core.Option.{Option, none, some}
 use lib.ListN.{length}
 use Rattle.gates.specs.Layout.{packed}
-use Rattle.spots.specs.Numbers.{Got, skipped, readNumber}
+use Rattle.spots.specs.Numbers.{Got, orElse, skipped, readNumber}
 use Rattle.reading.specs.Limits.{mostFirst, mostSecond}
 use Rattle.lines.specs.Lines.{letter}
 
 -- the line of a record of a kind whose line has two numbers
-unfoldable pub lineOf : ℕ → List ℕ → Got
-lineOf kind s =
+unfoldable pub readLine : ℕ → List ℕ → Got ℕ
+readLine kind s =
     let a = readNumber mostFirst (skipped 9 (skipped (letter kind) (some s))) in
     let b = readNumber mostSecond (skipped 9 (a .rest)) in
     record { value = packed kind (a .value) (b .value); rest = skipped 10 (b .rest) }
 
 -- .. and of one whose line has one: "text line `n` and a qubit", "`h` and a qubit"
-unfoldable pub shortOf : ℕ → List ℕ → Got
-shortOf kind s =
+unfoldable pub readShort : ℕ → List ℕ → Got ℕ
+readShort kind s =
     let a = readNumber mostFirst (skipped 9 (skipped (letter kind) (some s))) in
     record { value = packed kind (a .value) 0; rest = skipped 10 (a .rest) }
 
--- g where it was read, else h
-unfoldable pub orElse : Option (List ℕ) → Got → Got → Got
-orElse none g h = h
-orElse (some t) g h = g
-
 -- the line of a rotation, of an X, or of a Hadamard
-unfoldable pub otherOf : List ℕ → Got
-otherOf s = orElse (lineOf 2 s .rest) (lineOf 2 s) (orElse (shortOf 3 s .rest) (shortOf 3 s) (shortOf 4 s))
+unfoldable pub readOther : List ℕ → Got ℕ
+readOther s = orElse (readLine 2 s .rest) (readLine 2 s) (orElse (readShort 3 s .rest) (readShort 3 s) (readShort 4 s))
 
 -- a gate's line, or a coupler's
-unfoldable pub oneOf : Bool → List ℕ → Got
-oneOf true s = orElse (lineOf 1 s .rest) (lineOf 1 s) (otherOf s)
-oneOf false s = lineOf 0 s
+unfoldable pub readOne : Bool → List ℕ → Got ℕ
+readOne true s = orElse (readLine 1 s .rest) (readLine 1 s) (readOther s)
+readOne false s = readLine 0 s
 
 -- the longest run of such lines, at most f, and what is left behind it
 pub record Run : Type 0 where
@@ -44,9 +39,9 @@ pub record Run : Type 0 where
 unfoldable pub runIn : ℕ → Bool → List ℕ → Run
 runIn zero gates s = record { records = []; left = s }
 runIn (suc f) gates s =
-    elim (oneOf gates s .rest) [
+    elim (readOne gates s .rest) [
       | none ↦ record { records = []; left = s }
-      | some t ↦ record { records = oneOf gates s .value ∷ runIn f gates t .records; left = runIn f gates t .left }
+      | some t ↦ record { records = readOne gates s .value ∷ runIn f gates t .records; left = runIn f gates t .left }
     ]
 
 -- a line has at least one byte, so that the length of s bounds the lines
@@ -54,8 +49,8 @@ unfoldable pub runOf : Bool → List ℕ → Run
 runOf gates s = runIn (length s) gates s
 
 -- the `q` line
-unfoldable pub headOf : List ℕ → Got
-headOf s =
+unfoldable pub readHead : List ℕ → Got ℕ
+readHead s =
     let n = readNumber mostFirst (skipped 9 (skipped 113 (some s))) in
     record { value = n .value; rest = skipped 10 (n .rest) }
 
@@ -78,4 +73,4 @@ bodyOf n (some s) =
     endOf n (couplers .records) (gates .records) (gates .left)
 
 unfoldable pub parsed : List ℕ → Parsed
-parsed s = bodyOf (headOf s .value) (headOf s .rest)
+parsed s = bodyOf (readHead s .value) (readHead s .rest)

@@ -51,7 +51,11 @@ abbrev pub judgedLines : Parsed → Verdict
 judgedLines (misfit k) = Line k
 judgedLines (job n couplers gates) = Accepted
 
--- 8: "either lent list is shorter than its lines need"; they have a and b places
+-- 8: lent memory of `room` places, records or bytes, is shorter than is needed
+abbrev pub judgedPlaces : ℕ → ℕ → Verdict
+judgedPlaces need room = pick (leb need room) Accepted Room
+
+-- "either lent list is shorter than its lines need"; they have a and b places
 abbrev pub judgedLists : Parsed → ℕ → ℕ → Verdict
 judgedLists p a b = pick (both (leb (length (couplersIn p)) a) (leb (length (gatesIn p)) b)) Accepted Room
 
@@ -62,6 +66,6 @@ judgedReading s a b = andThen (judgedBytes s) (andThen (judgedLines (parsed s)) 
 unfoldable pub readingOf : List ℕ → ℕ → ℕ → Reading
 readingOf s a b = pick (eqb (numberOf (judgedReading s a b)) 0) (Read (jobIn (parsed s))) (Refused (judgedReading s a b))
 
--- a lent list on return: new records at the front; a refusal leaves it as it was
-abbrev pub listAfter : Reading → List ℕ → List ℕ → List ℕ
-listAfter r new old = pick (eqb (numberOf (readVerdict r)) 0) (onto new old) old
+-- lent memory on return, records or bytes, where v is answered: what is new at the front; a refusal leaves it as it was
+abbrev pub lentAfter : Verdict → List ℕ → List ℕ → List ℕ
+lentAfter v new old = pick (eqb (numberOf v) 0) (onto new old) old

@@ -6,11 +6,11 @@ use gates::job::Job;
 use verdicts::verdict::Verdict;
 ghost use mathlib.Core.Path.{_≡_};
 ghost use lib.ListN.{length};
-ghost use Rattle.reading.specs.Readings.{couplersIn, listAfter};
+ghost use Rattle.reading.specs.Readings.{couplersIn, readVerdict, lentAfter};
 ghost use Rattle.reading.specs.Listing.{parsedCouplers, couplersReading};
 
 pub fn read_couplers(text: &[u8], couplers: &mut [u32]) -> Reading
-    ensures { λ r. ⌜ (r ≡ couplersReading (now (text .entry)) (length (now (couplers .entry)))) × (now (couplers .exit) ≡ listAfter r (couplersIn (parsedCouplers (now (text .entry)))) (now (couplers .entry))) ⌝ }
+    ensures { λ r. ⌜ (r ≡ couplersReading (now (text .entry)) (length (now (couplers .entry)))) × (now (couplers .exit) ≡ lentAfter (readVerdict r) (couplersIn (parsedCouplers (now (text .entry)))) (now (couplers .entry))) ⌝ }
 {
     if read::MOST_BYTES < text.len() {
         return Reading::Refused {

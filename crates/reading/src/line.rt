@@ -1,12 +1,12 @@
 // Lines as they are read: the first one, a coupler's, a gate's.
 use lines::letter;
 use spots::spot;
-use spots::spot::Part;
+use spots::spot::Fetched;
 use spots::spot::Spot;
 ghost use mathlib.Core.Path.{_≡_};
 ghost use Prim.Native.Nat.{_≤_};
 ghost use lib.ListN.{drop};
-ghost use Rattle.reading.specs.Parsing.{lineOf, shortOf, otherOf, oneOf, headOf};
+ghost use Rattle.reading.specs.Parsing.{readLine, readShort, readOther, readOne, readHead};
 ghost use Rattle.spots.specs.Places.{gotOf};
 
 pub(crate) const MOST_FIRST: u32 = 255;
@@ -14,9 +14,9 @@ pub(crate) const MOST_FIRST: u32 = 255;
 pub(crate) const MOST_SECOND: u32 = 65535;
 
 // The line of a record of a kind whose line has two numbers.
-fn line(text: &[u8], at: usize, kind: u32) -> Part
+fn line(text: &[u8], at: usize, kind: u32) -> Fetched
     requires { ⌜ kind ≤ 2 ⌝ }
-    ensures { λ r. ⌜ gotOf (now (text .entry)) r ≡ lineOf kind (drop at (now (text .entry))) ⌝ }
+    ensures { λ r. ⌜ gotOf (now (text .entry)) r ≡ readLine kind (drop at (now (text .entry))) ⌝ }
 {
     let letter = letter::letter_of(kind);
     let p0 = spot::skip(text, Spot::At(at), letter);
@@ -27,16 +27,16 @@ fn line(text: &[u8], at: usize, kind: u32) -> Part
     let b = spot::number(text, p2, MOST_SECOND);
     let b_next = b.next;
     let end = spot::skip(text, b_next, b'\n');
-    Part {
+    Fetched {
         value: kind * 16777216 + a.value * 65536 + b.value,
         next: end,
     }
 }
 
 // The line of a record of a kind whose line has one number.
-fn short(text: &[u8], at: usize, kind: u32) -> Part
+fn short(text: &[u8], at: usize, kind: u32) -> Fetched
     requires { ⌜ kind ≤ 4 ⌝ }
-    ensures { λ r. ⌜ gotOf (now (text .entry)) r ≡ shortOf kind (drop at (now (text .entry))) ⌝ }
+    ensures { λ r. ⌜ gotOf (now (text .entry)) r ≡ readShort kind (drop at (now (text .entry))) ⌝ }
 {
     let letter = letter::letter_of(kind);
     let p0 = spot::skip(text, Spot::At(at), letter);
@@ -44,15 +44,15 @@ fn short(text: &[u8], at: usize, kind: u32) -> Part
     let a = spot::number(text, p1, MOST_FIRST);
     let a_next = a.next;
     let end = spot::skip(text, a_next, b'\n');
-    Part {
+    Fetched {
         value: kind * 16777216 + a.value * 65536,
         next: end,
     }
 }
 
 // The line of a rotation, of an X, or of a Hadamard.
-fn other(text: &[u8], at: usize) -> Part
-    ensures { λ r. ⌜ gotOf (now (text .entry)) r ≡ otherOf (drop at (now (text .entry))) ⌝ }
+fn other(text: &[u8], at: usize) -> Fetched
+    ensures { λ r. ⌜ gotOf (now (text .entry)) r ≡ readOther (drop at (now (text .entry))) ⌝ }
 {
     let r = line(text, at, 2);
     let next = r.next;
@@ -70,8 +70,8 @@ fn other(text: &[u8], at: usize) -> Part
 }
 
 // A gate's line, or a coupler's.
-pub(crate) fn one(text: &[u8], at: usize, gates: bool) -> Part
-    ensures { λ r. ⌜ gotOf (now (text .entry)) r ≡ oneOf gates (drop at (now (text .entry))) ⌝ }
+pub(crate) fn one(text: &[u8], at: usize, gates: bool) -> Fetched
+    ensures { λ r. ⌜ gotOf (now (text .entry)) r ≡ readOne gates (drop at (now (text .entry))) ⌝ }
 {
     if gates {
         let c = line(text, at, 1);
@@ -86,15 +86,15 @@ pub(crate) fn one(text: &[u8], at: usize, gates: bool) -> Part
 }
 
 // The `q` line.
-pub(crate) fn head(text: &[u8]) -> Part
-    ensures { λ r. ⌜ gotOf (now (text .entry)) r ≡ headOf (now (text .entry)) ⌝ }
+pub(crate) fn head(text: &[u8]) -> Fetched
+    ensures { λ r. ⌜ gotOf (now (text .entry)) r ≡ readHead (now (text .entry)) ⌝ }
 {
     let p0 = spot::skip(text, Spot::At(0), b'q');
     let p1 = spot::skip(text, p0, b'\t');
     let n = spot::number(text, p1, MOST_FIRST);
     let n_next = n.next;
     let end = spot::skip(text, n_next, b'\n');
-    Part {
+    Fetched {
         value: n.value,
         next: end,
     }

@@ -7,7 +7,7 @@ use verdicts::verdict::Verdict;
 ghost use mathlib.Core.Path.{_≡_};
 ghost use lib.ListN.{length};
 ghost use Rattle.reading.specs.Parsing.{parsed};
-ghost use Rattle.reading.specs.Readings.{readingOf, couplersIn, gatesIn, listAfter};
+ghost use Rattle.reading.specs.Readings.{readingOf, couplersIn, gatesIn, readVerdict, lentAfter};
 
 pub const MOST_BYTES: usize = 65536;
 
@@ -17,7 +17,7 @@ pub enum Reading {
 }
 
 pub fn read(text: &[u8], couplers: &mut [u32], gates: &mut [u32]) -> Reading
-    ensures { λ r. ⌜ (r ≡ readingOf (now (text .entry)) (length (now (couplers .entry))) (length (now (gates .entry)))) × (now (couplers .exit) ≡ listAfter r (couplersIn (parsed (now (text .entry)))) (now (couplers .entry))) × (now (gates .exit) ≡ listAfter r (gatesIn (parsed (now (text .entry)))) (now (gates .entry))) ⌝ }
+    ensures { λ r. ⌜ (r ≡ readingOf (now (text .entry)) (length (now (couplers .entry))) (length (now (gates .entry)))) × (now (couplers .exit) ≡ lentAfter (readVerdict r) (couplersIn (parsed (now (text .entry)))) (now (couplers .entry))) × (now (gates .exit) ≡ lentAfter (readVerdict r) (gatesIn (parsed (now (text .entry)))) (now (gates .entry))) ⌝ }
 {
     if MOST_BYTES < text.len() {
         return Reading::Refused {

@@ -7,13 +7,13 @@ ghost use lib.ListN.{length, drop};
 ghost use Rattle.reading.specs.Parsing.{runOf};
 ghost use Rattle.lines.specs.Lent.{onto};
 
-pub(crate) struct Counted {
+pub(crate) struct LineCount {
     pub count: usize,
     pub next: usize,
 }
 
 // How many lines of the sort follow each other, and the place behind them.
-pub(crate) fn count(text: &[u8], from: usize, gates: bool) -> Counted
+pub(crate) fn count(text: &[u8], from: usize, gates: bool) -> LineCount
     ensures { λ r. ⌜ (r .count ≡ length (runOf gates (drop from (now (text .entry))) .records)) × (drop (r .next) (now (text .entry)) ≡ runOf gates (drop from (now (text .entry))) .left) ⌝ }
 {
     let mut n: usize = 0;
@@ -23,7 +23,7 @@ pub(crate) fn count(text: &[u8], from: usize, gates: bool) -> Counted
         let next = p.next;
         match next {
             Spot::Lost => {
-                return Counted { count: n, next: at };
+                return LineCount { count: n, next: at };
             }
             Spot::At(q) => {
                 n += 1;

@@ -1,4 +1,5 @@
 // Too little lent: for each text of the bundle on standard input, what reading, laying and writing answer, an `x` line each. An acceptance is number 0 at place 0.
+// It calls the entry points themselves, for `console` lends enough.
 use console::COUPLER_LINES;
 use console::GATE_LINES;
 use laying::lay::Answer;

@@ -13,6 +13,7 @@ use lib.Bits.{bitXor, xor-zero-r, xor-comm, xor-step, xor-shifted}
 use Rattle.sets.specs.Bit.{bit, when, In}
 use Rattle.sets.specs.Columns.{turn, comb, cnot, units}
 use Rattle.sets.proofs.Bits.{by-bit, bit-zero, bit-suc, bit-lt, xor-low, xor-half, pow-half, pow-even, xor-assoc, xors}
+use Rattle.sets.proofs.Turn.{turn-is}
 
 xor4 : (a b c d : ℕ) → bitXor (bitXor a b) (bitXor c d) ≡ bitXor (bitXor a c) (bitXor b d)
 xor4 a b c d = simp xors
@@ -61,13 +62,13 @@ comb-set (w ∷ ws) x zero v l =
 comb-set (w ∷ ws) x (suc t) v l = rw (comb-set ws (x / 2) t v (le-of-suc-le-suc l), bit-suc) (sym (xor-assoc (when (x % 2) w) (comb (x / 2) ws) (when (bit (x / 2) t) (bitXor (getD ws t 0) v))))
 
 -- LAW 1: a CNOT turns the columns and the wires together, and the parities that the columns stand for stay
-pub comb-turn : (W : List ℕ) (x c t : ℕ) → c ≢ t → t < length W → comb (turn x c t) (cnot c t W) ≡ comb x W
-unfolding turn cnot
-comb-turn W x c t ne l =
+pub comb-turn : (W : List ℕ) (x c t : ℕ) → c < 32 → c ≢ t → t < length W → comb (turn c t x) (cnot c t W) ≡ comb x W
+unfolding cnot
+comb-turn W x c t few ne l =
     let p : ℕ = getD W c 0 in
     let q : ℕ = getD W t 0 in
     let W′ : List ℕ = set W t (bitXor p q) in
-    comb-xor W′ x (when (bit x t) (2 ^ c))
+    ap (λ (y : ℕ). comb y W′) (turn-is x c t few) ∙ comb-xor W′ x (when (bit x t) (2 ^ c))
     ∙ ap₂ bitXor (comb-set W x t (bitXor p q) l) (comb-when W′ (bit x t) (2 ^ c) ∙ ap (when (bit x t)) (comb-pow W′ c ∙ getD-set-other W t c (bitXor p q) 0 ne))
     ∙ by-bit (λ (b : ℕ). bitXor (bitXor (comb x W) (when b (bitXor q (bitXor p q)))) (when b p) ≡ comb x W)
     (simp xors) (mix p q (comb x W)) (bit x t) (bit-lt x t)

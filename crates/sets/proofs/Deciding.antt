@@ -17,6 +17,10 @@ pub both-yes : (a b : Bool) → a ≡ true → b ≡ true → both a b ≡ true
 both-yes true b p q = q
 both-yes false b p q = p
 
+pub both-same : (a : Bool) → both a true ≡ a
+both-same true = refl
+both-same false = refl
+
 pub both-no : (a b : Bool) → b ≡ false → both a b ≡ false
 both-no true b q = q
 both-no false b q = refl

@@ -11,7 +11,7 @@ use Rattle.sets.specs.Bit.{bit, when}
 use Rattle.sets.specs.Columns.{turn, dot}
 use Rattle.sets.proofs.Bits.{by-bit, bit-zero, bit-suc, bit-lt, xor-low, xor-half, and-low, and-half, pow-half, pow-even, when-zero}
 use Rattle.sets.proofs.Ones.{ones-of-zero}
-use Rattle.sets.proofs.Turn.{turn-other}
+use Rattle.sets.proofs.Turn.{turn-is, turn-other}
 
 pub dot-lt : (x y : ℕ) → dot x y < 2
 unfolding dot
@@ -55,13 +55,13 @@ dot-when zero x y = dot-zero y
 dot-when (suc b) x y = refl
 
 -- LAW 2
-pub dot-turn : (x y c t : ℕ) → c ≢ t → dot (turn x c t) (turn y t c) ≡ dot x y
-dot-turn x y c t ne =
-    unfold turn in dot-xor (turn y t c) x (when (bit x t) (2 ^ c))
+pub dot-turn : (x y c t : ℕ) → c < 32 → t < 32 → c ≢ t → dot (turn c t x) (turn t c y) ≡ dot x y
+dot-turn x y c t lc lt ne =
+    ap (λ (z : ℕ). dot z (turn t c y)) (turn-is x c t lc) ∙ dot-xor (turn t c y) x (when (bit x t) (2 ^ c))
     ∙ ap₂ (λ (m n : ℕ). (m + n) % 2)
-    (dot-comm x (turn y t c) ∙ unfold turn in dot-xor x y (when (bit y c) (2 ^ t))
+    (dot-comm x (turn t c y) ∙ ap (λ (z : ℕ). dot z x) (turn-is y t c lt) ∙ dot-xor x y (when (bit y c) (2 ^ t))
     ∙ ap₂ (λ (m n : ℕ). (m + n) % 2) (dot-comm y x) (dot-when (bit y c) (2 ^ t) x ∙ ap (when (bit y c)) (dot-pow t x)))
-    (dot-when (bit x t) (2 ^ c) (turn y t c) ∙ ap (when (bit x t)) (dot-pow c (turn y t c) ∙ turn-other y t c c (λ e. ne (sym e))))
+    (dot-when (bit x t) (2 ^ c) (turn t c y) ∙ ap (when (bit x t)) (dot-pow c (turn t c y) ∙ turn-other y t c c (λ e. ne (sym e))))
     ∙ by-bit (λ (b : ℕ). ((dot x y + when (bit y c) b) % 2 + when b (bit y c)) % 2 ≡ dot x y)
     (rw when-zero (omega (arith, dot-lt x y)))
     (by-bit (λ (d : ℕ). ((dot x y + when d 1) % 2 + d) % 2 ≡ dot x y) (omega (arith, dot-lt x y)) (omega (arith, dot-lt x y)) (bit y c) (bit-lt y c))

@@ -1,10 +1,12 @@
+pub mod Lists
+pub mod Tabling
 pub mod Bits
 pub mod Members
 pub mod Ones
+pub mod Words
 pub mod Turn
 pub mod Comb
 pub mod Dot
 pub mod Finding
-pub mod Words
 pub mod Deciding
 pub mod Storing

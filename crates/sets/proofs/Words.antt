@@ -1,5 +1,5 @@
 -- What the definitions say of numbers of 32 digits, and what callers use: tests and members. Assumes nothing.
-use mathlib.Core.Path.{_≡_, refl, sym, _∙_, subst}
+use mathlib.Core.Path.{_≡_, refl, sym, ap, _∙_, subst}
 use mathlib.Core.Logic.{_≢_}
 use mathlib.Core.Bool.{Bool, true, false}
 use Prim.Native.Nat.{ℕ, _*_, _%_, _^_, _≤_, _<_}
@@ -11,7 +11,7 @@ use lib.Count.{ones, trailingZeros}
 use borrow.Author.Tests.{lt-ltb, eqb-true, eqb-false, eq-eqb, ne-eqb, ltb-true, ltb-false}
 use Rattle.sets.specs.Bit.{bit, has, In}
 use Rattle.sets.specs.Size.{lowestOf, singleOf, onlyOf}
-use Rattle.sets.proofs.Bits.{bit-lt, bit-high}
+use Rattle.sets.proofs.Bits.{bit-lt, bit-high, bit-of-zero, bit-pow-other}
 use Rattle.sets.proofs.Members.{in-lt}
 use Rattle.sets.proofs.Ones.{single, ones-pow, trailing-bit}
 
@@ -45,9 +45,21 @@ pub only-is : (q : ℕ) → q < 32 → onlyOf q ≡ 2 ^ q
 unfolding onlyOf
 only-is q h = simp (lt-ltb q 32 h)
 
+pub only-none : (q : ℕ) → ltb q 32 ≡ false → onlyOf q ≡ 0
+unfolding onlyOf
+only-none q e = simp e
+
 -- a member of a set of 32 digits alone is its power of two
 pub only-of : (x q : ℕ) → x < 2 ^ 32 → has x q ≡ true → onlyOf q ≡ 2 ^ q
 only-of x q l e = only-is q (in-lt 32 x q l (has-true x q e))
+
+-- no other number is a member
+pub only-other : (q j : ℕ) → q ≢ j → bit (onlyOf q) j ≡ 0
+only-other q j ne = go (ltb q 32) refl
+  where
+    go : (b : Bool) → ltb q 32 ≡ b → bit (onlyOf q) j ≡ 0
+    go true e = ap (λ (x : ℕ). bit x j) (only-is q (ltb-true q 32 e)) ∙ bit-pow-other q j ne
+    go false e = ap (λ (x : ℕ). bit x j) (only-none q e) ∙ bit-of-zero j
 
 pub only-shift : (q : ℕ) → q < 32 → (1 * 2 ^ q) % 4294967296 ≡ onlyOf q
 only-shift q h = shl-exact 1 q 32 (lit< tt) (omega arith) ∙ one-mul (2 ^ q) ∙ sym (only-is q h)

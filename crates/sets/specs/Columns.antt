@@ -1,10 +1,11 @@
 -- Wires and columns. W is the list of the wires' parities; a column is the set of the wires whose parities xor to a wanted one.
 use mathlib.Core.List.{List, [], _∷_, map}
-use Prim.Native.Nat.{ℕ, zero, suc, _*_, _/_, _%_, _^_}
+use Prim.Native.Nat.{ℕ, zero, suc, _*_, _/_, _%_}
 use lib.ListN.{getD, set}
 use lib.Bits.{bitAnd, bitXor}
 use lib.Count.{ones}
 use Rattle.sets.specs.Bit.{bit, when}
+use Rattle.sets.specs.Size.{onlyOf}
 
 -- "Wire i starts with parity 2^i" (document 01, "Meaning of a circuit"): n wires
 unfoldable pub units : ℕ → List ℕ
@@ -15,9 +16,9 @@ units (suc n) = 1 ∷ map (λ k. k * 2) (units n)
 unfoldable pub cnot : ℕ → ℕ → List ℕ → List ℕ
 cnot c t W = set W t (bitXor (getD W c 0) (getD W t 0))
 
--- "A laid CNOT adds the target's row to the control's row" (document 01, "Steps from document 000"): what becomes of one column x
+-- "A laid CNOT adds the target's row to the control's row" (document 01, "Steps from document 000"): what becomes of one column x, a number of 32 digits
 unfoldable pub turn : ℕ → ℕ → ℕ → ℕ
-turn x c t = bitXor x (when (bit x t) (2 ^ c))
+turn c t x = bitXor x (when (bit x t) (onlyOf c))
 
 -- the parity that the column x stands for: the xor of the parities of its wires
 unfoldable pub comb : ℕ → List ℕ → ℕ

@@ -1,4 +1,5 @@
-// A set of qubits is a number: qubit i adds 2^i. Parities, columns and asked rows are such sets.
+// Sets of qubits as numbers, qubit i adding 2^i, and the lists, tables and searches that all crates
+// use; parities, columns and asked rows are such sets. It knows nothing of gates.
 ghost use mathlib.Core.Path.{_≡_};
 ghost use Rattle.sets.specs.Bit.{has};
 ghost use Rattle.sets.specs.Size.{sizeOf, lowestOf, singleOf, onlyOf};

@@ -1,13 +1,13 @@
 -- An island's own as the code holds it.
 use mathlib.Core.List.{List}
 use Prim.Native.Nat.{ℕ}
-use lib.ListN.{getD}
+use lib.ListN.{getD, take}
 use Rattle.sets.specs.Pick.{pick}
 use Rattle.gates.specs.Limits.{mostParities}
 use Rattle.table.specs.Table.{termsIn}
 use Rattle.table.specs.declared.sums.Sums.{Sums}
-use Rattle.columns.specs.Tables.{tab}
-use Rattle.share.specs.Own.{insideOf, ownSets}
+use Rattle.sets.specs.Tables.{tab}
+use Rattle.share.specs.Own.{Share, insideOf, ownSets}
 use Rattle.share.specs.declared.own.Own.{Own}
 
 -- the sum a of parity p, 0 where p is not inside Q
@@ -23,3 +23,7 @@ ownTable Q s = termsIn (record { parity = s .parity; sum = maskedSums Q (s .pari
 
 unfoldable pub ownOf : ℕ → List ℕ → Sums → List ℕ → List ℕ → Own
 ownOf Q near sums asked mirror = record { near = ownSets Q near; set = Q; terms = ownTable Q sums; asked = ownSets Q asked; mirror = ownSets Q mirror }
+
+-- the share that the code holds: the first `len` entries of the table are the terms and their angles
+abbrev pub shareIn : Own → Share
+shareIn o = record { near = o .near; set = o .set; terms = take (o .terms .len) (o .terms .parity); angles = take (o .terms .len) (o .terms .sum); asked = o .asked; mirror = o .mirror }

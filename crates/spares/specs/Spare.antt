@@ -7,11 +7,12 @@ use lib.Dec.{eqb}
 use Rattle.sets.specs.Pick.{both, either}
 use Rattle.sets.specs.Bit.{has}
 use Rattle.sets.specs.Size.{lowestOf}
+use Rattle.gates.specs.Limits.{mostQubits}
 use Rattle.chip.specs.Graph.{closure}
 
 -- what chains inside S join to its lowest member: 20 rounds reach all there is
 unfoldable pub reachOf : List ℕ → ℕ → ℕ
-reachOf near S = closure near S 20 (2 ^ lowestOf S)
+reachOf near S = closure near S mostQubits (2 ^ lowestOf S)
 
 -- "the empty set counts as connected"
 unfoldable pub connectedOf : List ℕ → ℕ → Bool

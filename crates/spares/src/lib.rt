@@ -1,2 +1,2 @@
-// Connected sets of a chip, and the qubits that they can spare.
+// Connected sets of a chip, and the qubits that they can spare. It knows the graph alone.
 pub mod spare;

@@ -10,7 +10,7 @@ use lib.ListN.{length, getD, drop, List·getD-eq-default}
 use lib.Seq.{drop-cons, getD-drop, drop-drop}
 use lib.Dec.{leb, ltb}
 use borrow.Author.Tests.{ltb-true, ltb-false, leb-true, lt-ltb, le-leb, lt-leb, eq-eqb, ne-eqb}
-use Rattle.spots.specs.Numbers.{lost, skipped, digitOf, moreOf, numberIn, readNumber}
+use Rattle.spots.specs.Numbers.{lost, skipped, digitOf, moreDigits, numberFrom, readNumber}
 
 module _ (s : List ℕ) (p : ℕ) where
   at-cons : p < length s → drop p s ≡ getD s p 0 ∷ drop (p + 1) s
@@ -47,37 +47,37 @@ module _ (s : List ℕ) (p : ℕ) where
 
   module _ (most : ℕ) where
     pub number-zero : digitOf (getD s p 0) ≡ 0 → readNumber most (some (drop p s)) ≡ record { value = 0; rest = some (drop (p + 1) s) }
-    unfolding readNumber numberIn
+    unfolding readNumber numberFrom
     number-zero e = rw (here, e, drop-drop 1 p s)
 
     pub number-none : digitOf (getD s p 0) ≡ 10 → readNumber most (some (drop p s)) ≡ lost
-    unfolding readNumber numberIn
+    unfolding readNumber numberFrom
     number-none e = rw (here, e)
 
-    pub number-more : (digitOf (getD s p 0) ≡ 0 → ⊥) → digitOf (getD s p 0) < 10 → readNumber most (some (drop p s)) ≡ moreOf most 0 (drop p s)
-    unfolding readNumber numberIn
+    pub number-more : (digitOf (getD s p 0) ≡ 0 → ⊥) → digitOf (getD s p 0) < 10 → readNumber most (some (drop p s)) ≡ moreDigits most 0 (drop p s)
+    unfolding readNumber numberFrom
     number-more z h = rw here (go (digitOf (getD s p 0)) z h)
       where
-        go : (d : ℕ) → (d ≡ 0 → ⊥) → d < 10 → numberIn most d (drop p s) ≡ moreOf most 0 (drop p s)
+        go : (d : ℕ) → (d ≡ 0 → ⊥) → d < 10 → numberFrom most d (drop p s) ≡ moreDigits most 0 (drop p s)
         go zero z h = absurd (z refl)
         go (suc d) z h = rw (lt-ltb _ _ h)
 
     module _ (v : ℕ) where
-      pub more-end : digitOf (getD s p 0) ≡ 10 → moreOf most v (drop p s) ≡ record { value = v; rest = some (drop p s) }
-      unfolding moreOf
+      pub more-end : digitOf (getD s p 0) ≡ 10 → moreDigits most v (drop p s) ≡ record { value = v; rest = some (drop p s) }
+      unfolding moreDigits
       more-end e = go (ltb p (length s)) refl
         where
-          go : (t : Bool) → ltb p (length s) ≡ t → moreOf most v (drop p s) ≡ record { value = v; rest = some (drop p s) }
+          go : (t : Bool) → ltb p (length s) ≡ t → moreDigits most v (drop p s) ≡ record { value = v; rest = some (drop p s) }
           go true q = rw (at-cons (ltb-true _ _ q), e)
           go false q = rw (at-end (ltb-false _ _ q))
 
       pub more-on : digitOf (getD s p 0) < 10 → v * 10 + digitOf (getD s p 0) ≤ most
-          → moreOf most v (drop p s) ≡ moreOf most (v * 10 + digitOf (getD s p 0)) (drop (p + 1) s)
-      unfolding moreOf
+          → moreDigits most v (drop p s) ≡ moreDigits most (v * 10 + digitOf (getD s p 0)) (drop (p + 1) s)
+      unfolding moreDigits
       more-on h k = rw (at-cons (digit-in (λ e. omega arith)), lt-ltb _ _ h, le-leb _ _ k)
 
-      pub more-over : digitOf (getD s p 0) < 10 → most < v * 10 + digitOf (getD s p 0) → moreOf most v (drop p s) ≡ lost
-      unfolding moreOf
+      pub more-over : digitOf (getD s p 0) < 10 → most < v * 10 + digitOf (getD s p 0) → moreDigits most v (drop p s) ≡ lost
+      unfolding moreDigits
       more-over h k = rw (at-cons (digit-in (λ e. omega arith)), lt-ltb _ _ h, lt-leb _ _ k)
 
 pub digit-le : (x : ℕ) → digitOf x ≤ 10

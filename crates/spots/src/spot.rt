@@ -12,7 +12,7 @@ pub enum Spot {
 }
 
 // A number that was read, and the place behind it.
-pub struct Part {
+pub struct Fetched {
     pub value: u32,
     pub next: Spot,
 }
@@ -50,18 +50,18 @@ fn digit(text: &[u8], at: usize) -> u32
 }
 
 // A number of at most `most`, without a leading zero. It is kept wider than `most`, which one digit more may pass.
-pub fn number_at(text: &[u8], from: usize, most: u32) -> Part
+pub fn number_at(text: &[u8], from: usize, most: u32) -> Fetched
     ensures { λ r. ⌜ gotOf (now (text .entry)) r ≡ readNumber most (some (drop from (now (text .entry)))) ⌝ }
 {
     let first = digit(text, from);
     if first == 0 {
-        return Part {
+        return Fetched {
             value: 0,
             next: Spot::At(from + 1),
         };
     }
     if first == 10 {
-        return Part {
+        return Fetched {
             value: 0,
             next: Spot::Lost,
         };
@@ -71,14 +71,14 @@ pub fn number_at(text: &[u8], from: usize, most: u32) -> Part
     loop {
         let d = digit(text, at);
         if d == 10 {
-            return Part {
+            return Fetched {
                 value: v as u32,
                 next: Spot::At(at),
             };
         }
         v = v * 10 + d as u64;
         if (most as u64) < v {
-            return Part {
+            return Fetched {
                 value: 0,
                 next: Spot::Lost,
             };
@@ -87,11 +87,11 @@ pub fn number_at(text: &[u8], from: usize, most: u32) -> Part
     }
 }
 
-pub fn number(text: &[u8], from: Spot, most: u32) -> Part
+pub fn number(text: &[u8], from: Spot, most: u32) -> Fetched
     ensures { λ r. ⌜ gotOf (now (text .entry)) r ≡ readNumber most (restAt (now (text .entry)) from) ⌝ }
 {
     match from {
-        Spot::Lost => Part {
+        Spot::Lost => Fetched {
             value: 0,
             next: Spot::Lost,
         },

@@ -9,11 +9,12 @@ use lib.ListN.{length}
 use Rattle.sets.specs.Pick.{pick, either}
 use Rattle.words.specs.Bytes.{same}
 use Rattle.words.specs.Words.{Word, bodies}
-use Rattle.words.specs.Taking.{Got, taken}
+use Rattle.spots.specs.Numbers.{Got}
+use Rattle.words.specs.Taking.{taken}
 use Rattle.versions.specs.declared.Version.{Version}
 use Rattle.versions.specs.declared.Version.the-variants.{Two, Three}
 use Rattle.statements.specs.Spelling.{mark, u1, rz, gphase}
-use Rattle.statements.specs.Statements.{qubitOf, tailOf, openingOf, hasEnd, isThere, followOf, endsIn, endsAt, badNewer, badAngle}
+use Rattle.statements.specs.Statements.{readQubit, readTail, readOpening, hasEnd, isThere, readFollow, endsIn, endsAt, badNewer, badAngle}
 use Rattle.statements.specs.Forms.{Rotor, asU1, asRz, asP, Newer, Carried, qubitWords, rotorWord, Unended, Frame, gate, alone, OnlyAngle}
 use Rattle.statements.proofs.Taken.{Leads, same-self, same-is, taken-back, taken-forth}
 use Rattle.statements.proofs.Forth.{tag, tag-bodies, tail-forth}
@@ -57,16 +58,16 @@ unended-no (w ∷ ws) u = rw (same-not (w .bytes) (mark 59) (u .0)) (unended-no 
 -- ---- whether only the angle is wrong
 
 -- what can follow an angle, and whether it does so alone
-data Closes (name : List ℕ) (closing : List (List ℕ)) : Bool → Type 0 where
-  onQubit : (a : ℕ) → a ≤ 255 → closing ≡ mark 41 ∷ (qubitWords name a ++ (mark 59 ∷ [])) → Closes name closing false
-  without : closing ≡ mark 41 ∷ mark 59 ∷ [] → Closes name closing true
+data ClosesAngle (name : List ℕ) (closing : List (List ℕ)) : Bool → Type 0 where
+  onQubit : (a : ℕ) → a ≤ 255 → closing ≡ mark 41 ∷ (qubitWords name a ++ (mark 59 ∷ [])) → ClosesAngle name closing false
+  without : closing ≡ mark 41 ∷ mark 59 ∷ [] → ClosesAngle name closing true
 
 -- behind `(`: anything, and what can follow an angle
 record Follows (by : Bool) (name : List ℕ) (bs : List (List ℕ)) : Type 0 where
   angle : List (List ℕ)
   unended : Unended angle
   closing : List (List ℕ)
-  closes : Closes name closing by
+  closes : ClosesAngle name closing by
   rest : List (List ℕ)
   spelt : bs ≡ angle ++ (closing ++ rest)
 
@@ -76,14 +77,14 @@ leads-spelt ws t bs l =
     let w : ws ≡ l .words ++ t = cc (l .same) in
     ap (λ x. bodies x) w ∙ bodies-append (l .words) t ∙ ap (λ x. x ++ bodies t) (l .spelt)
 
-follow-there : (by : Bool) (name : List ℕ) (ws t : List Word) → followOf by name (some ws) ≡ some t → Follows by name (bodies ws)
-unfolding followOf tailOf Unended
+follow-there : (by : Bool) (name : List ℕ) (ws t : List Word) → readFollow by name (some ws) ≡ some t → Follows by name (bodies ws)
+unfolding readFollow readTail Unended
 follow-there true name ws t q =
     let l = taken-back (mark 41) (some ws) (taken-back (mark 59) _ (record { words = []; same = q; spelt = refl })) in
     record { angle = []; unended = tt; closing = mark 41 ∷ mark 59 ∷ []; closes = without refl; rest = bodies t; spelt = leads-spelt ws t _ l }
 follow-there false name ws t q =
     let p = taken (mark 41) (some ws) in
-    let a = qubitOf name p .value in
+    let a = readQubit name p .value in
     let l = taken-back (mark 41) (some ws) (qubit-back name p (taken-back (mark 59) _ (record { words = []; same = q; spelt = refl }))) in
     record {
       angle = [];
@@ -97,9 +98,9 @@ follow-there false name ws t q =
 ends-back : (by : Bool) (name : List ℕ) (ws : List Word) → endsIn by name ws ≡ true → Follows by name (bodies ws)
 unfolding endsIn Unended
 ends-back by name [] e = no-true e
-ends-back by name (w ∷ ws) e = go (same (w .bytes) (mark 59)) (followOf by name (some (w ∷ ws))) refl refl e (ends-back by name ws)
+ends-back by name (w ∷ ws) e = go (same (w .bytes) (mark 59)) (readFollow by name (some (w ∷ ws))) refl refl e (ends-back by name ws)
   where
-    go : (t : Bool) (o : Option (List Word)) → same (w .bytes) (mark 59) ≡ t → followOf by name (some (w ∷ ws)) ≡ o → pick t false (either (isThere o) (endsIn by name ws)) ≡ true
+    go : (t : Bool) (o : Option (List Word)) → same (w .bytes) (mark 59) ≡ t → readFollow by name (some (w ∷ ws)) ≡ o → pick t false (either (isThere o) (endsIn by name ws)) ≡ true
         → (endsIn by name ws ≡ true → Follows by name (bodies ws)) → Follows by name (bodies (w ∷ ws))
     go true o p q e ih = no-true e
     go false (some t) p q e ih = follow-there by name (w ∷ ws) t q
@@ -114,12 +115,12 @@ ends-back by name (w ∷ ws) e = go (same (w .bytes) (mark 59)) (followOf by nam
           spelt = ap (λ l. w .bytes ∷ l) (f .spelt);
         }
 
-bad-at : (v : Version) (by : Bool) (name word : List ℕ) (ws : List Word) → ((closing : List (List ℕ)) → Closes name closing by → Frame v name (word ∷ mark 40 ∷ []) closing)
-    → endsAt by name (openingOf word (some ws)) ≡ true → OnlyAngle v name (bodies ws)
-unfolding endsAt openingOf
-bad-at v by name word ws frame e = go (openingOf word (some ws)) refl e
+bad-at : (v : Version) (by : Bool) (name word : List ℕ) (ws : List Word) → ((closing : List (List ℕ)) → ClosesAngle name closing by → Frame v name (word ∷ mark 40 ∷ []) closing)
+    → endsAt by name (readOpening word (some ws)) ≡ true → OnlyAngle v name (bodies ws)
+unfolding endsAt readOpening
+bad-at v by name word ws frame e = go (readOpening word (some ws)) refl e
   where
-    go : (o : Option (List Word)) → openingOf word (some ws) ≡ o → endsAt by name o ≡ true → OnlyAngle v name (bodies ws)
+    go : (o : Option (List Word)) → readOpening word (some ws) ≡ o → endsAt by name o ≡ true → OnlyAngle v name (bodies ws)
     go none q e = no-true e
     go (some t) q e =
         let f = ends-back by name t e in
@@ -134,26 +135,26 @@ bad-at v by name word ws frame e = go (openingOf word (some ws)) refl e
           spelt = leads-spelt ws t _ l ∙ ap (λ x. word ∷ mark 40 ∷ x) (f .spelt);
         }
 
-gate-frame : (v : Version) (name : List ℕ) (r : Rotor) → Carried v r → (closing : List (List ℕ)) → Closes name closing false → Frame v name (rotorWord r ∷ mark 40 ∷ []) closing
+gate-frame : (v : Version) (name : List ℕ) (r : Rotor) → Carried v r → (closing : List (List ℕ)) → ClosesAngle name closing false → Frame v name (rotorWord r ∷ mark 40 ∷ []) closing
 gate-frame v name r c closing (onQubit a h e) = gate r a c h refl e
 
-alone-frame : (v : Version) (name : List ℕ) → Newer v → (closing : List (List ℕ)) → Closes name closing true → Frame v name (gphase ∷ mark 40 ∷ []) closing
+alone-frame : (v : Version) (name : List ℕ) → Newer v → (closing : List (List ℕ)) → ClosesAngle name closing true → Frame v name (gphase ∷ mark 40 ∷ []) closing
 alone-frame v name n closing (without e) = alone n refl e
 
 newer-bad : (v : Version) (name : List ℕ) (ws : List Word) → badNewer v name (some ws) ≡ true → OnlyAngle v name (bodies ws)
 unfolding badNewer Carried Newer
 newer-bad Two name ws e = no-true e
-newer-bad Three name ws e = go (endsAt false name (openingOf (mark 112) (some ws))) refl e
+newer-bad Three name ws e = go (endsAt false name (readOpening (mark 112) (some ws))) refl e
   where
-    go : (t : Bool) → endsAt false name (openingOf (mark 112) (some ws)) ≡ t → either t (endsAt true name (openingOf gphase (some ws))) ≡ true → OnlyAngle Three name (bodies ws)
+    go : (t : Bool) → endsAt false name (readOpening (mark 112) (some ws)) ≡ t → either t (endsAt true name (readOpening gphase (some ws))) ≡ true → OnlyAngle Three name (bodies ws)
     go true p e = bad-at Three false name (mark 112) ws (gate-frame Three name asP tt) p
     go false p e = bad-at Three true name gphase ws (alone-frame Three name tt) e
 
 pub bad-back : (v : Version) (name : List ℕ) (ws : List Word) → badAngle v name (some ws) ≡ true → OnlyAngle v name (bodies ws)
 unfolding badAngle Carried
-bad-back v name ws e = go (endsAt false name (openingOf u1 (some ws))) (endsAt false name (openingOf rz (some ws))) refl refl e
+bad-back v name ws e = go (endsAt false name (readOpening u1 (some ws))) (endsAt false name (readOpening rz (some ws))) refl refl e
   where
-    go : (t u : Bool) → endsAt false name (openingOf u1 (some ws)) ≡ t → endsAt false name (openingOf rz (some ws)) ≡ u → either t (either u (badNewer v name (some ws))) ≡ true → OnlyAngle v name (bodies ws)
+    go : (t u : Bool) → endsAt false name (readOpening u1 (some ws)) ≡ t → endsAt false name (readOpening rz (some ws)) ≡ u → either t (either u (badNewer v name (some ws))) ≡ true → OnlyAngle v name (bodies ws)
     go true u p q e = bad-at v false name u1 ws (gate-frame v name asU1 tt) p
     go false true p q e = bad-at v false name rz ws (gate-frame v name asRz tt) q
     go false false p q e = newer-bad v name ws e
@@ -162,28 +163,28 @@ no-mark : mark 41 ≡ mark 59 → ⊥
 no-mark e = let z : _≡_ {A = ℕ} 41 59 = cc e in omega arith
 
 -- what follows begins with `)`
-closes-first : (by : Bool) (name : List ℕ) (closing rest : List (List ℕ)) (b : List ℕ) (bs : List (List ℕ)) → Closes name closing by → b ∷ bs ≡ closing ++ rest → b ≡ mark 41
+closes-first : (by : Bool) (name : List ℕ) (closing rest : List (List ℕ)) (b : List ℕ) (bs : List (List ℕ)) → ClosesAngle name closing by → b ∷ bs ≡ closing ++ rest → b ≡ mark 41
 closes-first false name closing rest b bs (onQubit a h q) e = let z : b ∷ bs ≡ (mark 41 ∷ (qubitWords name a ++ (mark 59 ∷ []))) ++ rest = e ∙ ap (λ l. l ++ rest) q in cc z
 closes-first true name closing rest b bs (without q) e = let z : b ∷ bs ≡ (mark 41 ∷ mark 59 ∷ []) ++ rest = e ∙ ap (λ l. l ++ rest) q in cc z
 
-closes-there : (by : Bool) (name : List ℕ) (closing rest : List (List ℕ)) (f : ℕ → ℕ) → Closes name closing by → isThere (followOf by name (some (tag f (closing ++ rest)))) ≡ true
-unfolding followOf
+closes-there : (by : Bool) (name : List ℕ) (closing rest : List (List ℕ)) (f : ℕ → ℕ) → ClosesAngle name closing by → isThere (readFollow by name (some (tag f (closing ++ rest)))) ≡ true
+unfolding readFollow
 closes-there false name closing rest f (onQubit a h q) =
     let z : closing ++ rest ≡ mark 41 ∷ (qubitWords name a ++ (mark 59 ∷ rest)) = ap (λ l. l ++ rest) q ∙ ap (λ l. mark 41 ∷ l) (append-assoc (qubitWords name a) (mark 59 ∷ []) rest) in
-    ap (λ l. isThere (tailOf name (some (tag f l)) .rest)) z ∙ ap (λ (g : Got). isThere (g .rest)) (tail-forth name a f rest h)
+    ap (λ l. isThere (readTail name (some (tag f l)) .rest)) z ∙ ap (λ (g : Got Word). isThere (g .rest)) (tail-forth name a f rest h)
 closes-there true name closing rest f (without q) = ap (λ l. isThere (taken (mark 59) (taken (mark 41) (some (tag f (l ++ rest)))))) q ∙ rw (taken-forth, taken-forth)
 
-ends-here : (by : Bool) (name : List ℕ) (ws : List Word) (closing rest : List (List ℕ)) → Closes name closing by → bodies ws ≡ closing ++ rest → endsIn by name ws ≡ true
+ends-here : (by : Bool) (name : List ℕ) (ws : List Word) (closing rest : List (List ℕ)) → ClosesAngle name closing by → bodies ws ≡ closing ++ rest → endsIn by name ws ≡ true
 unfolding endsIn
 ends-here false name [] closing rest (onQubit a h q) e = let z : _≡_ {A = ℕ} 0 (suc (length ((qubitWords name a ++ (mark 59 ∷ [])) ++ rest))) = ap length (e ∙ ap (λ l. l ++ rest) q) in absurd (omega arith)
 ends-here true name [] closing rest (without q) e = let z : _≡_ {A = ℕ} 0 (suc (length (mark 59 ∷ rest))) = ap length (e ∙ ap (λ l. l ++ rest) q) in absurd (omega arith)
 ends-here by name (w ∷ ws) closing rest c e =
     let f = placesOf (w ∷ ws) in
     let q : w ∷ ws ≡ tag f (closing ++ rest) = tag-bodies (w ∷ ws) ∙ ap (λ l. tag f l) e in
-    let t : isThere (followOf by name (some (w ∷ ws))) ≡ true = ap (λ l. isThere (followOf by name (some l))) q ∙ closes-there by name closing rest f c in
+    let t : isThere (readFollow by name (some (w ∷ ws))) ≡ true = ap (λ l. isThere (readFollow by name (some l))) q ∙ closes-there by name closing rest f c in
     rw (t, same-not (w .bytes) (mark 59) (λ k. no-mark (sym (closes-first by name closing rest (w .bytes) (bodies ws) c e) ∙ k)))
 
-ends-forth : (by : Bool) (name : List ℕ) (angle : List (List ℕ)) (ws : List Word) (closing rest : List (List ℕ)) → Unended angle → Closes name closing by
+ends-forth : (by : Bool) (name : List ℕ) (angle : List (List ℕ)) (ws : List Word) (closing rest : List (List ℕ)) → Unended angle → ClosesAngle name closing by
     → bodies ws ≡ angle ++ (closing ++ rest) → endsIn by name ws ≡ true
 unfolding endsIn Unended
 ends-forth by name [] ws closing rest u c e = ends-here by name ws closing rest c e
@@ -191,10 +192,10 @@ ends-forth by name (b ∷ bs) [] closing rest u c e = let z : _≡_ {A = ℕ} 0 
 ends-forth by name (b ∷ bs) (w ∷ ws) closing rest u c e =
     let p : w .bytes ≡ b = cc e in
     let q : bodies ws ≡ bs ++ (closing ++ rest) = cc e in
-    rw (same-not (w .bytes) (mark 59) (λ k. u .0 (sym p ∙ k))) (either-second (isThere (followOf by name (some (w ∷ ws)))) (endsIn by name ws) (ends-forth by name bs ws closing rest (u .1) c q))
+    rw (same-not (w .bytes) (mark 59) (λ k. u .0 (sym p ∙ k))) (either-second (isThere (readFollow by name (some (w ∷ ws)))) (endsIn by name ws) (ends-forth by name bs ws closing rest (u .1) c q))
 
-opening-on : (word : List ℕ) (ws t : List Word) → bodies ws ≡ word ∷ mark 40 ∷ [] → openingOf word (some (ws ++ t)) ≡ some t
-unfolding openingOf taken
+opening-on : (word : List ℕ) (ws t : List Word) → bodies ws ≡ word ∷ mark 40 ∷ [] → readOpening word (some (ws ++ t)) ≡ some t
+unfolding readOpening taken
 opening-on word [] t e = let z : _≡_ {A = ℕ} 0 2 = ap length e in absurd (omega arith)
 opening-on word (a ∷ []) t e = let z : _≡_ {A = ℕ} 1 2 = ap length e in absurd (omega arith)
 opening-on word (a ∷ b ∷ []) t e =
@@ -203,37 +204,37 @@ opening-on word (a ∷ b ∷ []) t e =
     rw (p, same-self word, q, same-self (mark 40))
 opening-on word (a ∷ b ∷ c ∷ ws) t e = let z : _≡_ {A = ℕ} (suc (suc (suc (length (bodies ws))))) 2 = ap length e in absurd (omega arith)
 
-bad-here : (by : Bool) (name word : List ℕ) (ws : List Word) (angle closing rest : List (List ℕ)) → Unended angle → Closes name closing by → bodies ws ≡ (word ∷ mark 40 ∷ []) ++ (angle ++ (closing ++ rest))
-    → endsAt by name (openingOf word (some ws)) ≡ true
+bad-here : (by : Bool) (name word : List ℕ) (ws : List Word) (angle closing rest : List (List ℕ)) → Unended angle → ClosesAngle name closing by → bodies ws ≡ (word ∷ mark 40 ∷ []) ++ (angle ++ (closing ++ rest))
+    → endsAt by name (readOpening word (some ws)) ≡ true
 unfolding endsAt
 bad-here by name word ws angle closing rest u c e =
     let b = before (word ∷ mark 40 ∷ []) (angle ++ (closing ++ rest)) ws e in
-    let g : openingOf word (some (b .front ++ b .back)) ≡ some (b .back) = opening-on word (b .front) (b .back) (b .front-spelt) in
-    ap (λ l. endsAt by name (openingOf word (some l))) (b .same) ∙ ap (endsAt by name) g ∙ ends-forth by name angle (b .back) closing rest u c (b .back-spelt)
+    let g : readOpening word (some (b .front ++ b .back)) ≡ some (b .back) = opening-on word (b .front) (b .back) (b .front-spelt) in
+    ap (λ l. endsAt by name (readOpening word (some l))) (b .same) ∙ ap (endsAt by name) g ∙ ends-forth by name angle (b .back) closing rest u c (b .back-spelt)
 
 -- what each of the tests says makes the whole test say so
 module _ (v : Version) (name : List ℕ) (ws : List Word) where
   abbrev bad-u1 : Bool
-  bad-u1 = endsAt false name (openingOf u1 (some ws))
+  bad-u1 = endsAt false name (readOpening u1 (some ws))
 
   abbrev bad-rz : Bool
-  bad-rz = endsAt false name (openingOf rz (some ws))
+  bad-rz = endsAt false name (readOpening rz (some ws))
 
   newer-in : badNewer v name (some ws) ≡ true → badAngle v name (some ws) ≡ true
   unfolding badAngle
   newer-in e = either-second bad-u1 _ (either-second bad-rz _ e)
 
-rotor-bad : (v : Version) (r : Rotor) (name : List ℕ) (ws : List Word) → Carried v r → endsAt false name (openingOf (rotorWord r) (some ws)) ≡ true → badAngle v name (some ws) ≡ true
+rotor-bad : (v : Version) (r : Rotor) (name : List ℕ) (ws : List Word) → Carried v r → endsAt false name (readOpening (rotorWord r) (some ws)) ≡ true → badAngle v name (some ws) ≡ true
 unfolding badAngle badNewer Carried Newer
 rotor-bad v asU1 name ws c e = either-first _ _ e
 rotor-bad v asRz name ws c e = either-second (bad-u1 v name ws) _ (either-first _ (badNewer v name (some ws)) e)
 rotor-bad Two asP name ws c e = absurd c
-rotor-bad Three asP name ws c e = newer-in Three name ws (either-first _ (endsAt true name (openingOf gphase (some ws))) e)
+rotor-bad Three asP name ws c e = newer-in Three name ws (either-first _ (endsAt true name (readOpening gphase (some ws))) e)
 
-alone-bad : (v : Version) (name : List ℕ) (ws : List Word) → Newer v → endsAt true name (openingOf gphase (some ws)) ≡ true → badAngle v name (some ws) ≡ true
+alone-bad : (v : Version) (name : List ℕ) (ws : List Word) → Newer v → endsAt true name (readOpening gphase (some ws)) ≡ true → badAngle v name (some ws) ≡ true
 unfolding badNewer Newer
 alone-bad Two name ws n e = absurd n
-alone-bad Three name ws n e = newer-in Three name ws (either-second (endsAt false name (openingOf (mark 112) (some ws))) _ e)
+alone-bad Three name ws n e = newer-in Three name ws (either-second (endsAt false name (readOpening (mark 112) (some ws))) _ e)
 
 frame-bad : (v : Version) (name : List ℕ) (ws : List Word) (opening angle closing rest : List (List ℕ)) → Frame v name opening closing → Unended angle → bodies ws ≡ opening ++ (angle ++ (closing ++ rest)) → badAngle v name (some ws) ≡ true
 frame-bad v name ws opening angle closing rest (gate r a c h p q) u e = rotor-bad v r name ws c (bad-here false name (rotorWord r) ws angle closing rest u (onQubit a h q) (e ∙ ap (λ l. l ++ (angle ++ (closing ++ rest))) p))

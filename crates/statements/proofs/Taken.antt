@@ -11,10 +11,10 @@ use Rattle.sets.specs.Pick.{pick, both}
 use Rattle.lines.specs.Lines.{digits}
 use Rattle.lines.proofs.Digits.{digits-small, digits-big}
 use Rattle.spots.specs.Numbers.{readNumber, digitOf}
-use Rattle.spots.proofs.Numbers.{never, number-back, number-forth, number-le}
+use Rattle.spots.proofs.Numbers.{never-some, number-back, number-forth, number-le}
 use Rattle.words.specs.Bytes.{same}
 use Rattle.words.specs.Words.{Word, bodies}
-use Rattle.words.specs.Taking.{taken, behind, numbered, isName, named, front}
+use Rattle.words.specs.Taking.{taken, behind, numbered, isName, named, frontWord}
 
 -- ---- the same words
 
@@ -35,24 +35,24 @@ same-is (x ∷ a) (y ∷ b) e = go (eqb x y) refl e (same-is a b)
     go false p e ih = let z : _≡_ {A = ℕ} 0 1 = cc e in absurd (omega arith)
 
 -- a number begins with a digit
-pub record First (b : List ℕ) : Type 0 where
+pub record FirstDigit (b : List ℕ) : Type 0 where
   pub digit : ℕ
   pub rest : List ℕ
   pub low : digit < 10
   pub same : b ≡ (48 + digit) ∷ rest
 
-first-digit : (f v : ℕ) → v < f → First (digits v)
+first-digit : (f v : ℕ) → v < f → FirstDigit (digits v)
 first-digit zero v h = absurd (omega arith)
 first-digit (suc f) v h = go (ltb v 10) refl (first-digit f (v / 10))
   where
-    go : (t : Bool) → ltb v 10 ≡ t → (v / 10 < f → First (digits (v / 10))) → First (digits v)
+    go : (t : Bool) → ltb v 10 ≡ t → (v / 10 < f → FirstDigit (digits (v / 10))) → FirstDigit (digits v)
     go true e ih = record { digit = v; rest = []; low = ltb-true v 10 e; same = digits-small v (ltb-true v 10 e) }
     go false e ih =
         let l : 10 ≤ v = ltb-false v 10 e in
         let d = ih (omega arith) in
         record { digit = d .digit; rest = d .rest ++ ((48 + v % 10) ∷ []); low = d .low; same = digits-big v l ∙ ap (λ b. b ++ ((48 + v % 10) ∷ [])) (d .same) }
 
-pub digits-first : (v : ℕ) → First (digits v)
+pub digits-first : (v : ℕ) → FirstDigit (digits v)
 digits-first v = first-digit (suc v) v (omega arith)
 
 -- and is no word that begins otherwise
@@ -94,7 +94,7 @@ pub record Leads (o : Option (List Word)) (bs : List (List ℕ)) (t : List Word)
   pub spelt : bodies words ≡ bs
 
 pub leads-none : {bs : List (List ℕ)} {t : List Word} {B : Type 0} → Leads none bs t → B
-leads-none h = never (h .same)
+leads-none h = never-some (h .same)
 
 -- a word in front of them
 leads-more : (w : Word) (ws : List Word) (b : List ℕ) {bs : List (List ℕ)} {t : List Word} → w .bytes ≡ b → Leads (some ws) bs t → Leads (some (w ∷ ws)) (b ∷ bs) t
@@ -132,8 +132,8 @@ number-most most none = omega arith
 number-most most (some []) = omega arith
 number-most most (some (w ∷ ws)) = number-le most (some (w .bytes))
 
-pub named-back : (o : Option (List Word)) {bs : List (List ℕ)} {t : List Word} → Leads (named o) bs t → Leads o (front o ∷ bs) t × (isName (front o) ≡ true)
-unfolding named front
+pub named-back : (o : Option (List Word)) {bs : List (List ℕ)} {t : List Word} → Leads (named o) bs t → Leads o (frontWord o ∷ bs) t × (isName (frontWord o) ≡ true)
+unfolding named frontWord
 named-back none h = leads-none h
 named-back (some []) h = leads-none h
 named-back (some (w ∷ ws)) {bs} {t} h = go (isName (w .bytes)) refl h

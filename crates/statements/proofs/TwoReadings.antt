@@ -1,5 +1,5 @@
 -- The two readings of the same gates (request E5): "the same gates under 2.0 and 3.0 read as the same records, and their common phases differ by minus half the sum of the `rz` angles, modulo one turn". Assumes nothing.
--- The records do not depend on the version: `recordsIn` does not speak of it.
+-- The records do not depend on the version: `formRecords` does not speak of it.
 use mathlib.Core.Path.{_≡_, refl, ap, ap₂, _∙_}
 use mathlib.Core.List.{List, [], _∷_}
 use Prim.Native.Nat.{ℕ, _+_, _*_, _/_, _%_}

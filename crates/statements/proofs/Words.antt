@@ -7,10 +7,10 @@ use native.Mathlib.Omega.{arith}
 use lib.ListN.{length, getD, length-append}
 use Rattle.words.specs.Words.{Word, bodies}
 use Rattle.versions.specs.declared.Version.{Version}
-use Rattle.statements.specs.Statements.{gateOf}
+use Rattle.statements.specs.Statements.{readGate}
 use Rattle.statements.specs.Forms.{Form, GoodForm, formWords, formRecord, formPhase}
 use Rattle.statements.proofs.Forth.{tag, tag-bodies, afterForm, gate-forth}
-use Rattle.statements.proofs.Back.{gate-back}
+use Rattle.statements.proofs.Back.{gate-said-back}
 
 pub bodies-length : (ws : List Word) → length (bodies ws) ≡ length ws
 bodies-length [] = refl
@@ -21,14 +21,14 @@ bodies-append [] ts = refl
 bodies-append (w ∷ ws) ts = ap (λ l. w .bytes ∷ l) (bodies-append ws ts)
 
 -- the words of a list whose bytes come in two parts
-pub record Before (xs bs : List (List ℕ)) (ws : List Word) : Type 0 where
+pub record TwoParts (xs bs : List (List ℕ)) (ws : List Word) : Type 0 where
   pub front : List Word
   pub back : List Word
   pub same : ws ≡ front ++ back
   pub front-spelt : bodies front ≡ xs
   pub back-spelt : bodies back ≡ bs
 
-pub before : (xs bs : List (List ℕ)) (ws : List Word) → bodies ws ≡ xs ++ bs → Before xs bs ws
+pub before : (xs bs : List (List ℕ)) (ws : List Word) → bodies ws ≡ xs ++ bs → TwoParts xs bs ws
 before [] bs ws e = record { front = []; back = ws; same = refl; front-spelt = refl; back-spelt = e }
 before (x ∷ xs) bs [] e = let z : _≡_ {A = ℕ} 0 (suc (length (xs ++ bs))) = ap length e in absurd (omega arith)
 before (x ∷ xs) bs (w ∷ ws) e =
@@ -57,11 +57,11 @@ tagged ws t bs e = tag-bodies (ws ++ t) ∙ ap (λ l. tag (placesOf (ws ++ t)) l
 
 -- THEOREM: where a form stands, what it says is read, and the words behind it are left
 pub gate-on : (v : Version) (name : List ℕ) (f : Form) (ws t : List Word) → GoodForm v f → bodies ws ≡ formWords name f
-    → gateOf v name (some (ws ++ t)) ≡ record { records = formRecord f; phase = formPhase v f; rest = some t }
+    → readGate v name (some (ws ++ t)) ≡ record { records = formRecord f; phase = formPhase v f; rest = some t }
 gate-on v name f ws t h e =
     let u = tag (afterForm f (placesOf (ws ++ t))) (bodies t) in
-    let g : gateOf v name (some (ws ++ t)) ≡ record { records = formRecord f; phase = formPhase v f; rest = some u } = ap (λ l. gateOf v name (some l)) (tagged ws t (formWords name f) e) ∙ gate-forth v name f (placesOf (ws ++ t)) (bodies t) h in
-    let b = gate-back v name (some (ws ++ t)) {bs = []} {t = u} (record { words = []; same = ap (λ x. x .rest) g; spelt = refl }) in
+    let g : readGate v name (some (ws ++ t)) ≡ record { records = formRecord f; phase = formPhase v f; rest = some u } = ap (λ l. readGate v name (some l)) (tagged ws t (formWords name f) e) ∙ gate-forth v name f (placesOf (ws ++ t)) (bodies t) h in
+    let b = gate-said-back v name (some (ws ++ t)) {bs = []} {t = u} (record { words = []; same = ap (λ x. x .rest) g; spelt = refl }) in
     let s : ws ++ t ≡ b .leads .words ++ u = cc (b .leads .same) in
     let l : length t ≡ length u = sym (tag-length _ (bodies t) ∙ bodies-length t) in
     g ∙ ap (λ x. record { records = formRecord f; phase = formPhase v f; rest = some x }) (sym (same-behind ws (b .leads .words) t u s l))

@@ -7,7 +7,7 @@ use Rattle.gates.specs.Layout.{packed}
 use Rattle.circuit.specs.Phase.{phases}
 use Rattle.angles.specs.declared.Scale.{Scale}
 use Rattle.angles.specs.declared.Scale.the-variants.{Units, Halves}
-use Rattle.angles.specs.Units.{mostTimes, isOver, countOf, unitsOf}
+use Rattle.angles.specs.Units.{turnIn, mostTimes, isOver, angleIn, unitsOf}
 use Rattle.lines.specs.Lines.{digits}
 use Rattle.versions.specs.declared.Version.{Version}
 use Rattle.versions.specs.declared.Version.the-variants.{Two, Three}
@@ -21,9 +21,9 @@ pub data Times : Type 0 where
   many : ℕ → Times
 
 -- "or these over"
-pub data Over : Type 0 where
-  plain : Over
-  over : ℕ → Over
+pub data Divisor : Type 0 where
+  plain : Divisor
+  over : ℕ → Divisor
 
 -- "The reader takes `rz` besides `u1`, and in 3.0 `p`": how a rotation is written
 pub data Rotor : Type 0 where
@@ -34,10 +34,10 @@ pub data Rotor : Type 0 where
 -- a gate as it is written, or a common phase: an angle has its minus
 pub data Form : Type 0 where
   cnot : ℕ → ℕ → Form
-  turn : Rotor → Bool → Times → Over → ℕ → Form
+  turn : Rotor → Bool → Times → Divisor → ℕ → Form
   xgate : ℕ → Form
   hadamard : ℕ → Form
-  common : Bool → Times → Over → Form
+  common : Bool → Times → Divisor → Form
 
 -- ---- within the limits
 
@@ -56,16 +56,16 @@ GoodTimes c nought = Unit {0}
 GoodTimes c once = Unit {0}
 GoodTimes c (many k) = k ≤ mostTimes c
 
-unfoldable pub GoodOver : Scale → Over → Type 0
-GoodOver c plain = Unit {0}
-GoodOver c (over d) = isOver c d ≡ true
+unfoldable pub GoodDivisor : Scale → Divisor → Type 0
+GoodDivisor c plain = Unit {0}
+GoodDivisor c (over d) = isOver c d ≡ true
 
 unfoldable pub GoodForm : Version → Form → Type 0
 GoodForm v (cnot a b) = (a ≤ mostQubit) × (b ≤ mostQubit)
-GoodForm v (turn r m t o a) = Carried v r × GoodTimes Units t × GoodOver Units o × (a ≤ mostQubit)
+GoodForm v (turn r m t o a) = Carried v r × GoodTimes Units t × GoodDivisor Units o × (a ≤ mostQubit)
 GoodForm v (xgate a) = a ≤ mostQubit
 GoodForm v (hadamard a) = a ≤ mostQubit
-GoodForm v (common m t o) = Newer v × GoodTimes Halves t × GoodOver Halves o
+GoodForm v (common m t o) = Newer v × GoodTimes Halves t × GoodDivisor Halves o
 
 -- ---- the words
 
@@ -74,9 +74,9 @@ timesWords nought = mark 48 ∷ []
 timesWords once = pi ∷ []
 timesWords (many k) = digits k ∷ mark 42 ∷ pi ∷ []
 
-unfoldable pub overWords : Over → List (List ℕ)
-overWords plain = []
-overWords (over d) = mark 47 ∷ digits d ∷ []
+unfoldable pub divisorWords : Divisor → List (List ℕ)
+divisorWords plain = []
+divisorWords (over d) = mark 47 ∷ digits d ∷ []
 
 unfoldable pub minusWords : Bool → List (List ℕ)
 minusWords true = mark 45 ∷ []
@@ -93,10 +93,10 @@ rotorWord asP = mark 112
 unfoldable pub formWords : List ℕ → Form → List (List ℕ)
 formWords name (cnot a b) = cx ∷ (qubitWords name a ++ (mark 44 ∷ (qubitWords name b ++ (mark 59 ∷ []))))
 formWords name (turn r m t o a) =
-    rotorWord r ∷ mark 40 ∷ (minusWords m ++ (timesWords t ++ (overWords o ++ (mark 41 ∷ (qubitWords name a ++ (mark 59 ∷ []))))))
+    rotorWord r ∷ mark 40 ∷ (minusWords m ++ (timesWords t ++ (divisorWords o ++ (mark 41 ∷ (qubitWords name a ++ (mark 59 ∷ []))))))
 formWords name (xgate a) = mark 120 ∷ (qubitWords name a ++ (mark 59 ∷ []))
 formWords name (hadamard a) = mark 104 ∷ (qubitWords name a ++ (mark 59 ∷ []))
-formWords name (common m t o) = gphase ∷ mark 40 ∷ (minusWords m ++ (timesWords t ++ (overWords o ++ (mark 41 ∷ mark 59 ∷ []))))
+formWords name (common m t o) = gphase ∷ mark 40 ∷ (minusWords m ++ (timesWords t ++ (divisorWords o ++ (mark 41 ∷ mark 59 ∷ []))))
 
 unfoldable pub formsWords : List ℕ → List Form → List (List ℕ)
 formsWords name [] = []
@@ -143,36 +143,36 @@ timesIn nought = 0
 timesIn once = 1
 timesIn (many k) = k
 
-unfoldable pub overIn : Over → ℕ
-overIn plain = 1
-overIn (over d) = d
+unfoldable pub divisorIn : Divisor → ℕ
+divisorIn plain = 1
+divisorIn (over d) = d
 
 -- the record of a gate; a common phase has none
 unfoldable pub formRecord : Form → List ℕ
 formRecord (cnot a b) = packed 1 a b ∷ []
-formRecord (turn r m t o a) = packed 2 a (unitsOf m (timesIn t) (overIn o)) ∷ []
+formRecord (turn r m t o a) = packed 2 a (unitsOf m (timesIn t) (divisorIn o)) ∷ []
 formRecord (xgate a) = packed 3 a 0 ∷ []
 formRecord (hadamard a) = packed 4 a 0 ∷ []
 formRecord (common m t o) = []
 
-unfoldable pub recordsIn : List Form → List ℕ
-recordsIn [] = []
-recordsIn (f ∷ fs) = formRecord f ++ recordsIn fs
+unfoldable pub formRecords : List Form → List ℕ
+formRecords [] = []
+formRecords (f ∷ fs) = formRecord f ++ formRecords fs
 
 -- "In OpenQASM 2.0's qelib1.inc, `rz` is the same as `u1`. In OpenQASM 3.0's stdgates.inc it carries a common phase of minus half its angle": half of a units are a half units
 unfoldable pub halfTaken : Version → ℕ → ℕ
 halfTaken Two a = 0
-halfTaken Three a = (131072 - a % 131072) % 131072
+halfTaken Three a = (turnIn Halves - a % turnIn Halves) % turnIn Halves
 
 -- what a form adds to the common phase, in half units
 unfoldable pub formPhase : Version → Form → ℕ
 formPhase v (cnot a b) = 0
 formPhase v (turn asU1 m t o a) = 0
-formPhase v (turn asRz m t o a) = halfTaken v (countOf Units m (timesIn t) (overIn o))
+formPhase v (turn asRz m t o a) = halfTaken v (angleIn Units m (timesIn t) (divisorIn o))
 formPhase v (turn asP m t o a) = 0
 formPhase v (xgate a) = 0
 formPhase v (hadamard a) = 0
-formPhase v (common m t o) = countOf Halves m (timesIn t) (overIn o)
+formPhase v (common m t o) = angleIn Halves m (timesIn t) (divisorIn o)
 
 unfoldable pub phaseOfForms : Version → List Form → ℕ
 phaseOfForms v [] = 0
@@ -182,7 +182,7 @@ phaseOfForms v (f ∷ fs) = phases (formPhase v f) (phaseOfForms v fs)
 unfoldable pub rzAngle : Form → ℕ
 rzAngle (cnot a b) = 0
 rzAngle (turn asU1 m t o a) = 0
-rzAngle (turn asRz m t o a) = countOf Units m (timesIn t) (overIn o)
+rzAngle (turn asRz m t o a) = angleIn Units m (timesIn t) (divisorIn o)
 rzAngle (turn asP m t o a) = 0
 rzAngle (xgate a) = 0
 rzAngle (hadamard a) = 0

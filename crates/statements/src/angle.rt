@@ -2,34 +2,34 @@
 use crate::mark;
 use angles::Multiple;
 use angles::Scale;
-use spots::spot::Part;
+use spots::spot::Fetched;
 use spots::spot::Spot;
 use words::take;
 ghost use mathlib.Core.Path.{_≡_};
-ghost use Rattle.words.specs.Places.{leftAt, gotAt};
-ghost use Rattle.statements.specs.Statements.{manyOf, timesOf, dividedOf, overOf, multipleOf, angleOf};
+ghost use Rattle.words.specs.Places.{wordsAt, gotWords};
+ghost use Rattle.statements.specs.Statements.{readMany, readTimes, readDivided, readDivisor, readMultiple, readAngle};
 
 // `k*pi`
-fn many(text: &[u8], from: Spot, scale: Scale) -> Part
-    ensures { λ r. ⌜ gotAt (now (text .entry)) r ≡ manyOf scale (leftAt (now (text .entry)) from) ⌝ }
+fn many(text: &[u8], from: Spot, scale: Scale) -> Fetched
+    ensures { λ r. ⌜ gotWords (now (text .entry)) r ≡ readMany scale (wordsAt (now (text .entry)) from) ⌝ }
 {
     let k = take::number(text, from, angles::most_times(scale));
     let k_next = k.next;
     let star = mark::mark(text, k_next, b'*');
     let end = mark::pi(text, star);
-    Part {
+    Fetched {
         value: k.value,
         next: end,
     }
 }
 
 // `0`, `pi` or `k*pi`
-fn times(text: &[u8], from: Spot, scale: Scale) -> Part
-    ensures { λ r. ⌜ gotAt (now (text .entry)) r ≡ timesOf scale (leftAt (now (text .entry)) from) ⌝ }
+fn times(text: &[u8], from: Spot, scale: Scale) -> Fetched
+    ensures { λ r. ⌜ gotWords (now (text .entry)) r ≡ readTimes scale (wordsAt (now (text .entry)) from) ⌝ }
 {
     let once = mark::pi(text, from);
     match once {
-        Spot::At(_) => Part {
+        Spot::At(_) => Fetched {
             value: 1,
             next: once,
         },
@@ -40,7 +40,7 @@ fn times(text: &[u8], from: Spot, scale: Scale) -> Part
                 Spot::At(_) => m,
                 Spot::Lost => {
                     let zero = mark::mark(text, from, b'0');
-                    Part {
+                    Fetched {
                         value: 0,
                         next: zero,
                     }
@@ -51,36 +51,36 @@ fn times(text: &[u8], from: Spot, scale: Scale) -> Part
 }
 
 // `/` and a power of two
-fn divided(text: &[u8], from: Spot, scale: Scale) -> Part
-    ensures { λ r. ⌜ gotAt (now (text .entry)) r ≡ dividedOf scale (leftAt (now (text .entry)) from) ⌝ }
+fn divided(text: &[u8], from: Spot, scale: Scale) -> Fetched
+    ensures { λ r. ⌜ gotWords (now (text .entry)) r ≡ readDivided scale (wordsAt (now (text .entry)) from) ⌝ }
 {
     let slash = mark::mark(text, from, b'/');
     let d = take::number(text, slash, angles::most_times(scale));
     if angles::is_over(scale, d.value) {
         return d;
     }
-    Part {
+    Fetched {
         value: d.value,
         next: Spot::Lost,
     }
 }
 
-fn over(text: &[u8], from: Spot, scale: Scale) -> Part
-    ensures { λ r. ⌜ gotAt (now (text .entry)) r ≡ overOf scale (leftAt (now (text .entry)) from) ⌝ }
+fn over(text: &[u8], from: Spot, scale: Scale) -> Fetched
+    ensures { λ r. ⌜ gotWords (now (text .entry)) r ≡ readDivisor scale (wordsAt (now (text .entry)) from) ⌝ }
 {
     let d = divided(text, from, scale);
     let d_next = d.next;
     match d_next {
         Spot::At(_) => d,
-        Spot::Lost => Part {
+        Spot::Lost => Fetched {
             value: 1,
             next: from,
         },
     }
 }
 
-fn multiple(text: &[u8], from: Spot, scale: Scale, minus: bool) -> Part
-    ensures { λ r. ⌜ gotAt (now (text .entry)) r ≡ multipleOf scale minus (leftAt (now (text .entry)) from) ⌝ }
+fn multiple(text: &[u8], from: Spot, scale: Scale, minus: bool) -> Fetched
+    ensures { λ r. ⌜ gotWords (now (text .entry)) r ≡ readMultiple scale minus (wordsAt (now (text .entry)) from) ⌝ }
 {
     let k = times(text, from, scale);
     let k_next = k.next;
@@ -92,14 +92,14 @@ fn multiple(text: &[u8], from: Spot, scale: Scale, minus: bool) -> Part
         over: d.value,
     };
     let count = m.count(scale);
-    Part {
+    Fetched {
         value: count,
         next: d_next,
     }
 }
 
-pub(crate) fn angle(text: &[u8], from: Spot, scale: Scale) -> Part
-    ensures { λ r. ⌜ gotAt (now (text .entry)) r ≡ angleOf scale (leftAt (now (text .entry)) from) ⌝ }
+pub(crate) fn angle(text: &[u8], from: Spot, scale: Scale) -> Fetched
+    ensures { λ r. ⌜ gotWords (now (text .entry)) r ≡ readAngle scale (wordsAt (now (text .entry)) from) ⌝ }
 {
     let minus = mark::mark(text, from, b'-');
     match minus {

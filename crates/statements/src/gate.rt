@@ -2,7 +2,7 @@
 use crate::angle;
 use crate::mark;
 use angles::Scale;
-use spots::spot::Part;
+use spots::spot::Fetched;
 use spots::spot::Spot;
 use versions::Version;
 use words::take;
@@ -13,10 +13,10 @@ ghost use mathlib.Core.Option.{some};
 ghost use Prim.Native.Nat.{ℕ, _≤_};
 ghost use lib.ListN.{drop};
 ghost use Rattle.words.specs.Words.{words};
-ghost use Rattle.words.specs.Places.{leftAt, gotAt};
+ghost use Rattle.words.specs.Places.{wordsAt, gotWords};
 ghost use Rattle.statements.specs.Forms.{halfTaken};
-ghost use Rattle.statements.specs.Statements.{qubitOf, cnotOf, tailOf, openingOf, turnOf, rotated, commonOf, newerOf, rotationOf, singleOf, plainOf, gateOf, followOf, endsIn, endsAt, badNewer, badAngle};
-ghost use Rattle.statements.specs.Places.{turnedAt, saidAt};
+ghost use Rattle.statements.specs.Statements.{readQubit, readCnot, readTail, readOpening, readTurn, rotated, readCommon, readNewer, readRotation, readSingle, readPlain, readGate, readFollow, endsIn, endsAt, badNewer, badAngle};
+ghost use Rattle.statements.specs.Places.{turnAt, saidAt};
 
 pub(crate) const MOST_QUBIT: u32 = 255;
 
@@ -36,23 +36,23 @@ struct Turning {
 }
 
 // `NAME[a]`
-fn qubit(text: &[u8], name: &[u8], from: Spot) -> Part
-    ensures { λ r. ⌜ gotAt (now (text .entry)) r ≡ qubitOf (now (name .entry)) (leftAt (now (text .entry)) from) ⌝ }
+fn qubit(text: &[u8], name: &[u8], from: Spot) -> Fetched
+    ensures { λ r. ⌜ gotWords (now (text .entry)) r ≡ readQubit (now (name .entry)) (wordsAt (now (text .entry)) from) ⌝ }
 {
     let p0 = take::take(text, from, name);
     let p1 = mark::mark(text, p0, b'[');
     let a = take::number(text, p1, MOST_QUBIT);
     let a_next = a.next;
     let end = mark::mark(text, a_next, b']');
-    Part {
+    Fetched {
         value: a.value,
         next: end,
     }
 }
 
 // `cx NAME[a],NAME[b];`
-fn cnot(text: &[u8], name: &[u8], from: Spot) -> Part
-    ensures { λ r. ⌜ gotAt (now (text .entry)) r ≡ cnotOf (now (name .entry)) (leftAt (now (text .entry)) from) ⌝ }
+fn cnot(text: &[u8], name: &[u8], from: Spot) -> Fetched
+    ensures { λ r. ⌜ gotWords (now (text .entry)) r ≡ readCnot (now (name .entry)) (wordsAt (now (text .entry)) from) ⌝ }
 {
     let p0 = take::take(text, from, b"cx");
     let a = qubit(text, name, p0);
@@ -61,21 +61,21 @@ fn cnot(text: &[u8], name: &[u8], from: Spot) -> Part
     let b = qubit(text, name, p1);
     let b_next = b.next;
     let end = mark::mark(text, b_next, b';');
-    Part {
+    Fetched {
         value: 16777216 + a.value * 65536 + b.value,
         next: end,
     }
 }
 
 // `) NAME[a];`
-fn tail(text: &[u8], name: &[u8], from: Spot) -> Part
-    ensures { λ r. ⌜ gotAt (now (text .entry)) r ≡ tailOf (now (name .entry)) (leftAt (now (text .entry)) from) ⌝ }
+fn tail(text: &[u8], name: &[u8], from: Spot) -> Fetched
+    ensures { λ r. ⌜ gotWords (now (text .entry)) r ≡ readTail (now (name .entry)) (wordsAt (now (text .entry)) from) ⌝ }
 {
     let p0 = mark::mark(text, from, b')');
     let a = qubit(text, name, p0);
     let a_next = a.next;
     let end = mark::mark(text, a_next, b';');
-    Part {
+    Fetched {
         value: a.value,
         next: end,
     }
@@ -83,7 +83,7 @@ fn tail(text: &[u8], name: &[u8], from: Spot) -> Part
 
 // `u1(`, or with another word
 fn opening(text: &[u8], from: Spot, word: &[u8]) -> Spot
-    ensures { λ r. ⌜ leftAt (now (text .entry)) r ≡ openingOf (now (word .entry)) (leftAt (now (text .entry)) from) ⌝ }
+    ensures { λ r. ⌜ wordsAt (now (text .entry)) r ≡ readOpening (now (word .entry)) (wordsAt (now (text .entry)) from) ⌝ }
 {
     let p0 = take::take(text, from, word);
     mark::mark(text, p0, b'(')
@@ -91,7 +91,7 @@ fn opening(text: &[u8], from: Spot, word: &[u8]) -> Spot
 
 // `u1(ANGLE) NAME[a];`, or with another word
 fn turn(text: &[u8], name: &[u8], from: Spot, word: &[u8]) -> Turning
-    ensures { λ r. ⌜ turnedAt (now (text .entry)) r ≡ turnOf (now (word .entry)) (now (name .entry)) (leftAt (now (text .entry)) from) ⌝ }
+    ensures { λ r. ⌜ turnAt (now (text .entry)) r ≡ readTurn (now (word .entry)) (now (name .entry)) (wordsAt (now (text .entry)) from) ⌝ }
 {
     let p0 = opening(text, from, word);
     let k = angle::angle(text, p0, Scale::Units);
@@ -118,7 +118,7 @@ fn half_taken(version: Version, angle: u32) -> u32
 // The rotation's record has its angle modulo one turn.
 fn rotated(turn: Turning, phase: u32) -> Stated
     requires { ⌜ turn .qubit ≤ 255 ⌝ }
-    ensures { λ r. ⌜ ((s : List ℕ) → saidAt s r ≡ rotated phase (turnedAt s turn)) ⌝ }
+    ensures { λ r. ⌜ ((s : List ℕ) → saidAt s r ≡ rotated phase (turnAt s turn)) ⌝ }
 {
     let next = turn.next;
     Stated {
@@ -131,7 +131,7 @@ fn rotated(turn: Turning, phase: u32) -> Stated
 
 // `gphase(ANGLE);`
 fn common(text: &[u8], from: Spot) -> Stated
-    ensures { λ r. ⌜ saidAt (now (text .entry)) r ≡ commonOf (leftAt (now (text .entry)) from) ⌝ }
+    ensures { λ r. ⌜ saidAt (now (text .entry)) r ≡ readCommon (wordsAt (now (text .entry)) from) ⌝ }
 {
     let p0 = opening(text, from, b"gphase");
     let k = angle::angle(text, p0, Scale::Halves);
@@ -148,7 +148,7 @@ fn common(text: &[u8], from: Spot) -> Stated
 
 // What OpenQASM 3.0 alone has: `p` and `gphase`.
 fn newer(text: &[u8], version: Version, name: &[u8], from: Spot) -> Stated
-    ensures { λ r. ⌜ saidAt (now (text .entry)) r ≡ newerOf version (now (name .entry)) (leftAt (now (text .entry)) from) ⌝ }
+    ensures { λ r. ⌜ saidAt (now (text .entry)) r ≡ readNewer version (now (name .entry)) (wordsAt (now (text .entry)) from) ⌝ }
 {
     match version {
         Version::Two => Stated {
@@ -170,7 +170,7 @@ fn newer(text: &[u8], version: Version, name: &[u8], from: Spot) -> Stated
 
 // `u1`, `rz`, or what 3.0 alone has.
 fn rotation(text: &[u8], version: Version, name: &[u8], from: Spot) -> Stated
-    ensures { λ r. ⌜ saidAt (now (text .entry)) r ≡ rotationOf version (now (name .entry)) (leftAt (now (text .entry)) from) ⌝ }
+    ensures { λ r. ⌜ saidAt (now (text .entry)) r ≡ readRotation version (now (name .entry)) (wordsAt (now (text .entry)) from) ⌝ }
 {
     let u = turn(text, name, from, b"u1");
     let u_next = u.next;
@@ -188,23 +188,23 @@ fn rotation(text: &[u8], version: Version, name: &[u8], from: Spot) -> Stated
 }
 
 // `x NAME[a];` or `h NAME[a];`
-fn single(text: &[u8], name: &[u8], from: Spot, byte: u8, kind: u32) -> Part
+fn single(text: &[u8], name: &[u8], from: Spot, byte: u8, kind: u32) -> Fetched
     requires { ⌜ kind ≤ 4 ⌝ }
-    ensures { λ r. ⌜ gotAt (now (text .entry)) r ≡ singleOf byte kind (now (name .entry)) (leftAt (now (text .entry)) from) ⌝ }
+    ensures { λ r. ⌜ gotWords (now (text .entry)) r ≡ readSingle byte kind (now (name .entry)) (wordsAt (now (text .entry)) from) ⌝ }
 {
     let p0 = mark::mark(text, from, byte);
     let a = qubit(text, name, p0);
     let a_next = a.next;
     let end = mark::mark(text, a_next, b';');
-    Part {
+    Fetched {
         value: kind * 16777216 + a.value * 65536,
         next: end,
     }
 }
 
 // A CNOT, an X or a Hadamard.
-fn plain(text: &[u8], name: &[u8], from: Spot) -> Part
-    ensures { λ r. ⌜ gotAt (now (text .entry)) r ≡ plainOf (now (name .entry)) (leftAt (now (text .entry)) from) ⌝ }
+fn plain(text: &[u8], name: &[u8], from: Spot) -> Fetched
+    ensures { λ r. ⌜ gotWords (now (text .entry)) r ≡ readPlain (now (name .entry)) (wordsAt (now (text .entry)) from) ⌝ }
 {
     let c = cnot(text, name, from);
     let c_next = c.next;
@@ -223,7 +223,7 @@ fn plain(text: &[u8], name: &[u8], from: Spot) -> Part
 
 // The statement at `at`, behind the register of the name.
 pub fn gate(text: &[u8], version: Version, name: &[u8], at: usize) -> Stated
-    ensures { λ r. ⌜ saidAt (now (text .entry)) r ≡ gateOf version (now (name .entry)) (some (words (drop at (now (text .entry))))) ⌝ }
+    ensures { λ r. ⌜ saidAt (now (text .entry)) r ≡ readGate version (now (name .entry)) (some (words (drop at (now (text .entry))))) ⌝ }
 {
     let g = plain(text, name, Spot::At(at));
     let g_next = g.next;
@@ -240,7 +240,7 @@ pub fn gate(text: &[u8], version: Version, name: &[u8], at: usize) -> Stated
 
 // What can follow an angle: `) NAME[a];`, or `);` alone.
 fn follow(text: &[u8], name: &[u8], from: Spot, alone: bool) -> Spot
-    ensures { λ r. ⌜ leftAt (now (text .entry)) r ≡ followOf alone (now (name .entry)) (leftAt (now (text .entry)) from) ⌝ }
+    ensures { λ r. ⌜ wordsAt (now (text .entry)) r ≡ readFollow alone (now (name .entry)) (wordsAt (now (text .entry)) from) ⌝ }
 {
     if alone {
         let p0 = mark::mark(text, from, b')');
@@ -284,7 +284,7 @@ fn ends_in(text: &[u8], name: &[u8], from: usize, alone: bool) -> bool
 
 // Whether the statement begins with the word and `(`, and holds what can follow an angle.
 fn bad_in(text: &[u8], name: &[u8], at: usize, word: &[u8], alone: bool) -> bool
-    ensures { λ r. ⌜ r ≡ endsAt alone (now (name .entry)) (openingOf (now (word .entry)) (some (words (drop at (now (text .entry)))))) ⌝ }
+    ensures { λ r. ⌜ r ≡ endsAt alone (now (name .entry)) (readOpening (now (word .entry)) (some (words (drop at (now (text .entry)))))) ⌝ }
 {
     let p = opening(text, Spot::At(at), word);
     match p {

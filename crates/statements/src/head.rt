@@ -1,7 +1,7 @@
 // The first three statements.
 use crate::gate::MOST_QUBIT;
 use crate::mark;
-use spots::spot::Part;
+use spots::spot::Fetched;
 use spots::spot::Spot;
 use versions::Version;
 use words::take;
@@ -9,13 +9,13 @@ use words::word;
 ghost use mathlib.Core.Path.{_≡_};
 ghost use lib.ListN.{drop};
 ghost use Rattle.words.specs.Words.{words};
-ghost use Rattle.words.specs.Places.{leftAt, gotAt};
-ghost use Rattle.statements.specs.Statements.{versionOf, includeOf, sizeOf, hasEnd};
+ghost use Rattle.words.specs.Places.{wordsAt, gotWords};
+ghost use Rattle.statements.specs.Statements.{readVersion, readInclude, readSize, hasEnd};
 ghost use Rattle.statements.specs.Places.{RegisterAt};
 ghost use Rattle.versions.specs.declared.Version.the-variants.{Two, Three};
 
 pub fn version(text: &[u8], from: Spot, version: Version) -> Spot
-    ensures { λ r. ⌜ leftAt (now (text .entry)) r ≡ versionOf version (leftAt (now (text .entry)) from) ⌝ }
+    ensures { λ r. ⌜ wordsAt (now (text .entry)) r ≡ readVersion version (wordsAt (now (text .entry)) from) ⌝ }
 {
     let p0 = take::take(text, from, b"OPENQASM");
     let p1 = match version {
@@ -26,7 +26,7 @@ pub fn version(text: &[u8], from: Spot, version: Version) -> Spot
 }
 
 pub fn include(text: &[u8], from: Spot, version: Version) -> Spot
-    ensures { λ r. ⌜ leftAt (now (text .entry)) r ≡ includeOf version (leftAt (now (text .entry)) from) ⌝ }
+    ensures { λ r. ⌜ wordsAt (now (text .entry)) r ≡ readInclude version (wordsAt (now (text .entry)) from) ⌝ }
 {
     let p0 = take::take(text, from, b"include");
     let p1 = match version {
@@ -45,14 +45,14 @@ pub struct Declared {
 }
 
 // `[n]`
-fn size(text: &[u8], from: Spot) -> Part
-    ensures { λ r. ⌜ gotAt (now (text .entry)) r ≡ sizeOf (leftAt (now (text .entry)) from) ⌝ }
+fn size(text: &[u8], from: Spot) -> Fetched
+    ensures { λ r. ⌜ gotWords (now (text .entry)) r ≡ readSize (wordsAt (now (text .entry)) from) ⌝ }
 {
     let p0 = mark::mark(text, from, b'[');
     let n = take::number(text, p0, MOST_QUBIT);
     let n_next = n.next;
     let end = mark::mark(text, n_next, b']');
-    Part {
+    Fetched {
         value: n.value,
         next: end,
     }

@@ -55,7 +55,7 @@ many-of x h n =
 
 pub data Reached (Q x : ℕ) : ℕ → Type 0 where
   still : {y : ℕ} → y ≡ x → Reached Q x y
-  more : {y z : ℕ} (c t : ℕ) → Reached Q x y → In c Q → In t Q → c ≢ t → z ≡ turn y c t → Reached Q x z
+  more : {y z : ℕ} (c t : ℕ) → Reached Q x y → In c Q → In t Q → c ≢ t → z ≡ turn c t y → Reached Q x z
 
 pub reached-trans : {Q x y z : ℕ} → Reached Q x y → Reached Q y z → Reached Q x z
 reached-trans {Q} {x} {y} {z} a (still e) = subst (Reached Q x) (sym e) a
@@ -67,7 +67,7 @@ reached-wider f (more c t b hc ht ne e) = more c t (reached-wider f b) (f c hc) 
 
 pub reached-zero : {Q x y : ℕ} → Reached Q x y → x ≡ 0 → y ≡ 0
 reached-zero (still e) z = e ∙ z
-reached-zero (more {y = y} c t b hc ht ne e) z = e ∙ ap (λ (w : ℕ). turn w c t) (reached-zero b z) ∙ turn-off 0 c t (bit-of-zero t)
+reached-zero (more {y = y} c t b hc ht ne e) z = e ∙ ap (λ (w : ℕ). turn c t w) (reached-zero b z) ∙ turn-off 0 c t (bit-of-zero t)
 
 pub reached-live : {Q x y : ℕ} → Reached Q x y → x ≢ 0 → y ≢ 0
 reached-live (still e) h z = h (sym e ∙ z)
@@ -106,14 +106,14 @@ safe-narrow S Q x f (inl z) = inl z
 safe-narrow S Q x f (inr g) =
     inr (record { P = g .P; s = g .s; i = g .i; around = λ j h. g .around j (f j h); outside = g .outside; own = g .own; other = g .other; inside = g .inside })
 
-safe-turn : (Q x c t : ℕ) → In c Q → In t Q → c ≢ t → Safe Q x → Safe Q (turn x c t)
-safe-turn Q x c t hc ht ne (inl z) = inl (ap (λ (w : ℕ). turn w c t) z ∙ turn-off 0 c t (bit-of-zero t))
+safe-turn : (Q x c t : ℕ) → In c Q → In t Q → c ≢ t → Safe Q x → Safe Q (turn c t x)
+safe-turn Q x c t hc ht ne (inl z) = inl (ap (λ (w : ℕ). turn c t w) z ∙ turn-off 0 c t (bit-of-zero t))
 safe-turn Q x c t hc ht ne (inr g) = inr (go (bit-cases x t))
   where
-    keeps : In (g .s) (turn x c t)
+    keeps : In (g .s) (turn c t x)
     keeps = turn-other x c t (g .s) (λ (d : c ≡ g .s). omega (arith, g .around c hc, g .outside, ap (bit (g .P)) d)) ∙ g .own
 
-    go : (bit x t ≡ 0) ⊎ (bit x t ≡ 1) → Guard Q (turn x c t)
+    go : (bit x t ≡ 0) ⊎ (bit x t ≡ 1) → Guard Q (turn c t x)
     go (inl z) = record { P = g .P; s = g .s; i = g .i; around = g .around; outside = g .outside; own = keeps; other = ap (λ (w : ℕ). bit w (g .i)) (turn-off x c t z) ∙ g .other; inside = g .inside }
     go (inr h) = record { P = g .P; s = g .s; i = t; around = g .around; outside = g .outside; own = keeps; other = turn-other x c t t ne ∙ h; inside = g .around t ht }
 

@@ -15,8 +15,8 @@ use Rattle.sets.proofs.Words.{has-true, in-has}
 use Rattle.chip.specs.Graph.{Near, Symm, Joined}
 use Rattle.spares.specs.Spare.{spareOf}
 use Rattle.spares.proofs.Spares.{spare-in, spare-other, neighbour-in}
-use Rattle.columns.specs.Tables.{tab, one}
-use Rattle.columns.proofs.Tabling.{tab-at, sum-le}
+use Rattle.sets.specs.Tables.{tab, one}
+use Rattle.sets.proofs.Tabling.{tab-at, sum-le}
 use Rattle.steps.specs.Selection.{countOf, oneAt, rowOf}
 use Rattle.steps.specs.Choice.{bestOf, moreOf, equalOf, over, sparing, without, beside, partner}
 use Rattle.steps.proofs.Selecting.{one-at-le}

@@ -15,20 +15,20 @@ use Rattle.sets.proofs.Members.{in-lt}
 use Rattle.sets.proofs.Turn.{turn-other, turn-same}
 use Rattle.tallies.specs.Tally.{cnotsOf}
 use Rattle.chip.specs.Graph.{Near}
-use Rattle.columns.specs.Pieces.{Piece, andThen}
+use Rattle.columns.specs.Pieces.{Piece, followedBy}
 use Rattle.columns.specs.Turning.{layCnot}
 use Rattle.columns.specs.Striking.{strikeOff}
 use Rattle.columns.specs.Terms.{Laying}
-use Rattle.columns.proofs.Turns.{turned-is, turn-all-at, cnot-is}
+use Rattle.columns.proofs.Turns.{turn-all-at, cnot-is}
 use Rattle.columns.proofs.Layings.{laying-then, laying-cnot}
 use Rattle.columns.proofs.Strikes.{single-zero}
-use Rattle.columns.proofs.Struck.{Fit, fit-of, strikes-off, off-single, off-other}
+use Rattle.columns.proofs.Struck.{SinglesIn, fit-of, strikes-off, off-single, off-other}
 use Rattle.steps.specs.Selection.{rowOf}
 use Rattle.steps.specs.Steps.{crossed, moved}
 use Rattle.steps.proofs.Unfolding.{crossed-none, crossed-some}
 use Rattle.steps.proofs.Apart.{Many, many-live, many-not-single, many-of, Reached, still, more, reached-trans, reached-live, reached-sub, reached-safe, safe-many}
 use Rattle.steps.proofs.Splits.{not-true, row-some, row-none}
-use Rattle.steps.proofs.Meets.{Ready}
+use Rattle.steps.proofs.Meets.{StepReady}
 use Rattle.sets.proofs.Deciding.{never}
 use Rattle.tallies.proofs.Tallies.{cnots-append, cnots-cnot}
 
@@ -39,8 +39,8 @@ module _ (near : List ℕ) (Q : ℕ) (angles : List ℕ) where
     pub cnots : cnotsOf (p .laid) ≤ b
     pub each : (k : ℕ) → Reached Q (getD xs k 0) (getD (p .cols) k 0)
 
-  crosses-then : (a b : ℕ) (xs : List ℕ) (p : Piece) (k : List ℕ → Piece) → Crosses a xs p → Crosses b (p .cols) (k (p .cols)) → Crosses (a + b) xs (andThen p k)
-  unfolding andThen
+  crosses-then : (a b : ℕ) (xs : List ℕ) (p : Piece) (k : List ℕ → Piece) → Crosses a xs p → Crosses b (p .cols) (k (p .cols)) → Crosses (a + b) xs (followedBy p k)
+  unfolding followedBy
   crosses-then a b xs p k c d =
       record {
         lays = laying-then near Q angles (c .lays) (d .lays);
@@ -49,23 +49,21 @@ module _ (near : List ℕ) (Q : ℕ) (angles : List ℕ) where
       }
 
   -- a column behind one CNOT
-  cnot-at : (c t : ℕ) (xs : List ℕ) (k : ℕ) → c < 20 → getD (layCnot c t xs .cols) k 0 ≡ turn (getD xs k 0) c t
-  cnot-at c t xs k l =
-      ap (λ (p : Piece). getD (p .cols) k 0) (cnot-is c t xs) ∙ turn-all-at c t xs k ∙ turned-is c t (getD xs k 0) (omega arith)
+  cnot-at : (c t : ℕ) (xs : List ℕ) (k : ℕ) → getD (layCnot c t xs .cols) k 0 ≡ turn c t (getD xs k 0)
+  cnot-at c t xs k = ap (λ (p : Piece). getD (p .cols) k 0) (cnot-is c t xs) ∙ turn-all-at c t xs k
 
   crosses-cnot : (xs : List ℕ) (c t : ℕ) → Q < 2 ^ 20 → Near near c t → In c Q → In t Q → c ≢ t → Crosses 1 xs (layCnot c t xs)
   crosses-cnot xs c t low n hc ht ne =
-      let l : c < 20 = in-lt 20 Q c low hc in
       subst (Crosses 1 xs) (sym (cnot-is c t xs))
       (record {
         lays = laying-cnot near Q angles xs c t low n hc ht ne;
         cnots = omega (arith, cnots-cnot c t);
-        each = λ k. more c t (still refl) hc ht ne (turn-all-at c t xs k ∙ turned-is c t (getD xs k 0) (omega arith));
+        each = λ k. more c t (still refl) hc ht ne (turn-all-at c t xs k);
       })
 
 -- what a ones step begins with
 module _ (near : List ℕ) (Q : ℕ) (angles : List ℕ) (low : Q < 2 ^ 20) (r m : ℕ) (hr : In r Q) (hm : In m Q) (ne : r ≢ m) (to : Near near r m) (fro : Near near m r)
-    (sel : List Bool) (xs : List ℕ) (ready : Ready Q sel xs) (has-r : (k : ℕ) → getD sel k false ≡ true → In r (getD xs k 0)) (some : (k : ℕ) × (k < 256) × (getD sel k false ≡ true)) where
+    (sel : List Bool) (xs : List ℕ) (ready : StepReady Q sel xs) (has-r : (k : ℕ) → getD sel k false ≡ true → In r (getD xs k 0)) (some : (k : ℕ) × (k < 256) × (getD sel k false ≡ true)) where
   lr : r < 20
   lr = in-lt 20 Q r low hr
 
@@ -77,27 +75,27 @@ module _ (near : List ℕ) (Q : ℕ) (angles : List ℕ) (low : Q < 2 ^ 20) (r m
     pub crosses : Crosses near Q angles 2 xs p
     pub freed : (k : ℕ) × (k < 256) × (getD sel k false ≡ true) × (bit (getD (p .cols) k 0) r ≡ 0)
 
-  clears : (x : ℕ) → In r x → In m x → bit (turn x r m) r ≡ 0
-  clears x a b = turn-same x r m ∙ omega (arith, a, b)
+  clears : (x : ℕ) → In r x → In m x → bit (turn r m x) r ≡ 0
+  clears x a b = turn-same x r m (omega (arith, lr)) ∙ omega (arith, a, b)
 
   once : (k : ℕ) × (k < 256) × (getD sel k false ≡ true) × In m (getD xs k 0) → Freed (layCnot r m xs)
   once w =
       let c = crosses-cnot near Q angles xs r m low to hr hm ne in
       record {
         crosses = record { lays = c .lays; cnots = omega (arith, c .cnots); each = c .each };
-        freed = (w .0, w .1, w .2, ap (λ (y : ℕ). bit y r) (cnot-at near Q angles r m xs (w .0) lr) ∙ clears (getD xs (w .0) 0) (has-r (w .0) (w .2)) (w .3));
+        freed = (w .0, w .1, w .2, ap (λ (y : ℕ). bit y r) (cnot-at near Q angles r m xs (w .0)) ∙ clears (getD xs (w .0) 0) (has-r (w .0) (w .2)) (w .3));
       }
 
-  twice : ((k : ℕ) → k < 256 → getD sel k false ≡ true → bit (getD xs k 0) m ≡ 0) → Freed (andThen (layCnot m r xs) (layCnot r m))
-  unfolding andThen
+  twice : ((k : ℕ) → k < 256 → getD sel k false ≡ true → bit (getD xs k 0) m ≡ 0) → Freed (followedBy (layCnot m r xs) (layCnot r m))
+  unfolding followedBy
   twice none =
       let a = crosses-cnot near Q angles xs m r low fro hm hr (λ e. ne (sym e)) in
       let ys : List ℕ = layCnot m r xs .cols in
       let k : ℕ = some .0 in
       let x : ℕ = getD xs k 0 in
-      let y : ℕ = turn x m r in
+      let y : ℕ = turn m r x in
       let hx : In r x = has-r k (some .2) in
-      let ym : In m y = turn-same x m r ∙ omega (arith, none k (some .1) (some .2), hx) in
+      let ym : In m y = turn-same x m r (omega (arith, lm)) ∙ omega (arith, none k (some .1) (some .2), hx) in
       let yr : In r y = turn-other x m r r (λ e. ne (sym e)) ∙ hx in
       record {
         crosses = crosses-then near Q angles 1 1 xs (layCnot m r xs) (layCnot r m) a (crosses-cnot near Q angles ys r m low to hr hm ne);
@@ -105,7 +103,7 @@ module _ (near : List ℕ) (Q : ℕ) (angles : List ℕ) (low : Q < 2 ^ 20) (r m
           k,
           some .1,
           some .2,
-          ap (λ (w : ℕ). bit w r) (cnot-at near Q angles r m ys k lr ∙ ap (λ (w : ℕ). turn w r m) (cnot-at near Q angles m r xs k lm)) ∙ clears y yr ym,
+          ap (λ (w : ℕ). bit w r) (cnot-at near Q angles r m ys k ∙ ap (λ (w : ℕ). turn r m w) (cnot-at near Q angles m r xs k)) ∙ clears y yr ym,
         );
       }
 
@@ -141,7 +139,7 @@ module _ (near : List ℕ) (Q : ℕ) (angles : List ℕ) (low : Q < 2 ^ 20) (r m
         let live : getD ws k 0 ≢ 0 = λ z. never s (ap singleOf z ∙ single-zero) in
         never s (many-not-single (getD ws k 0) (safe-many Q (getD ws k 0) (reached-safe (f .crosses .each k) (ready .aside k e)) live))
 
-    fit : Fit Q ws
+    fit : SinglesIn Q ws
     fit = fit-of Q ws low (λ k s. go k s (getD sel k false) refl)
       where
         go : (k : ℕ) → singleOf (getD ws k 0) ≡ true → (b : Bool) → getD sel k false ≡ b → Sub (getD ws k 0) Q
@@ -164,8 +162,8 @@ module _ (near : List ℕ) (Q : ℕ) (angles : List ℕ) (low : Q < 2 ^ 20) (r m
     cleared k z true s = ap (λ (x : ℕ). bit x r) (off-single near Q angles ws fit k s) ∙ bit-of-zero r
     cleared k z false s = ap (λ (x : ℕ). bit x r) (still-at k (λ t. never t s)) ∙ z
 
-    moved-of : Moved (andThen c (strikeOff angles))
-    unfolding andThen
+    moved-of : Moved (followedBy c (strikeOff angles))
+    unfolding followedBy
     moved-of =
         let s = strikes-off near Q angles ws fit in
         let w = f .freed in

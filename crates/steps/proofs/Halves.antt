@@ -15,7 +15,7 @@ use Rattle.steps.specs.Selection.{zerosOf, onesOf}
 use Rattle.steps.specs.Choice.{without}
 use Rattle.steps.proofs.Apart.{Many, many-live, Reached, reached-trans, reached-wider, reached-zero, reached-live, reached-outside, reached-sub, Safe, safe-narrow, reached-safe, safe-many, safe-rest}
 use Rattle.steps.proofs.Splits.{in-zeros, zeros-in, in-ones, zeros-out, ones-out, split-cases}
-use Rattle.steps.proofs.Meets.{rest-out, rest-in, rest-sub, Ready, Done}
+use Rattle.steps.proofs.Meets.{rest-out, rest-in, rest-sub, StepReady, Done}
 use Rattle.sets.proofs.Deciding.{never}
 
 module _ (near : List ℕ) (Q : ℕ) (angles : List ℕ) (low : Q < 2 ^ 20) (r : ℕ) (hr : In r Q) (sel : List Bool) (ys : List ℕ)
@@ -35,7 +35,7 @@ module _ (near : List ℕ) (Q : ℕ) (angles : List ℕ) (low : Q < 2 ^ 20) (r :
   guarded : (k : ℕ) → Sub (getD ys k 0) Q × Many (getD ys k 0) → In r (getD ys k 0) → Safe S (getD ys k 0)
   guarded k c h = safe-rest S Q (getD ys k 0) r (rest-out Q r low hr) (rest-in Q r low hr) (c .0) (c .1) h
 
-  pub zeros-ready : Ready S z ys
+  pub zeros-ready : StepReady S z ys
   zeros-ready = record { places = λ k e. in-zeros r sel ys k e .0; chosen = zero-chosen; aside = λ k e. zero-aside k e (getD sel k false) refl }
     where
       zero-chosen : (k : ℕ) → getD z k false ≡ true → Sub (getD ys k 0) S × Many (getD ys k 0)
@@ -72,7 +72,7 @@ module _ (near : List ℕ) (Q : ℕ) (angles : List ℕ) (low : Q < 2 ^ 20) (r :
     pub ones-have : (k : ℕ) → getD p k false ≡ true → In r (getD us k 0)
     ones-have k e = let t = in-ones r sel ys k e in reached-outside (spared k (t .2)) r (rest-out Q r low hr) ∙ t .2
 
-    pub ones-ready : Ready Q p us
+    pub ones-ready : StepReady Q p us
     ones-ready = record { places = λ k e. in-ones r sel ys k e .0; chosen = one-chosen; aside = λ k e. one-aside k e (getD sel k false) refl }
       where
         one-chosen : (k : ℕ) → getD p k false ≡ true → Sub (getD us k 0) Q × Many (getD us k 0)

@@ -56,7 +56,7 @@ module _ (Q r : ℕ) (low : Q < 2 ^ 20) (h : In r Q) where
 -- ---- before a step, and behind it
 
 -- every selected column lies in Q and has at least two qubits; the others are set aside
-pub record Ready (Q : ℕ) (sel : List Bool) (xs : List ℕ) : Type 0 where
+pub record StepReady (Q : ℕ) (sel : List Bool) (xs : List ℕ) : Type 0 where
   pub places : (k : ℕ) → getD sel k false ≡ true → k < 256
   pub chosen : (k : ℕ) → getD sel k false ≡ true → Sub (getD xs k 0) Q × Many (getD xs k 0)
   pub aside : (k : ℕ) → getD sel k false ≡ false → Safe Q (getD xs k 0)
@@ -69,12 +69,12 @@ pub record Done (near : List ℕ) (Q : ℕ) (angles : List ℕ) (sel : List Bool
   pub cnots : cnotsOf (p .laid) ≤ 2 * (ones Q - 1) * countOf sel
 
 -- a step that meets all this on every connected set of at most q qubits, and of which `says` is true there
-abbrev pub Meets : List ℕ → List ℕ → ℕ → Step → Claim → Type 0
-Meets near angles q step says =
-    (Q : ℕ) (sel : List Bool) (xs : List ℕ) → Q < 2 ^ 20 → Joined near Q → ones Q ≤ q → Ready Q sel xs → Done near Q angles sel xs (step Q sel xs) × says Q sel xs
+abbrev pub StepMeets : List ℕ → List ℕ → ℕ → Step → Claim → Type 0
+StepMeets near angles q step says =
+    (Q : ℕ) (sel : List Bool) (xs : List ℕ) → Q < 2 ^ 20 → Joined near Q → ones Q ≤ q → StepReady Q sel xs → Done near Q angles sel xs (step Q sel xs) × says Q sel xs
 
 -- "A step without columns does nothing"
-pub done-idle : (near : List ℕ) (Q : ℕ) (angles : List ℕ) (sel : List Bool) (xs : List ℕ) → Ready Q sel xs → countOf sel ≡ 0 → Done near Q angles sel xs (idle xs)
+pub done-idle : (near : List ℕ) (Q : ℕ) (angles : List ℕ) (sel : List Bool) (xs : List ℕ) → StepReady Q sel xs → countOf sel ≡ 0 → Done near Q angles sel xs (idle xs)
 done-idle near Q angles sel xs r e =
     record {
       lays = laying-none near Q angles xs;
@@ -84,7 +84,7 @@ done-idle near Q angles sel xs r e =
     }
 
 -- where a column is selected, Q has at least two qubits
-pub ready-two : (Q : ℕ) (sel : List Bool) (xs : List ℕ) → Ready Q sel xs → (countOf sel ≡ 0 → ⊥) → 2 ≤ ones Q
+pub ready-two : (Q : ℕ) (sel : List Bool) (xs : List ℕ) → StepReady Q sel xs → (countOf sel ≡ 0 → ⊥) → 2 ≤ ones Q
 ready-two Q sel xs r h =
     let k = count-some sel h in
     let c = r .chosen (k .0) (k .2) in

@@ -12,8 +12,8 @@ use Rattle.sets.specs.Pick.{both}
 use Rattle.sets.specs.Bit.{has}
 use Rattle.sets.proofs.Bits.{bit-of-zero}
 use Rattle.sets.proofs.Words.{out-has}
-use Rattle.columns.specs.Tables.{tab, sumTo, one}
-use Rattle.columns.proofs.Tabling.{Filled, filled-all, Marked, marked-all, tab-length, tab-at, tab-ext, sum-zero, sum-next, sum-front, sum-ones, one-le}
+use Rattle.sets.specs.Tables.{tab, sumTo, one}
+use Rattle.sets.proofs.Tabling.{Filled, filled-all, Marked, marked-all, tab-length, tab-at, tab-ext, sum-zero, sum-next, sum-front, sum-ones, one-le}
 use Rattle.steps.specs.Selection.{countOf, zeroAt, oneAt, zerosOf, onesOf, liveOf, rowOf, Few, talliedOf}
 use Rattle.steps.specs.Choice.{moreOf, equalOf}
 

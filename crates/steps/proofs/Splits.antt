@@ -12,8 +12,8 @@ use borrow.Author.Tests.{ne-eqb, eqb-false}
 use Rattle.sets.specs.Bit.{bit, has, In}
 use Rattle.sets.proofs.Bits.{bit-cases}
 use Rattle.sets.proofs.Words.{has-true, has-false, in-has, out-has}
-use Rattle.columns.specs.Tables.{tab, one}
-use Rattle.columns.proofs.Tabling.{tab-at, tab-length, sum-add-le, sum-less, sum-some}
+use Rattle.sets.specs.Tables.{tab, one}
+use Rattle.sets.proofs.Tabling.{tab-at, tab-length, sum-add-le, sum-less, sum-some}
 use Rattle.steps.specs.Selection.{countOf, zeroAt, oneAt, zerosOf, onesOf, liveOf, rowOf}
 use Rattle.sets.proofs.Deciding.{never, both-true}
 

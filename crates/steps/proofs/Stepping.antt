@@ -13,7 +13,7 @@ use Rattle.tallies.specs.Tally.{cnotsOf}
 use Rattle.chip.specs.Graph.{Symm, Joined}
 use Rattle.spares.specs.Spare.{spareOf}
 use Rattle.spares.proofs.Spares.{spare-in, spare-joined}
-use Rattle.columns.specs.Pieces.{Piece, andThen}
+use Rattle.columns.specs.Pieces.{Piece, followedBy}
 use Rattle.columns.proofs.Layings.{laying-then}
 use Rattle.steps.specs.Selection.{countOf, zerosOf, onesOf, rowOf}
 use Rattle.steps.specs.Choice.{sparing, without, beside, partner}
@@ -23,7 +23,7 @@ use Rattle.steps.proofs.Unfolding.{baseOn, base-idle, base-on, onesThen
 use Rattle.steps.proofs.Apart.{Safe, reached-trans, reached-safe}
 use Rattle.steps.proofs.Splits.{count-some, split-count, ones-fewer}
 use Rattle.steps.proofs.Bound.{bound-base, bound-ones}
-use Rattle.steps.proofs.Meets.{rest-is, rest-low, rest-ones, Ready, Done, Meets, done-idle, ready-two}
+use Rattle.steps.proofs.Meets.{rest-is, rest-low, rest-ones, StepReady, Done, StepMeets, done-idle, ready-two}
 use Rattle.steps.proofs.Crossing.{Moved, moved-is}
 use Rattle.steps.proofs.Chosen.{spare-found, partner-found, Beside, beside-is}
 use Rattle.steps.proofs.Halves.{zeros-ready, ones-have, ones-ready, halves-struck, halves-others, halves-lay}
@@ -35,7 +35,7 @@ less-one Q r low h = omega (arith, rest-ones Q r low h)
 
 module _ (near : List ℕ) (angles : List ℕ) (sy : Symm near) where
   -- the ones step above a step that meets what a base step must
-  module _ (q : ℕ) (below : Step) (Below : Claim) (meets : Meets near angles q below Below)
+  module _ (q : ℕ) (below : Step) (Below : Claim) (meets : StepMeets near angles q below Below)
       (Q r : ℕ) (low : Q < 2 ^ 20) (hr : In r Q) (j : Joined near Q) (jr : Joined near (without Q r)) (few : ones (without Q r) ≤ q) where
     abbrev S : ℕ
     S = without Q r
@@ -43,11 +43,11 @@ module _ (near : List ℕ) (angles : List ℕ) (sy : Symm near) where
     -- the ones step for n columns at most, where each has a one at r
     abbrev pub OnesMeets : ℕ → Type 0
     OnesMeets n =
-        (sel : List Bool) (xs : List ℕ) → Ready Q sel xs → ((k : ℕ) → getD sel k false ≡ true → In r (getD xs k 0)) → countOf sel ≤ n
+        (sel : List Bool) (xs : List ℕ) → StepReady Q sel xs → ((k : ℕ) → getD sel k false ≡ true → In r (getD xs k 0)) → countOf sel ≤ n
         → Done near Q angles sel xs (onesStep n below near angles Q r sel xs) × OnesGoesOn n below Below near angles Q r sel xs
 
     -- one ones step, where the next one meets it
-    module _ (n : ℕ) (next : OnesMeets n) (sel : List Bool) (xs : List ℕ) (ready : Ready Q sel xs) (has-r : (k : ℕ) → getD sel k false ≡ true → In r (getD xs k 0)) (l : countOf sel ≤ suc n) (ne : countOf sel ≢ 0) where
+    module _ (n : ℕ) (next : OnesMeets n) (sel : List Bool) (xs : List ℕ) (ready : StepReady Q sel xs) (has-r : (k : ℕ) → getD sel k false ≡ true → In r (getD xs k 0)) (l : countOf sel ≤ suc n) (ne : countOf sel ≢ 0) where
       two : 2 ≤ ones Q
       two = ready-two Q sel xs ready ne
 
@@ -111,7 +111,7 @@ module _ (near : List ℕ) (angles : List ℕ) (sy : Symm near) where
           omega (arith, c, cnots-append (M .laid) (B .laid ++ O .laid), cnots-append (B .laid) (O .laid))
 
       done : Done near Q angles sel xs (onesOn below near angles Q r sel xs n m)
-      unfolding onesOn onesThen andThen
+      unfolding onesOn onesThen followedBy
       done =
           record {
             lays = laying-then near Q angles (mv .lays) (halves-lay near Q angles low r hr sel ys (ready .places) (mv .chosen) aside B first O second);
@@ -123,7 +123,7 @@ module _ (near : List ℕ) (angles : List ℕ) (sy : Symm near) where
       ones-done : Done near Q angles sel xs (onesStep (suc n) below near angles Q r sel xs)
       ones-done = subst (Done near Q angles sel xs) (sym (ones-on below near angles Q r sel xs n ne)) done
 
-    ones-none : (n : ℕ) (sel : List Bool) (xs : List ℕ) → Ready Q sel xs → countOf sel ≡ 0 → Done near Q angles sel xs (onesStep n below near angles Q r sel xs)
+    ones-none : (n : ℕ) (sel : List Bool) (xs : List ℕ) → StepReady Q sel xs → countOf sel ≡ 0 → Done near Q angles sel xs (onesStep n below near angles Q r sel xs)
     ones-none n sel xs ready e = subst (Done near Q angles sel xs) (sym (ones-idle below near angles Q r sel xs n e)) (done-idle near Q angles sel xs ready e)
 
     pub ones-meets : (n : ℕ) → OnesMeets n
@@ -139,8 +139,8 @@ module _ (near : List ℕ) (angles : List ℕ) (sy : Symm near) where
         )
 
   -- one base step, where the one below meets it
-  module _ (q : ℕ) (meets : Meets near angles q (baseStep q near angles) (BaseGoesOn q near angles)) (Q : ℕ) (sel : List Bool) (xs : List ℕ) (low : Q < 2 ^ 20) (j : Joined near Q) (few : ones Q ≤ suc q)
-      (ready : Ready Q sel xs) (ne : countOf sel ≢ 0) where
+  module _ (q : ℕ) (meets : StepMeets near angles q (baseStep q near angles) (BaseGoesOn q near angles)) (Q : ℕ) (sel : List Bool) (xs : List ℕ) (low : Q < 2 ^ 20) (j : Joined near Q) (few : ones Q ≤ suc q)
+      (ready : StepReady Q sel xs) (ne : countOf sel ≢ 0) where
     abbrev r : ℕ
     r = sparing near Q sel xs
 
@@ -193,7 +193,7 @@ module _ (near : List ℕ) (angles : List ℕ) (sy : Symm near) where
         omega (arith, c, cnots-append (Bb .laid) (Ob .laid))
 
     done-b : Done near Q angles sel xs (baseOn near angles Q sel xs q r)
-    unfolding baseOn andThen
+    unfolding baseOn followedBy
     done-b =
         record {
           lays = halves-lay near Q angles low r hr-b sel xs (ready .places) (λ k e. inr (ready .chosen k e)) (ready .aside) Bb first-b Ob second-b;
@@ -205,10 +205,10 @@ module _ (near : List ℕ) (angles : List ℕ) (sy : Symm near) where
     base-done : Done near Q angles sel xs (baseStep (suc q) near angles Q sel xs)
     base-done = subst (Done near Q angles sel xs) (sym (base-on near angles Q sel xs q ne)) done-b
 
-  base-none : (q Q : ℕ) (sel : List Bool) (xs : List ℕ) → Ready Q sel xs → countOf sel ≡ 0 → Done near Q angles sel xs (baseStep q near angles Q sel xs)
+  base-none : (q Q : ℕ) (sel : List Bool) (xs : List ℕ) → StepReady Q sel xs → countOf sel ≡ 0 → Done near Q angles sel xs (baseStep q near angles Q sel xs)
   base-none q Q sel xs ready e = subst (Done near Q angles sel xs) (sym (base-idle near angles Q sel xs q e)) (done-idle near Q angles sel xs ready e)
 
-  pub base-meets : (q : ℕ) → Meets near angles q (baseStep q near angles) (BaseGoesOn q near angles)
+  pub base-meets : (q : ℕ) → StepMeets near angles q (baseStep q near angles) (BaseGoesOn q near angles)
   unfolding BaseGoesOn
   base-meets zero Q sel xs low j few ready = go (ℕ-discrete (countOf sel) 0)
     where
@@ -217,7 +217,7 @@ module _ (near : List ℕ) (angles : List ℕ) (sy : Symm near) where
       go (no ne) = absurd (omega (arith, ready-two Q sel xs ready ne, few))
   base-meets (suc q) Q sel xs low j few ready = go (ℕ-discrete (countOf sel) 0) (base-meets q)
     where
-      go : Dec (countOf sel ≡ 0) → Meets near angles q (baseStep q near angles) (BaseGoesOn q near angles) → Done near Q angles sel xs (baseStep (suc q) near angles Q sel xs) × BaseGoesOn (suc q) near angles Q sel xs
+      go : Dec (countOf sel ≡ 0) → StepMeets near angles q (baseStep q near angles) (BaseGoesOn q near angles) → Done near Q angles sel xs (baseStep (suc q) near angles Q sel xs) × BaseGoesOn (suc q) near angles Q sel xs
       go (yes e) below = (base-none (suc q) Q sel xs ready e, λ ne. absurd (ne e))
       go (no ne) below = (
         base-done q below Q sel xs low j few ready ne,

@@ -13,21 +13,21 @@ use Rattle.sets.specs.Bit.{Sub}
 use Rattle.sets.specs.Size.{singleOf, sizeOf}
 use Rattle.tallies.specs.Tally.{cnotsOf}
 use Rattle.chip.specs.Graph.{Symm, Joined}
-use Rattle.columns.specs.Tables.{sumTo, one}
-use Rattle.columns.specs.Pieces.{Piece, andThen}
+use Rattle.sets.specs.Tables.{sumTo, one}
+use Rattle.columns.specs.Pieces.{Piece, followedBy}
 use Rattle.columns.specs.Striking.{strikeOff}
 use Rattle.columns.specs.Terms.{LaysTerms}
-use Rattle.columns.proofs.Tabling.{sum-front, sum-ones, one-le}
+use Rattle.sets.proofs.Tabling.{sum-front, sum-ones, one-le}
 use Rattle.columns.proofs.Layings.{laying-then}
 use Rattle.columns.proofs.Laid.{lays-terms}
 use Rattle.columns.proofs.Strikes.{single-zero}
-use Rattle.columns.proofs.Struck.{Fit, fit-of, Strikes, strikes-off, off-single, off-other}
+use Rattle.columns.proofs.Struck.{SinglesIn, fit-of, Strikes, strikes-off, off-single, off-other}
 use Rattle.steps.specs.Selection.{countOf, liveOf}
 use Rattle.steps.specs.Steps.{baseStep, stepsFor}
 use Rattle.steps.specs.Neighbours.{BaseGoesOn, GoesOn}
 use Rattle.steps.proofs.Apart.{Many, many-of, reached-zero}
 use Rattle.steps.proofs.Splits.{not-true, live-in, live-out}
-use Rattle.steps.proofs.Meets.{Ready, Done}
+use Rattle.steps.proofs.Meets.{StepReady, Done}
 use Rattle.steps.proofs.Stepping.{base-meets}
 use Rattle.sets.proofs.Deciding.{never}
 use Rattle.tallies.proofs.Tallies.{cnots-append}
@@ -42,7 +42,7 @@ module _ (near : List ℕ) (Q : ℕ) (ps angles : List ℕ) (low : Q < 2 ^ 20) (
       go (yes l) = (l, term k l .0)
       go (no l) = absurd (h (List·getD-eq-default ps 0 (omega arith)))
 
-  fit : Fit Q ps
+  fit : SinglesIn Q ps
   fit = fit-of Q ps low (λ k s. termed k (λ z. never s (ap singleOf z ∙ single-zero)) .1)
 
   abbrev A : Piece
@@ -68,7 +68,7 @@ module _ (near : List ℕ) (Q : ℕ) (ps angles : List ℕ) (low : Q < 2 ^ 20) (
   abbrev sel : List Bool
   sel = liveOf ys
 
-  ready : Ready Q sel ys
+  ready : StepReady Q sel ys
   ready =
       record {
         places = λ k e. live-in ys k e .0;
@@ -122,5 +122,5 @@ module _ (near : List ℕ) (Q : ℕ) (ps angles : List ℕ) (low : Q < 2 ^ 20) (
 
   -- and every term is laid, on couplers inside, within the bound
   pub steps-lay : LaysTerms near Q ps angles (stepsFor near Q ps angles .laid)
-  unfolding stepsFor andThen
+  unfolding stepsFor followedBy
   steps-lay = lays-terms near Q ps angles (A .laid ++ B .laid) (B .cols) low term (laying-then near Q angles (singles .lays) (done .lays)) struck bound

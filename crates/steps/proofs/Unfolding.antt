@@ -8,7 +8,7 @@ use native.Mathlib.Omega.{arith}
 use lib.Dec.{eqb}
 use borrow.Author.Tests.{eq-eqb, ne-eqb}
 use Rattle.sets.specs.Pick.{pick}
-use Rattle.columns.specs.Pieces.{Piece, idle, andThen, Memory, held, wrote}
+use Rattle.columns.specs.Pieces.{Piece, idle, followedBy, Memory, held, wrote}
 use Rattle.columns.specs.Turning.{layCnot}
 use Rattle.columns.specs.Striking.{strikeOff}
 use Rattle.columns.proofs.Piecing.{wrote-none, wrote-on}
@@ -19,13 +19,13 @@ use Rattle.steps.specs.Steps.{crossed, moved, Step, onesStep, baseStep}
 -- ---- the CNOTs of a ones step
 
 module _ (r m n : ℕ) (xs : List ℕ) where
-  pub crossed-none : n ≡ 0 → crossed r m n xs ≡ andThen (layCnot m r xs) (layCnot r m)
+  pub crossed-none : n ≡ 0 → crossed r m n xs ≡ followedBy (layCnot m r xs) (layCnot r m)
   unfolding crossed
-  crossed-none e = ap (λ (b : Bool). pick b (andThen (layCnot m r xs) (layCnot r m)) (layCnot r m xs)) (eq-eqb n 0 e)
+  crossed-none e = ap (λ (b : Bool). pick b (followedBy (layCnot m r xs) (layCnot r m)) (layCnot r m xs)) (eq-eqb n 0 e)
 
   pub crossed-some : n ≢ 0 → crossed r m n xs ≡ layCnot r m xs
   unfolding crossed
-  crossed-some e = ap (λ (b : Bool). pick b (andThen (layCnot m r xs) (layCnot r m)) (layCnot r m xs)) (ne-eqb n 0 e)
+  crossed-some e = ap (λ (b : Bool). pick b (followedBy (layCnot m r xs) (layCnot r m)) (layCnot r m xs)) (ne-eqb n 0 e)
 
   pub crossed-twice : (out : List ℕ) (at : ℕ) {ys o : List ℕ} {a : ℕ} {w : Memory} → n ≡ 0 → held ys o a ≡ wrote out at (layCnot m r xs) → w ≡ wrote o a (layCnot r m ys) → w ≡ wrote out at (crossed r m n xs)
   crossed-twice out at e h g = wrote-on out at (layCnot m r xs) (layCnot r m) h g ∙ ap (wrote out at) (sym (crossed-none e))
@@ -43,7 +43,7 @@ module _ (near angles : List ℕ) (Q : ℕ) (sel : List Bool) (xs : List ℕ) wh
   -- what follows where a qubit r is chosen
   unfoldable pub baseOn : ℕ → ℕ → Piece
   baseOn q r =
-      andThen (baseStep q near angles (without Q r) (zerosOf r sel xs) xs) (λ ys. onesStep (countOf (onesOf r sel xs)) (baseStep q near angles) near angles Q r (onesOf r sel xs) ys)
+      followedBy (baseStep q near angles (without Q r) (zerosOf r sel xs) xs) (λ ys. onesStep (countOf (onesOf r sel xs)) (baseStep q near angles) near angles Q r (onesOf r sel xs) ys)
 
   pub base-zero : baseStep 0 near angles Q sel xs ≡ idle xs
   unfolding baseStep
@@ -69,7 +69,7 @@ module _ (near angles : List ℕ) (Q : ℕ) (sel : List Bool) (xs : List ℕ) wh
     base-returns-none e = wrote-none out at xs ∙ ap (wrote out at) (sym (base-idle q e))
 
     module _ (r : ℕ) (er : r ≡ sparing near Q sel xs) (n : countOf sel ≢ 0) (nq : q ≢ 0) (s : ℕ) (z p : List Bool) (es : s ≡ without Q r) (ez : z ≡ zerosOf r sel xs) (ep : p ≡ onesOf r sel xs) where
-      whole : baseStep q near angles Q sel xs ≡ andThen (baseStep (q - 1) near angles s z xs) (λ ys. onesStep (countOf p) (baseStep (q - 1) near angles) near angles Q r p ys)
+      whole : baseStep q near angles Q sel xs ≡ followedBy (baseStep (q - 1) near angles s z xs) (λ ys. onesStep (countOf p) (baseStep (q - 1) near angles) near angles Q r p ys)
       unfolding baseOn
       whole =
           let d : q ≡ suc (q - 1) = omega arith in
@@ -86,11 +86,11 @@ module _ (near angles : List ℕ) (Q : ℕ) (sel : List Bool) (xs : List ℕ) wh
 module _ (below : Step) (near angles : List ℕ) (Q r : ℕ) (sel : List Bool) (xs : List ℕ) where
   -- what follows behind the CNOTs, at the columns ys
   unfoldable pub onesThen : ℕ → List ℕ → Piece
-  onesThen n ys = andThen (below (without Q r) (zerosOf r sel ys) ys) (λ zs. onesStep n below near angles Q r (onesOf r sel ys) zs)
+  onesThen n ys = followedBy (below (without Q r) (zerosOf r sel ys) ys) (λ zs. onesStep n below near angles Q r (onesOf r sel ys) zs)
 
   -- what follows where a neighbour m is chosen
   unfoldable pub onesOn : ℕ → ℕ → Piece
-  onesOn n m = andThen (moved angles r m (rowOf sel xs m) xs) (onesThen n)
+  onesOn n m = followedBy (moved angles r m (rowOf sel xs m) xs) (onesThen n)
 
   pub ones-zero : onesStep 0 below near angles Q r sel xs ≡ idle xs
   unfolding onesStep
@@ -121,7 +121,7 @@ module _ (below : Step) (near angles : List ℕ) (Q r : ℕ) (sel : List Bool) (
       onward h =
           let d : suc (n - 1) ≡ n = omega arith in
           wrote-on out at (moved angles r m k xs) (onesThen (n - 1)) e h
-          ∙ ap (λ (i : ℕ). wrote out at (andThen (moved angles r m i xs) (onesThen (n - 1)))) ek
+          ∙ ap (λ (i : ℕ). wrote out at (followedBy (moved angles r m i xs) (onesThen (n - 1)))) ek
           ∙ ap (λ (i : ℕ). wrote out at (onesOn (n - 1) i)) em ∙ ap (wrote out at) (sym (ones-on (n - 1) ne) ∙ ap (λ (j : ℕ). onesStep j below near angles Q r sel xs) d)
 
       module _ (s : ℕ) (z p : List Bool) (es : s ≡ without Q r) (ez : z ≡ zerosOf r sel ys) (ep : p ≡ onesOf r sel ys) where

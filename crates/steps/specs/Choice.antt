@@ -11,7 +11,7 @@ use Rattle.sets.specs.Size.{onlyOf}
 use Rattle.sets.specs.Search.{firstOf}
 use Rattle.gates.specs.Limits.{mostQubits}
 use Rattle.spares.specs.Spare.{spareOf}
-use Rattle.columns.specs.Tables.{tab}
+use Rattle.sets.specs.Tables.{tab}
 use Rattle.steps.specs.Selection.{countOf, rowOf}
 
 -- the lowest qubit that may be taken and has worth w; 20 where there is none

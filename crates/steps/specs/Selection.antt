@@ -7,7 +7,7 @@ use lib.ListN.{getD}
 use Rattle.sets.specs.Pick.{both}
 use Rattle.sets.specs.Bit.{has}
 use Rattle.gates.specs.Limits.{mostQubits, mostParities}
-use Rattle.columns.specs.Tables.{tab, sumTo, one}
+use Rattle.sets.specs.Tables.{tab, sumTo, one}
 
 -- how many columns are selected
 unfoldable pub countOf : List Bool → ℕ

@@ -8,7 +8,7 @@ ghost use lib.ListN.{getD};
 ghost use Rattle.sets.specs.Bit.{has};
 ghost use Rattle.gates.specs.Limits.{mostQubits};
 ghost use Rattle.spares.specs.Spare.{spareOf};
-ghost use Rattle.columns.specs.Tables.{tab};
+ghost use Rattle.sets.specs.Tables.{tab};
 ghost use Rattle.steps.specs.Choice.{bestOf, moreOf, sparing, without, beside, partner};
 
 // Of the qubits that may be taken and are worth less than `over` the one of most worth, the lowest in

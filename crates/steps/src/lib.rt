@@ -1,10 +1,11 @@
-// The steps of document 000, Figure 1: from an island's terms to CNOTs and rotations.
+// The first way, the steps of document 000, Figure 1: from an island's terms to CNOTs and
+// rotations. It knows columns and spare qubits, and neither the other way nor endings.
 use columns::striking;
 use columns::turning;
 use gates::job::Job;
 ghost use mathlib.Core.Path.{_≡_};
 ghost use lib.ListN.{take};
-ghost use Rattle.emitting.specs.Emit.{emit, emitAt};
+ghost use Rattle.emitting.specs.Emit.{Emits};
 ghost use Rattle.columns.specs.Pieces.{held, wrote};
 ghost use Rattle.steps.specs.Steps.{stepsFor};
 
@@ -37,7 +38,7 @@ pub fn lay_terms(
     count: usize,
     out: &mut [u32],
 ) -> usize
-    ensures { λ r. ⌜ (now (out .exit) ≡ emit (now (out .entry)) 0 (stepsFor near set (take count parity) (take count angle) .laid)) × (r ≡ emitAt (now (out .entry)) 0 (stepsFor near set (take count parity) (take count angle) .laid)) ⌝ }
+    ensures { λ r. ⌜ Emits (now (out .entry)) 0 (stepsFor near set (take count parity) (take count angle) .laid) (now (out .exit)) r ⌝ }
 {
     let n = turning::at_most(count, Job::PARITIES);
     let mut cols = parity;

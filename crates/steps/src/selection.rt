@@ -5,7 +5,7 @@ ghost use mathlib.Core.Path.{_≡_};
 ghost use Prim.Native.Nat.{_+_, _≤_};
 ghost use Rattle.sets.specs.Bit.{has};
 ghost use Rattle.gates.specs.Limits.{mostQubits};
-ghost use Rattle.columns.specs.Tables.{tab, one};
+ghost use Rattle.sets.specs.Tables.{tab, one};
 ghost use Rattle.steps.specs.Selection.{countOf, zeroAt, oneAt, zerosOf, onesOf, liveOf, rowOf, Few, talliedOf};
 
 // How many columns are selected.

@@ -18,25 +18,25 @@ use Rattle.laying.specs.Verdict.{countsOf}
 use Rattle.laying.specs.declared.lay.Answer.{Answer}
 use Rattle.laying.specs.declared.lay.Answer.the-variants.{Refused}
 use Rattle.stretches.specs.Stretches.{stretchesOf}
-use Rattle.stretches.specs.Tests.{judgedDrawing, judgedParitiesFrom, judgedReaches, jobBound, judgedBound, judgedStretches, jobVerdict}
+use Rattle.stretches.specs.Tests.{judgedFive, judgedParitiesFrom, judgedReaches, jobBound, judgedBound, judgedStretches, jobVerdict}
 use Rattle.stretches.specs.Laid.{jobRecords, jobPhase, jobAnswered, jobOutput}
 use Rattle.stretches.proofs.Passing.{job-passed, job-bounded}
 
 module _ (n : ℕ) (xs ys : List ℕ) where
   -- ---- 1 to 7
 
-  pub judge-drawing : (numberOf (judgedDrawing n xs ys) ≡ 0 → ⊥) → judgedDrawing n xs ys ≡ judgedStretches n xs ys
+  pub judge-drawing : (numberOf (judgedFive n xs ys) ≡ 0 → ⊥) → judgedFive n xs ys ≡ judgedStretches n xs ys
   unfolding judgedStretches
-  judge-drawing a = then-stop (judgedDrawing n xs ys) _ a
+  judge-drawing a = then-stop (judgedFive n xs ys) _ a
 
-  module _ (a : numberOf (judgedDrawing n xs ys) ≡ 0) where
+  module _ (a : numberOf (judgedFive n xs ys) ≡ 0) where
     pub judge-parities : (numberOf (judgedParitiesFrom n 0 (stretchesOf n ys)) ≡ 0 → ⊥) → judgedParitiesFrom n 0 (stretchesOf n ys) ≡ judgedStretches n xs ys
     unfolding judgedStretches
-    judge-parities b = then-stop (judgedParitiesFrom n 0 (stretchesOf n ys)) _ b ∙ then-on (judgedDrawing n xs ys) _ a
+    judge-parities b = then-stop (judgedParitiesFrom n 0 (stretchesOf n ys)) _ b ∙ then-on (judgedFive n xs ys) _ a
 
     pub judge-reaches : numberOf (judgedParitiesFrom n 0 (stretchesOf n ys)) ≡ 0 → judgedReaches n xs ys ≡ judgedStretches n xs ys
     unfolding judgedStretches
-    judge-reaches b = then-on (judgedParitiesFrom n 0 (stretchesOf n ys)) _ b ∙ then-on (judgedDrawing n xs ys) _ a
+    judge-reaches b = then-on (judgedParitiesFrom n 0 (stretchesOf n ys)) _ b ∙ then-on (judgedFive n xs ys) _ a
 
   pub room-enough : (room : ℕ) → numberOf (judgedBound n ys room) ≡ 0 → jobBound n ys ≤ room
   unfolding judgedBound

@@ -10,14 +10,15 @@ use Rattle.gates.specs.Hadamards.{isHadamard}
 use Rattle.verdicts.specs.Verdicts.{numberOf}
 use Rattle.meaning.specs.Same.{Alike}
 use Rattle.laying.specs.Demands.{Island, SameCouplers, Agree}
-use Rattle.stretches.specs.Cut.{those, weave, Each}
+use Rattle.sets.specs.Lists.{those, All}
+use Rattle.stretches.specs.Cut.{weave}
 use Rattle.stretches.specs.Stretches.{stretchesOf, hadamardsOf}
 use Rattle.stretches.specs.Tests.{jobVerdict}
 use Rattle.stretches.specs.Asked.{Accepts}
 use Rattle.stretches.specs.Laid.{stretchRecords, jobRecords, jobLaid}
 use Rattle.stretches.specs.Meaning.{AlikeJob}
 use Rattle.stretches.specs.Demands.{AgreeJob}
-use Rattle.stretches.proofs.Eachs.{each-head}
+use Rattle.sets.proofs.Lists.{all-head}
 use Rattle.stretches.proofs.Weaving.{cut-size}
 use Rattle.stretches.proofs.Paired.{pairs-both, pairs-mapped, pairs-equal, equal-pairs}
 use Rattle.stretches.proofs.Passing.{Passed}
@@ -93,9 +94,9 @@ unfolding stretchesOf
 each-qubit-has-an-island n couplers gates room z q l =
     let p = accepted-passed n couplers gates room z in go (stretchesOf n gates) (cut-size (isHadamard n) gates) (p .accepts)
   where
-    go : (ss : List (List ℕ)) → length ss ≡ suc (length (those (isHadamard n) gates)) → Each (Accepts n couplers) ss → (S : ℕ) × Island n couplers S q
+    go : (ss : List (List ℕ)) → length ss ≡ suc (length (those (isHadamard n) gates)) → All (Accepts n couplers) ss → (S : ℕ) × Island n couplers S q
     go [] e a = absurd (omega (arith, e))
-    go (s ∷ ss) e a = stretch-island n couplers s (each-head (Accepts n couplers) s ss a) q l
+    go (s ∷ ss) e a = stretch-island n couplers s (all-head (Accepts n couplers) s ss a) q l
 
 -- Accepted jobs of equal meaning agree on each of their islands.
 pub meaning-agrees : (n : ℕ) (couplers couplers′ gates gates′ : List ℕ) (room room′ : ℕ) → numberOf (jobVerdict n couplers gates room) ≡ 0 → numberOf (jobVerdict n couplers′ gates′ room′) ≡ 0

@@ -28,14 +28,15 @@ use Rattle.laying.specs.Verdict.{countsOf, verdictIn, recordsIn, cnotsIn, rotat
 use Rattle.laying.specs.Demands.{Island, FlipsLast, Agree}
 use Rattle.laying.specs.Laid.{GoesOnIsland}
 use Rattle.laying.proofs.Demands as laying
-use Rattle.stretches.specs.Cut.{weave, Each, Pairs}
+use Rattle.sets.specs.Lists.{All}
+use Rattle.stretches.specs.Cut.{weave, Pairs}
 use Rattle.stretches.specs.Stretches.{stretchesOf, hadamardsOf}
-use Rattle.stretches.specs.Tests.{judgedDrawing, judgedParitiesFrom, judgedReaches, judgedStretches, jobVerdict}
+use Rattle.stretches.specs.Tests.{judgedFive, judgedParitiesFrom, judgedReaches, judgedStretches, jobVerdict}
 use Rattle.stretches.specs.Asked.{Accepts}
 use Rattle.stretches.specs.Laid.{stretchRecords, jobRecords, phasesOf, jobPhase, jobAnswered, jobOutput, jobLaid}
 use Rattle.stretches.specs.Meaning.{AlikeJob, ReachableJob}
 use Rattle.stretches.specs.Demands.{sumOfShares, Faithfuls, FaithfulJob, AgreeJob, SameOn, recordsOn}
-use Rattle.stretches.proofs.Eachs.{each-map, each-mapped, each-true}
+use Rattle.sets.proofs.Lists.{all-map, all-mapped, those-pass}
 use Rattle.stretches.proofs.Paired.{pairs-both, pairs-mapped, pairs-self}
 use Rattle.stretches.proofs.Weaving.{cut-size, cut-weave, those-weave}
 use Rattle.stretches.proofs.Passing.{Passed, stretches-six, job-passed, job-bounded}
@@ -120,13 +121,13 @@ module _ (n : ℕ) (couplers gates : List ℕ) (p : Passed n couplers gates) whe
   unfolding stretchesOf hadamardsOf
   fitting = omega (arith, length-map (stretchesOf n gates) (stretchRecords n couplers), cut-size (isHadamard n) gates)
 
-  no-hadamards : Each (Each (λ x. isHadamard n x ≡ false)) pieces
-  no-hadamards = each-mapped (Accepts n couplers) (Each (λ x. isHadamard n x ≡ false)) (stretchRecords n couplers) (λ s a. stretch-between n couplers s largest a) (stretchesOf n gates) (p .accepts)
+  no-hadamards : All (All (λ x. isHadamard n x ≡ false)) pieces
+  no-hadamards = all-mapped (Accepts n couplers) (All (λ x. isHadamard n x ≡ false)) (stretchRecords n couplers) (λ s a. stretch-between n couplers s largest a) (stretchesOf n gates) (p .accepts)
 
   -- every Hadamard drawn is one
-  pub all-hadamards : Each (λ x. isHadamard n x ≡ true) (hadamardsOf n gates)
+  pub all-hadamards : All (λ x. isHadamard n x ≡ true) (hadamardsOf n gates)
   unfolding hadamardsOf
-  all-hadamards = each-true (isHadamard n) gates
+  all-hadamards = those-pass (isHadamard n) gates
 
   -- the stretches of the records laid are what the stretches drawn got
   pub laid-stretches : stretchesOf n (jobRecords n couplers gates) ≡ map (stretchRecords n couplers) (stretchesOf n gates)
@@ -151,14 +152,14 @@ module _ (n : ℕ) (couplers : List ℕ) where
   shares-sum (s ∷ ss) = ap (phases (phaseOf (gatesOf n s))) (shares-sum ss)
 
   -- demand 2 of each stretch
-  faithfuls : (ss : List (List ℕ)) → Each (Accepts n couplers) ss → Faithfuls n couplers (sharesOf ss) ss (map (stretchRecords n couplers) ss)
-  unfolding Faithfuls Each
+  faithfuls : (ss : List (List ℕ)) → All (Accepts n couplers) ss → Faithfuls n couplers (sharesOf ss) ss (map (stretchRecords n couplers) ss)
+  unfolding Faithfuls All
   faithfuls [] a = tt
   faithfuls (s ∷ ss) a = (stretch-faithful n couplers s largest (a .0), faithfuls ss (a .1))
 
   -- what is laid has no common phase of its own
-  silent : (ss : List (List ℕ)) → Each (Accepts n couplers) ss → phasesOf n (map (stretchRecords n couplers) ss) ≡ 0
-  unfolding phasesOf phases Each
+  silent : (ss : List (List ℕ)) → All (Accepts n couplers) ss → phasesOf n (map (stretchRecords n couplers) ss) ≡ 0
+  unfolding phasesOf phases All
   silent [] a = refl
   silent (s ∷ ss) a = omega (arith, stretch-faithful n couplers s largest (a .0) .phaseless, silent ss (a .1))
 
@@ -202,11 +203,11 @@ module _ (n : ℕ) (couplers : List ℕ) where
 
   -- in each stretch the X gates of each island stand behind its other gates, by ascending qubit
   pub demand-2-flips-last : (gates : List ℕ) (room : ℕ) → numberOf (jobVerdict n couplers gates room) ≡ 0
-      → (S q : ℕ) → Island n couplers S q → Each (λ s. FlipsLast S (gatesOf n s)) (stretchesOf n (jobRecords n couplers gates))
+      → (S q : ℕ) → Island n couplers S q → All (λ s. FlipsLast S (gatesOf n s)) (stretchesOf n (jobRecords n couplers gates))
   demand-2-flips-last gates room z S q island =
       let p = accepted-passed n couplers gates room z in
-      subst (Each (λ s. FlipsLast S (gatesOf n s))) (sym (laid-stretches n couplers gates p))
-      (each-mapped (Accepts n couplers) (λ s. FlipsLast S (gatesOf n s)) (stretchRecords n couplers) (λ s a. stretch-flips-last n couplers s largest a S q island) (stretchesOf n gates) (p .accepts))
+      subst (All (λ s. FlipsLast S (gatesOf n s))) (sym (laid-stretches n couplers gates p))
+      (all-mapped (Accepts n couplers) (λ s. FlipsLast S (gatesOf n s)) (stretchRecords n couplers) (λ s a. stretch-flips-last n couplers s largest a S q island) (stretchesOf n gates) (p .accepts))
 
   -- B is never exceeded: the records fit the room lent
   pub demand-2-fits : (gates : List ℕ) (room : ℕ) → numberOf (jobVerdict n couplers gates room) ≡ 0 → length (jobRecords n couplers gates) ≤ room
@@ -215,20 +216,20 @@ module _ (n : ℕ) (couplers : List ℕ) where
       omega (arith, job-bounded n couplers gates (accepted-passed n couplers gates room z), room-enough n couplers gates room (then-zero (judgedStretches n couplers gates) _ z .1))
 
   -- on each island of each stretch every base step has a spare qubit, and every ones step a neighbour to go on with
-  pub demand-2-goes-on : (gates : List ℕ) (room : ℕ) → numberOf (jobVerdict n couplers gates room) ≡ 0 → (q : ℕ) → q < n → Each (λ s. GoesOnIsland (nearOf n couplers) (gatesOf n s) q) (stretchesOf n gates)
+  pub demand-2-goes-on : (gates : List ℕ) (room : ℕ) → numberOf (jobVerdict n couplers gates room) ≡ 0 → (q : ℕ) → q < n → All (λ s. GoesOnIsland (nearOf n couplers) (gatesOf n s) q) (stretchesOf n gates)
   demand-2-goes-on gates room z q l =
-      each-map (Accepts n couplers) (λ s. GoesOnIsland (nearOf n couplers) (gatesOf n s) q) (λ s a. laying.demand-2-goes-on n couplers s largest a q l) (stretchesOf n gates) (accepted-passed n couplers gates room z .accepts)
+      all-map (Accepts n couplers) (λ s. GoesOnIsland (nearOf n couplers) (gatesOf n s) q) (λ s a. laying.demand-2-goes-on n couplers s largest a q l) (stretchesOf n gates) (accepted-passed n couplers gates room z .accepts)
 
   -- refused as unreachable only where some stretch has the meaning of no circuit of coupler CNOTs, rotations and X gates
   pub demand-2-unreachable : (gates : List ℕ) (room : ℕ) → numberOf (jobVerdict n couplers gates room) ≡ 7 → ReachableJob n couplers gates → ⊥
   demand-2-unreachable gates room e = job-rows n couplers gates room .row-7 .exactly .0 e .1 .1 .1 .1 .1 .1
 
   -- and wherever one has, past tests 1 to 6
-  pub demand-2-refused : (gates : List ℕ) (room : ℕ) → numberOf (andThen (judgedDrawing n couplers gates) (judgedParitiesFrom n 0 (stretchesOf n gates))) ≡ 0
+  pub demand-2-refused : (gates : List ℕ) (room : ℕ) → numberOf (andThen (judgedFive n couplers gates) (judgedParitiesFrom n 0 (stretchesOf n gates))) ≡ 0
       → (ReachableJob n couplers gates → ⊥) → numberOf (jobVerdict n couplers gates room) ≡ 7
   unfolding jobVerdict
   demand-2-refused gates room six none =
-      let a = then-zero (judgedDrawing n couplers gates) _ six in
+      let a = then-zero (judgedFive n couplers gates) _ six in
       let e : numberOf (judgedReaches n couplers gates) ≡ 7 = row-fails (reaches-tests n couplers gates (stretches-six n couplers gates (a .0) (a .1))) .exactly .1 none in
       let s : judgedReaches n couplers gates ≡ judgedStretches n couplers gates = judge-reaches n couplers gates (a .0) (a .1) in
       sym (ap numberOf (s ∙ then-stop (judgedStretches n couplers gates) _ (λ z. omega (arith, e, ap numberOf s, z)))) ∙ e
@@ -267,6 +268,6 @@ demand-3 n m couplers couplers′ gates gates′ room room′ a b S q r i j agre
     whole : recordsOn n S (jobRecords n couplers gates) ≡ recordsOn m S (jobRecords m couplers′ gates′)
     whole = unfold jobRecords in
         woven-same n m S (pieces n couplers gates p) (pieces m couplers′ gates′ p′) (hadamardsOf n gates) (all-hadamards n couplers gates p)
-        (subst (Each (λ x. isHadamard m x ≡ true)) (sym (agree .hadamards)) (all-hadamards m couplers′ gates′ p′))
+        (subst (All (λ x. isHadamard m x ≡ true)) (sym (agree .hadamards)) (all-hadamards m couplers′ gates′ p′))
         (paired (λ L M. recordsOn n S L ≡ recordsOn m S M) (λ s t x y g. stretch-same-records n m S couplers couplers′ q r i j s t x y g))
         ∙ ap (λ (hs : List ℕ). recordsOn m S (weave (pieces m couplers′ gates′ p′) hs)) (agree .hadamards)

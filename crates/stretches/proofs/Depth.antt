@@ -13,19 +13,19 @@ use Rattle.gates.specs.declared.gate.Gate.{Gate}
 use Rattle.gates.specs.declared.gate.Gate.the-variants.{Bad}
 use Rattle.gates.specs.Layout.{gateOf, gatesOf, Good}
 use Rattle.gates.specs.Hadamards.{isHadamard}
-use Rattle.gates.specs.All.{All}
-use Rattle.gates.proofs.Alls.{all-map}
+use Rattle.sets.specs.Lists.{All}
+use Rattle.sets.proofs.Lists.{all-map}
 use Rattle.gates.proofs.Hadamards.{hadamard-bad}
 use Rattle.verdicts.specs.declared.verdict.Verdict.{Verdict}
 use Rattle.verdicts.specs.Verdicts.{numberOf}
 use Rattle.tallies.specs.Tally.{tally, cnotsOf, depthOf, largest}
-use Rattle.tallies.specs.Part.{Part, none, with, without}
+use Rattle.tallies.specs.Sublist.{Sublist, none, with, without}
 use Rattle.tallies.proofs.DepthLaws.{depth-part, depth-none, depth-few}
 use Rattle.circuit.proofs.Wiring.{good-up}
 use Rattle.laying.specs.declared.lay.Answer.{Answer}
 use Rattle.laying.specs.declared.lay.Answer.the-variants.{Refused}
 use Rattle.laying.specs.Verdict.{countsOf, cnotsIn, depthIn}
-use Rattle.stretches.specs.Cut.{weave, Each}
+use Rattle.stretches.specs.Cut.{weave}
 use Rattle.stretches.specs.Stretches.{stretchesOf, hadamardsOf}
 use Rattle.stretches.specs.Tests.{jobVerdict}
 use Rattle.stretches.specs.Asked.{Accepts}
@@ -38,7 +38,7 @@ use Rattle.stretches.proofs.Demands.{accepted-passed, all-hadamards}
 -- the good gates of a list, which are all that count
 record Sound (gs : List Gate) : Type 0 where
   sound : List Gate
-  part : Part sound gs
+  part : Sublist sound gs
   good : All (Good mostQubits) sound
   cnots : cnotsOf sound ≡ cnotsOf gs
 
@@ -66,8 +66,8 @@ module _ (n : ℕ) (couplers : List ℕ) (few : n ≤ mostQubits) where
   stretch-good : (s : List ℕ) → Accepts n couplers s → All (Good mostQubits) (gatesOf n (stretchRecords n couplers s))
   stretch-good s a = all-map (Good n) (Good mostQubits) (λ g h. good-up n mostQubits g few h) (gatesOf n (stretchRecords n couplers s)) (stretch-faithful n couplers s largest a .good)
 
-  woven-sound : (ss : List (List ℕ)) (hs : List ℕ) → Each (Accepts n couplers) ss → Each (λ x. isHadamard n x ≡ true) hs → Sound (gatesOf n (weave (map (stretchRecords n couplers) ss) hs))
-  unfolding weave Each
+  woven-sound : (ss : List (List ℕ)) (hs : List ℕ) → All (Accepts n couplers) ss → All (λ x. isHadamard n x ≡ true) hs → Sound (gatesOf n (weave (map (stretchRecords n couplers) ss) hs))
+  unfolding weave All
   woven-sound [] hs a b = sound-none
   woven-sound (s ∷ ss) [] a b = subst Sound (append-nil (gatesOf n (stretchRecords n couplers s))) (sound-good (gatesOf n (stretchRecords n couplers s)) [] (stretch-good s (a .0)) sound-none)
   woven-sound (s ∷ ss) (h ∷ hs) a b =

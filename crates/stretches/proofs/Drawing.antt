@@ -12,26 +12,26 @@ use Rattle.verdicts.specs.declared.verdict.Verdict.the-variants.{Accepted, Many
 use Rattle.verdicts.specs.Verdicts.{numberOf, judgedQubits, judgedCouplers, judgedDrawn}
 use Rattle.verdicts.proofs.Judged.{then-on, then-stop}
 use Rattle.judging.specs.Tests.{judgedCount}
-use Rattle.stretches.specs.Tests.{judgedDrawing}
+use Rattle.stretches.specs.Tests.{judgedFive}
 
 module _ (n : ℕ) (xs ys : List ℕ) where
-  pub drawing-qubits : (numberOf (judgedQubits n) ≡ 0 → ⊥) → judgedQubits n ≡ judgedDrawing n xs ys
-  unfolding judgedDrawing
+  pub drawing-qubits : (numberOf (judgedQubits n) ≡ 0 → ⊥) → judgedQubits n ≡ judgedFive n xs ys
+  unfolding judgedFive
   drawing-qubits a = then-stop (judgedQubits n) _ a
 
   module _ (a : numberOf (judgedQubits n) ≡ 0) where
-    pub drawing-couplers : (numberOf (judgedCouplers n xs) ≡ 0 → ⊥) → judgedCouplers n xs ≡ judgedDrawing n xs ys
-    unfolding judgedDrawing
+    pub drawing-couplers : (numberOf (judgedCouplers n xs) ≡ 0 → ⊥) → judgedCouplers n xs ≡ judgedFive n xs ys
+    unfolding judgedFive
     drawing-couplers b = then-stop (judgedCouplers n xs) _ b ∙ then-on (judgedQubits n) _ a
 
     module _ (b : numberOf (judgedCouplers n xs) ≡ 0) where
-      pub drawing-many : mostGates < length ys → ManyGates ≡ judgedDrawing n xs ys
-      unfolding judgedDrawing judgedCount
+      pub drawing-many : mostGates < length ys → ManyGates ≡ judgedFive n xs ys
+      unfolding judgedFive judgedCount
       drawing-many c =
           let e : judgedCount ys ≡ ManyGates = ap (λ (t : Bool). pick t ManyGates Accepted) (lt-ltb mostGates (length ys) c) in
           sym e ∙ then-stop (judgedCount ys) _ (λ z. let y : _≡_ {A = ℕ} 4 0 = sym (ap numberOf e) ∙ z in omega arith) ∙ then-on (judgedCouplers n xs) _ b ∙ then-on (judgedQubits n) _ a
 
-      pub drawing-drawn : length ys ≤ mostGates → judgedDrawn n ys ≡ judgedDrawing n xs ys
-      unfolding judgedDrawing judgedCount
+      pub drawing-drawn : length ys ≤ mostGates → judgedDrawn n ys ≡ judgedFive n xs ys
+      unfolding judgedFive judgedCount
       drawing-drawn c =
           then-on (judgedCount ys) _ (ap (λ (t : Bool). numberOf (pick t ManyGates Accepted)) (le-ltb mostGates (length ys) c)) ∙ then-on (judgedCouplers n xs) _ b ∙ then-on (judgedQubits n) _ a

@@ -21,7 +21,7 @@ use Rattle.judging.specs.Tests.{judgedCount}
 use Rattle.laying.proofs.Rows.{tests-4}
 use Rattle.stretches.specs.Cut.{ahead, cutAt}
 use Rattle.stretches.specs.Stretches.{stretchesOf, hadamardsOf}
-use Rattle.stretches.specs.Tests.{judgedDrawing, judgedParitiesFrom, judgedReaches, jobBound, judgedBound, judgedStretches, jobVerdict}
+use Rattle.stretches.specs.Tests.{judgedFive, judgedParitiesFrom, judgedReaches, jobBound, judgedBound, judgedStretches, jobVerdict}
 use Rattle.stretches.specs.Rows.{BringsFrom, UnreachedFrom, Unreached}
 use Rattle.stretches.proofs.Passing.{stretches-six}
 use Rattle.stretches.proofs.Testing.{parities-tests, reaches-tests, bound-tests}
@@ -106,21 +106,21 @@ module _ (n : ℕ) (couplers gates : List ℕ) where
       (low-then (judgedMany couplers) (judgedWrong n couplers) (low-test (tests-2 couplers) nowhere)
       (λ z. low-test (tests-3 n couplers) (λ p f. omega (arith, f .within, row-passes (tests-2 couplers) .exactly .0 z))))
 
-  low-drawing : Low (judgedDrawing n couplers gates)
-  unfolding judgedDrawing
+  low-drawing : Low (judgedFive n couplers gates)
+  unfolding judgedFive
   low-drawing =
       low-then (judgedQubits n) _ (low-test (tests-1 n) nowhere)
       (λ q. low-then (judgedCouplers n couplers) _ low-couplers
       (λ c. low-then (judgedCount gates) _ (low-test (tests-4 gates) nowhere)
       (λ k. low-test (tests-drawn n gates) (λ p f. omega (arith, f .within, row-passes (tests-4 gates) .exactly .0 k)))))
 
-  module _ (d : numberOf (judgedDrawing n couplers gates) ≡ 0) where
+  module _ (d : numberOf (judgedFive n couplers gates) ≡ 0) where
     few : n ≤ mostQubits
-    unfolding judgedDrawing
+    unfolding judgedFive
     few = row-passes (tests-1 n) .exactly .0 (then-zero (judgedQubits n) _ d .0) .1
 
     short : length gates ≤ mostGates
-    unfolding judgedDrawing
+    unfolding judgedFive
     short = row-passes (tests-4 gates) .exactly .0 (then-zero (judgedCount gates) _ (then-zero (judgedCouplers n couplers) _ (then-zero (judgedQubits n) _ d .1) .1) .0)
 
     low-parities : Low (judgedParitiesFrom n 0 (stretchesOf n gates))
@@ -137,5 +137,5 @@ module _ (n : ℕ) (couplers gates : List ℕ) where
   pub place-most : placeOf (judgedStretches n couplers gates) ≤ mostGates
   unfolding judgedStretches
   place-most =
-      low-then (judgedDrawing n couplers gates) _ low-drawing
+      low-then (judgedFive n couplers gates) _ low-drawing
       (λ d. low-then (judgedParitiesFrom n 0 (stretchesOf n gates)) (judgedReaches n couplers gates) (low-parities d) (low-reaches d))

@@ -11,7 +11,8 @@ use lib.Seq.{take-all, take-nil, drop-cons, drop-drop, getD-drop, length-take-le
 use borrow.Author.Tests.{le-leb, lt-leb}
 use Rattle.sets.specs.Pick.{pick}
 use Rattle.gates.specs.Hadamards.{isHadamard}
-use Rattle.stretches.specs.Cut.{firstAt, those}
+use Rattle.sets.specs.Lists.{those}
+use Rattle.stretches.specs.Cut.{firstAt}
 use Rattle.stretches.specs.Stretches.{stretchesOf, hadamardsOf, endAt, stretchAt, restFrom, hadamardsFrom}
 use Rattle.stretches.specs.Parts.{hadamardAt}
 use Rattle.stretches.proofs.Cutting.{first-le, first-is, cut-last, those-last, cut-more, those-more}

@@ -8,14 +8,15 @@ use Rattle.sets.specs.Bit.{has}
 use Rattle.gates.specs.declared.gate.Gate.{Gate}
 use Rattle.gates.specs.Layout.{aIn, gateOf, gatesOf, recordOf, Good}
 use Rattle.gates.specs.Hadamards.{isHadamard}
-use Rattle.gates.specs.All.{All}
+use Rattle.sets.specs.Lists.{All, those}
+use Rattle.sets.proofs.Lists.{those-append}
 use Rattle.gates.proofs.Records.{gate-record}
 use Rattle.gates.proofs.Hadamards.{good-between}
 use Rattle.tallies.specs.Tally.{largest}
 use Rattle.laying.specs.Verdict.{circuitOf}
 use Rattle.laying.specs.Demands.{Island, isOn, gatesOn, Agree}
 use Rattle.laying.proofs.Demands.{demand-2, demand-3}
-use Rattle.stretches.specs.Cut.{weave, Each, Pairs}
+use Rattle.stretches.specs.Cut.{weave, Pairs}
 use Rattle.stretches.specs.Asked.{Accepts}
 use Rattle.stretches.specs.Laid.{stretchRecords}
 use Rattle.stretches.specs.Demands.{SameOn, recordIsOn, recordsOn}
@@ -26,13 +27,7 @@ use Rattle.stretches.proofs.Records.{stretch-few, stretch-gates}
 module _ (n S : ℕ) where
   on-append : (xs ys : List ℕ) → recordsOn n S (xs ++ ys) ≡ recordsOn n S xs ++ recordsOn n S ys
   unfolding recordsOn
-  on-append [] ys = refl
-  on-append (x ∷ xs) ys = go (recordIsOn n S x) (on-append xs ys)
-    where
-      go : (b : Bool) → recordsOn n S (xs ++ ys) ≡ recordsOn n S xs ++ recordsOn n S ys
-          → pick b (x ∷ recordsOn n S (xs ++ ys)) (recordsOn n S (xs ++ ys)) ≡ pick b (x ∷ recordsOn n S xs) (recordsOn n S xs) ++ recordsOn n S ys
-      go true e = ap (λ (l : List ℕ). x ∷ l) e
-      go false e = e
+  on-append xs ys = those-append (recordIsOn n S) xs ys
 
   gate-on : (g : Gate) → n ≤ 256 → Good n g → recordIsOn n S (recordOf g) ≡ isOn S g
   unfolding recordIsOn
@@ -41,7 +36,7 @@ module _ (n S : ℕ) where
 
   -- the records of gates on S are those of the gates on S
   gates-on : (gs : List Gate) → n ≤ 256 → All (Good n) gs → recordsOn n S (map recordOf gs) ≡ map recordOf (gatesOn S gs)
-  unfolding recordsOn gatesOn All
+  unfolding recordsOn gatesOn those All
   gates-on [] few a = refl
   gates-on (g ∷ gs) few a =
       ap (λ (b : Bool). pick b (recordOf g ∷ recordsOn n S (map recordOf gs)) (recordsOn n S (map recordOf gs))) (gate-on g few (a .0)) ∙ go (isOn S g) (gates-on gs few (a .1))
@@ -52,16 +47,16 @@ module _ (n S : ℕ) where
       go false e = e
 
   hadamard-on : (h : ℕ) → isHadamard n h ≡ true → (xs : List ℕ) → recordsOn n S (h ∷ xs) ≡ pick (has S (aIn h)) (h ∷ recordsOn n S xs) (recordsOn n S xs)
-  unfolding recordsOn recordIsOn
+  unfolding recordsOn recordIsOn those
   hadamard-on h e xs = ap (λ (b : Bool). pick (pick b (has S (aIn h)) (isOn S (gateOf n h))) (h ∷ recordsOn n S xs) (recordsOn n S xs)) e
 
 -- ---- of two
 
 module _ (n m S : ℕ) where
   -- the same records of each stretch, woven with the same Hadamards
-  pub woven-same : (Ls Ms : List (List ℕ)) (hs : List ℕ) → Each (λ x. isHadamard n x ≡ true) hs → Each (λ x. isHadamard m x ≡ true) hs
+  pub woven-same : (Ls Ms : List (List ℕ)) (hs : List ℕ) → All (λ x. isHadamard n x ≡ true) hs → All (λ x. isHadamard m x ≡ true) hs
       → Pairs (λ L M. recordsOn n S L ≡ recordsOn m S M) Ls Ms → recordsOn n S (weave Ls hs) ≡ recordsOn m S (weave Ms hs)
-  unfolding Pairs weave Each recordsOn
+  unfolding Pairs weave All recordsOn those
   woven-same [] [] hs a b g = refl
   woven-same [] (M ∷ Ms) hs a b g = absurd g
   woven-same (L ∷ Ls) [] hs a b g = absurd g

@@ -19,12 +19,12 @@ use Rattle.meaning.specs.Borne.{overAt, terms}
 use Rattle.chip.specs.Couplers.{nearOf}
 use Rattle.isles.specs.Islands.{islandsOf}
 use Rattle.judging.specs.Tests.{judgedReach, verdictOf}
-use Rattle.stretches.specs.Cut.{Each}
+use Rattle.sets.specs.Lists.{All}
 use Rattle.stretches.specs.Stretches.{stretchesOf, hadamardsOf, endAt, stretchAt, restFrom, hadamardsFrom}
 use Rattle.stretches.specs.Tests.{judgedParitiesAt, judgedParitiesFrom, judgedReachAt, judgedReachFrom, judgedReaches, boundsOf, jobBound, judgedBound}
 use Rattle.stretches.specs.Asked.{OnlyReach, Counted}
 use Rattle.stretches.specs.Parts.{hadamardAt}
-use Rattle.stretches.proofs.Eachs.{each-head, each-tail}
+use Rattle.sets.proofs.Lists.{all-head, all-tail}
 use Rattle.stretches.proofs.Passing.{none-one}
 use Rattle.stretches.proofs.Going.{stretch-within, rest-start, rest-past, rest-step, hadamards-start, hadamards-past, hadamards-more, hadamards-last, behind-some, behind-none, hadamards-count}
 
@@ -94,22 +94,22 @@ module _ (n : ℕ) (xs : List ℕ) where
 
     pub record Seventh (k : ℕ) : Type 0 where
       pub within : k ≤ length xs + 1
-      pub only : Each (OnlyReach n couplers) (rest k)
+      pub only : All (OnlyReach n couplers) (rest k)
       pub same : judgedReachFrom n isls k (rest k) ≡ judgedReachFrom n isls 0 all
 
-    pub seventh-none : Each (OnlyReach n couplers) all → Seventh 0
-    seventh-none c = record { within = omega arith; only = subst (Each (OnlyReach n couplers)) (sym (rest-start n xs)) c; same = ap (judgedReachFrom n isls 0) (rest-start n xs) }
+    pub seventh-none : All (OnlyReach n couplers) all → Seventh 0
+    seventh-none c = record { within = omega arith; only = subst (All (OnlyReach n couplers)) (sym (rest-start n xs)) c; same = ap (judgedReachFrom n isls 0) (rest-start n xs) }
 
     pub seventh-end : (k : ℕ) → length xs < k → Seventh k → Accepted ≡ judgedReachFrom n isls 0 all
     unfolding judgedReachFrom
     seventh-end k l r = sym (ap (judgedReachFrom n isls k) (rest-past n xs k l)) ∙ r .same
 
     module _ (k : ℕ) (l : k ≤ length xs) (s : List ℕ) (e : Lent k s) (v : Verdict) (w : ℕ) (a : v ≡ verdictOf n couplers s largest) (b : w ≡ numberOf v) (r : Seventh k) where
-      onlys : Each (OnlyReach n couplers) (s ∷ rest (k + length s + 1))
-      onlys = subst (Each (OnlyReach n couplers)) (lent-step k s e l) (r .only)
+      onlys : All (OnlyReach n couplers) (s ∷ rest (k + length s + 1))
+      onlys = subst (All (OnlyReach n couplers)) (lent-step k s e l) (r .only)
 
       reach : v ≡ judgedReach n isls (gatesOf n s)
-      reach = a ∙ each-head (OnlyReach n couplers) s (rest (k + length s + 1)) onlys
+      reach = a ∙ all-head (OnlyReach n couplers) s (rest (k + length s + 1)) onlys
 
       seventh-cons : judgedReachFrom n isls k (rest k) ≡ andThen (judgedReachAt n isls k s) (judgedReachFrom n isls (k + length s + 1) (rest (k + length s + 1)))
       unfolding judgedReachFrom
@@ -130,7 +130,7 @@ module _ (n : ℕ) (xs : List ℕ) where
           ap (λ (q : Bool). pick q Accepted (Unreachable k)) (eq-eqb (numberOf (judgedReach n isls (gatesOf n s))) 0 (sym (ap numberOf reach) ∙ sym b ∙ z)) in
           record {
             within = omega (arith, lent-within k s e l);
-            only = each-tail (OnlyReach n couplers) s (rest (k + length s + 1)) onlys;
+            only = all-tail (OnlyReach n couplers) s (rest (k + length s + 1)) onlys;
             same = then-on (judgedReachAt n isls k s) (judgedReachFrom n isls (k + length s + 1) (rest (k + length s + 1))) (ap numberOf u) ∙ sym seventh-cons ∙ r .same;
           }
 
@@ -152,13 +152,13 @@ module _ (n : ℕ) (xs : List ℕ) where
         go (yes m) = m
         go (no m) = absurd (z (ap length d ∙ ap length (behind-none n xs 0 (omega arith) (omega (arith, m)))))
 
-    pub reaches-one : (h : List ℕ) → h ≡ hadamardAt n xs 0 → length h ≡ 0 → Each (OnlyReach n couplers) all → (v : Verdict) → v ≡ verdictOf n couplers xs largest → v ≡ judgedReaches n couplers xs
+    pub reaches-one : (h : List ℕ) → h ≡ hadamardAt n xs 0 → length h ≡ 0 → All (OnlyReach n couplers) all → (v : Verdict) → v ≡ verdictOf n couplers xs largest → v ≡ judgedReaches n couplers xs
     unfolding judgedReaches
     reaches-one h d z only v a =
         let m = first-none h d z in
         let none : hs ≡ [] = sym (hadamards-start n xs) ∙ hadamards-last n xs 0 (omega arith) m in
         let one : all ≡ xs ∷ [] = none-one n xs (ap length none) in
-        a ∙ each-head (OnlyReach n couplers) xs [] (subst (Each (OnlyReach n couplers)) one only)
+        a ∙ all-head (OnlyReach n couplers) xs [] (subst (All (OnlyReach n couplers)) one only)
         ∙ sym (ap (λ (b : Bool). pick b (judgedReach n isls (gatesOf n xs)) (judgedReachFrom n isls 0 all)) (eq-eqb (length hs) 0 (ap length none)))
 
     pub reaches-more : (h : List ℕ) → h ≡ hadamardAt n xs 0 → (length h ≡ 0 → ⊥) → (v : Verdict) → v ≡ judgedReachFrom n isls 0 all → v ≡ judgedReaches n couplers xs
@@ -175,14 +175,14 @@ module _ (n : ℕ) (xs : List ℕ) where
 
   pub record Eighth (room left k : ℕ) : Type 0 where
     pub within : k ≤ length xs + 1
-    pub counted : Each (Counted n) (rest k)
+    pub counted : All (Counted n) (rest k)
     pub sum : room + due k ≡ jobBound n xs + left
 
-  pub eighth-none : (room : ℕ) → Each (Counted n) all → Eighth room room 0
+  pub eighth-none : (room : ℕ) → All (Counted n) all → Eighth room room 0
   unfolding jobBound
   eighth-none room c = record {
     within = omega arith;
-    counted = subst (Each (Counted n)) (sym (rest-start n xs)) c;
+    counted = subst (All (Counted n)) (sym (rest-start n xs)) c;
     sum = omega (arith, ap (boundsOf n) (rest-start n xs), ap length (hadamards-start n xs));
   }
 
@@ -198,11 +198,11 @@ module _ (n : ℕ) (xs : List ℕ) where
         sym (ap (λ (b : Bool). pick b Room Accepted) (le-ltb room (jobBound n xs) (omega (arith, r .sum, z))))
 
     module _ (k : ℕ) (l : k ≤ length xs) (s : List ℕ) (e : Lent k s) (r : Eighth room left k) where
-      counts : Each (Counted n) (s ∷ rest (k + length s + 1))
-      counts = subst (Each (Counted n)) (lent-step k s e l) (r .counted)
+      counts : All (Counted n) (s ∷ rest (k + length s + 1))
+      counts = subst (All (Counted n)) (lent-step k s e l) (r .counted)
 
       pub eighth-counted : Counted n s
-      eighth-counted = each-head (Counted n) s (rest (k + length s + 1)) counts
+      eighth-counted = all-head (Counted n) s (rest (k + length s + 1)) counts
 
       module _ (B : ℕ) (a : B ≡ boundOf n (length (terms (gatesOf n s)))) where
         sums : boundsOf n (rest k) ≡ B + boundsOf n (rest (k + length s + 1))
@@ -222,6 +222,6 @@ module _ (n : ℕ) (xs : List ℕ) where
           pub eighth-next : length h ≤ left - B → Eighth room (left - B - length h) (k + length s + 1)
           eighth-next p = record {
             within = omega (arith, lent-within k s e l);
-            counted = each-tail (Counted n) s (rest (k + length s + 1)) counts;
+            counted = all-tail (Counted n) s (rest (k + length s + 1)) counts;
             sum = omega (arith, r .sum, sums, count);
           }

@@ -9,12 +9,12 @@ use lib.Seq.{sets, length-sets, length-take-le, take-suc, take-all}
 use Rattle.sets.proofs.Storing.{sets-append}
 use Rattle.gates.specs.Layout.{gatesOf}
 use Rattle.circuit.specs.Phase.{phaseOf, phases}
-use Rattle.stretches.specs.Cut.{Each}
+use Rattle.sets.specs.Lists.{All}
 use Rattle.stretches.specs.Stretches.{stretchesOf, stretchAt, restFrom}
 use Rattle.stretches.specs.Asked.{Accepts}
 use Rattle.stretches.specs.Laid.{stretchRecords, jobRecords, phasesOf, jobPhase}
 use Rattle.stretches.specs.Parts.{hadamardAt, partAt, laidFrom}
-use Rattle.stretches.proofs.Eachs.{each-head, each-tail}
+use Rattle.sets.proofs.Lists.{all-head, all-tail}
 use Rattle.stretches.proofs.Going.{rest-start, rest-past}
 use Rattle.stretches.proofs.Parting.{parts-all, parts-none, parts-step}
 use Rattle.stretches.proofs.Judging.{lent-step, lent-within}
@@ -58,7 +58,7 @@ module _ (n : ℕ) (couplers xs : List ℕ) where
 
   pub record Laying (out₀ : List ℕ) (k : ℕ) (out : List ℕ) (at phase : ℕ) : Type 0 where
     pub within : k ≤ length xs + 1
-    pub accepts : Each (Accepts n couplers) (restFrom n xs k)
+    pub accepts : All (Accepts n couplers) (restFrom n xs k)
     pub size : length out ≡ length out₀
     pub place : at + length (later k) ≡ length J
     pub memory : sets out at (later k) ≡ sets out₀ 0 J
@@ -70,11 +70,11 @@ module _ (n : ℕ) (couplers xs : List ℕ) where
   phases-small [] = omega arith
   phases-small (s ∷ ss) = omega arith
 
-  pub laying-none : (out : List ℕ) → Each (Accepts n couplers) (stretchesOf n xs) → Laying out 0 out 0 0
+  pub laying-none : (out : List ℕ) → All (Accepts n couplers) (stretchesOf n xs) → Laying out 0 out 0 0
   unfolding jobPhase phases
   laying-none out c = record {
     within = omega arith;
-    accepts = subst (Each (Accepts n couplers)) (sym (rest-start n xs)) c;
+    accepts = subst (All (Accepts n couplers)) (sym (rest-start n xs)) c;
     size = refl;
     place = omega (arith, ap length (parts-all n couplers xs));
     memory = ap (sets out 0) (parts-all n couplers xs);
@@ -100,11 +100,11 @@ module _ (n : ℕ) (couplers xs : List ℕ) where
     abbrev next : ℕ
     next = k + length s + 1
 
-    all : Each (Accepts n couplers) (s ∷ restFrom n xs next)
-    all = subst (Each (Accepts n couplers)) (lent-step n xs k s e l) (r .accepts)
+    all : All (Accepts n couplers) (s ∷ restFrom n xs next)
+    all = subst (All (Accepts n couplers)) (lent-step n xs k s e l) (r .accepts)
 
     pub laying-accepts : Accepts n couplers s
-    laying-accepts = each-head (Accepts n couplers) s (restFrom n xs next) all
+    laying-accepts = all-head (Accepts n couplers) s (restFrom n xs next) all
 
     later-step : later k ≡ L ++ (hadamardAt n xs k ++ later next)
     unfolding partAt
@@ -142,7 +142,7 @@ module _ (n : ℕ) (couplers xs : List ℕ) where
         pub laying-next : Laying out₀ next out″ at″ phase′
         laying-next = record {
           within = omega (arith, lent-within n xs k s e l);
-          accepts = each-tail (Accepts n couplers) s (restFrom n xs next) all;
+          accepts = all-tail (Accepts n couplers) s (restFrom n xs next) all;
           size = ap length a′ ∙ length-sets out′ at′ h ∙ ap length a ∙ length-sets out at L ∙ r .size;
           place = omega (arith, r .place, later-length, b, b′, ap length hd);
           memory =

@@ -1,4 +1,3 @@
-pub mod Eachs
 pub mod Cutting
 pub mod Going
 pub mod Parting

@@ -23,14 +23,16 @@ use Rattle.meaning.specs.Borne.{overAt, terms}
 use Rattle.tallies.specs.Tally.{boundOf}
 use Rattle.chip.specs.Couplers.{nearOf}
 use Rattle.isles.specs.Islands.{islandsOf}
-use Rattle.judging.specs.Tests.{judgedCount, judgedParities, judgedReach, judgedRoom, judgedMeaning, verdictOf}
+use Rattle.judging.specs.Tests.{judgedCount, judgedParities, judgedReach, judgedRoom, judgedMeaning, verdictOf, verdictOn}
 use Rattle.laying.specs.declared.lay.Answer.the-variants.{Refused}
 use Rattle.laying.specs.Verdict.{circuitOf, countsOf, answered, outputOf}
-use Rattle.stretches.specs.Cut.{weave, Each}
+use Rattle.sets.specs.Lists.{All}
+use Rattle.stretches.specs.Cut.{weave}
 use Rattle.stretches.specs.Stretches.{stretchesOf, hadamardsOf}
-use Rattle.stretches.specs.Tests.{judgedDrawing, judgedParitiesAt, judgedParitiesFrom, judgedReachFrom, judgedReaches, boundsOf, jobBound, judgedBound, judgedStretches, jobVerdict}
+use Rattle.stretches.specs.Tests.{judgedFive, judgedParitiesAt, judgedParitiesFrom, judgedReachFrom, judgedReaches, boundsOf, jobBound, judgedBound, judgedStretches, jobVerdict}
 use Rattle.stretches.specs.Laid.{stretchRecords, jobRecords, phasesOf, jobPhase, jobAnswered, jobOutput}
-use Rattle.stretches.proofs.Eachs.{each-head, at-each, each-false}
+use Rattle.sets.proofs.Lists.{all-head, all-place}
+use Rattle.stretches.proofs.Cutting.{cut-false}
 use Rattle.stretches.proofs.Passing.{none-one}
 use Rattle.stretches.proofs.Records.{stretch-gates}
 
@@ -65,8 +67,8 @@ module _ (n : ℕ) (couplers gates : List ℕ) (none : hadamardsOf n gates ≡ [
   between : (k : ℕ) → k < length gates → isHadamard n (getD gates k 0) ≡ false
   unfolding stretchesOf
   between k l =
-      at-each (λ x. isHadamard n x ≡ false) gates
-      (each-head (Each (λ x. isHadamard n x ≡ false)) gates [] (subst (Each (Each (λ x. isHadamard n x ≡ false))) one (each-false (isHadamard n) gates))) k l
+      all-place (λ x. isHadamard n x ≡ false) gates
+      (all-head (All (λ x. isHadamard n x ≡ false)) gates [] (subst (All (All (λ x. isHadamard n x ≡ false))) one (cut-false (isHadamard n) gates))) k l
 
   one-six : judgedParitiesFrom n 0 (stretchesOf n gates) ≡ judgedParities gs
   unfolding judgedParitiesFrom judgedParitiesAt judgedParities
@@ -89,7 +91,7 @@ module _ (n : ℕ) (couplers gates : List ℕ) (none : hadamardsOf n gates ≡ [
 
   -- the same verdict: tests 1 to 8 are those of one stretch, with its place of 7
   pub one-verdict : (room : ℕ) → jobVerdict n couplers gates room ≡ verdictOf n couplers gates room
-  unfolding jobVerdict judgedStretches judgedDrawing verdictOf judgedMeaning
+  unfolding jobVerdict judgedStretches judgedFive verdictOf verdictOn judgedMeaning
   one-verdict room =
       let q : Verdict = judgedQubits n in
       let c : Verdict = judgedCouplers n couplers in

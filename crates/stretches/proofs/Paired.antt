@@ -3,12 +3,13 @@ use mathlib.Core.Path.{_≡_, refl, ap₂}
 use mathlib.Core.List.{List, [], _∷_, map}
 use Prim.Native.Nat.{ℕ}
 use native.Mathlib.Omega.{arith}
-use Rattle.stretches.specs.Cut.{Each, Pairs}
+use Rattle.sets.specs.Lists.{All}
+use Rattle.stretches.specs.Cut.{Pairs}
 
 -- members that have properties too
 pub pairs-both : {A B : Type 0} (P : A → Type 0) (Q : B → Type 0) (R S : A → B → Type 0) → ((x : A) (y : B) → P x → Q y → R x y → S x y)
-    → (xs : List A) (ys : List B) → Each P xs → Each Q ys → Pairs R xs ys → Pairs S xs ys
-unfolding Each Pairs
+    → (xs : List A) (ys : List B) → All P xs → All Q ys → Pairs R xs ys → Pairs S xs ys
+unfolding All Pairs
 pairs-both P Q R S f [] [] a b r = tt
 pairs-both P Q R S f [] (y ∷ ys) a b r = absurd r
 pairs-both P Q R S f (x ∷ xs) [] a b r = absurd r
@@ -23,8 +24,8 @@ pairs-mapped f g R (x ∷ xs) [] r = absurd r
 pairs-mapped f g R (x ∷ xs) (y ∷ ys) r = (r .0, pairs-mapped f g R xs ys (r .1))
 
 -- each member and what becomes of it
-pub pairs-self : {A B : Type 0} (P : A → Type 0) (f : A → B) (R : A → B → Type 0) → ((x : A) → P x → R x (f x)) → (xs : List A) → Each P xs → Pairs R xs (map f xs)
-unfolding Each Pairs
+pub pairs-self : {A B : Type 0} (P : A → Type 0) (f : A → B) (R : A → B → Type 0) → ((x : A) → P x → R x (f x)) → (xs : List A) → All P xs → Pairs R xs (map f xs)
+unfolding All Pairs
 pairs-self P f R g [] a = tt
 pairs-self P f R g (x ∷ xs) a = (g x (a .0), pairs-self P f R g xs (a .1))
 

@@ -28,18 +28,20 @@ use Rattle.meaning.specs.Borne.{overAt, terms}
 use Rattle.meaning.proofs.Bearing.{terms-few}
 use Rattle.chip.specs.Couplers.{nearOf}
 use Rattle.isles.specs.Islands.{islandsOf}
-use Rattle.judging.specs.Tests.{judgedCount, judgedParities, judgedReach, judgedRoom, judgedMeaning, verdictOf}
+use Rattle.judging.specs.Tests.{judgedCount, judgedParities, judgedReach, judgedRoom, judgedMeaning, verdictOf, verdictOn}
 use Rattle.judging.proofs.Judging.{over-le, over-few, qubits-few, parities-pass}
 use Rattle.laying.specs.Verdict.{circuitOf}
 use Rattle.laying.specs.Demands.{judgedSix}
 use Rattle.laying.proofs.Demands.{demand-2}
 use Rattle.laying.proofs.Rows.{tests-4}
-use Rattle.stretches.specs.Cut.{ahead, cutAt, those, weave, Each}
+use Rattle.sets.specs.Lists.{those, All}
+use Rattle.stretches.specs.Cut.{ahead, cutAt, weave}
 use Rattle.stretches.specs.Stretches.{stretchesOf, hadamardsOf}
-use Rattle.stretches.specs.Tests.{judgedDrawing, judgedParitiesAt, judgedParitiesFrom, judgedReachAt, judgedReachFrom, judgedReaches, boundsOf, jobBound, judgedStretches}
+use Rattle.stretches.specs.Tests.{judgedFive, judgedParitiesAt, judgedParitiesFrom, judgedReachAt, judgedReachFrom, judgedReaches, boundsOf, jobBound, judgedStretches}
 use Rattle.stretches.specs.Asked.{OnlyReach, Counted, Accepts}
 use Rattle.stretches.specs.Laid.{stretchRecords, jobRecords}
-use Rattle.stretches.proofs.Eachs.{each-one, each-both, each-at, at-each, each-cut, each-short, cut-few}
+use Rattle.sets.proofs.Lists.{all-one, all-both, all-places, all-place}
+use Rattle.stretches.proofs.Cutting.{cut-all, cut-short, cut-few}
 
 -- ---- 5, of a stretch
 
@@ -65,24 +67,24 @@ fair-neither : (n x : ℕ) → Fair n x → isNeither n x ≡ false
 unfolding isNeither
 fair-neither n x f = ap (λ (b : Bool). both b (not (isHadamard n x))) (good-not-bad n (gateOf n x) f)
 
-fair-accepted : (n : ℕ) (s : List ℕ) → Each (Fair n) s → judgedGates n s ≡ Accepted
+fair-accepted : (n : ℕ) (s : List ℕ) → All (Fair n) s → judgedGates n s ≡ Accepted
 fair-accepted n s f =
-    sym (drawn-gates n s (λ k l. fair-between n (getD s k 0) (at-each (Fair n) s f k l))) ∙ drawn-accepted n s (λ k l. fair-neither n (getD s k 0) (at-each (Fair n) s f k l))
+    sym (drawn-gates n s (λ k l. fair-between n (getD s k 0) (all-place (Fair n) s f k l))) ∙ drawn-accepted n s (λ k l. fair-neither n (getD s k 0) (all-place (Fair n) s f k l))
 
 no-hadamard : (n x : ℕ) → Good n (gateOf n x) ⊎ (isHadamard n x ≡ true) → isHadamard n x ≡ false → Fair n x
 no-hadamard n x (inl g) e = g
 no-hadamard n x (inr h) e = absurd (let z : _≡_ {A = ℕ} 1 0 = ap (λ (b : Bool). pick b 1 0) (sym h ∙ e) in omega arith)
 
 module _ (n : ℕ) (gates : List ℕ) where
-  stretches-fair : judgedDrawn n gates ≡ Accepted → Each (Each (Fair n)) (stretchesOf n gates)
+  stretches-fair : judgedDrawn n gates ≡ Accepted → All (All (Fair n)) (stretchesOf n gates)
   unfolding stretchesOf
   stretches-fair e =
-      each-cut (Fair n) (isHadamard n) gates
-      (each-at (λ x. isHadamard n x ≡ false → Fair n x) gates (λ k l. no-hadamard n (getD gates k 0) (accepted-drawn n gates e k l)))
+      cut-all (Fair n) (isHadamard n) gates
+      (all-places (λ x. isHadamard n x ≡ false → Fair n x) gates (λ k l. no-hadamard n (getD gates k 0) (accepted-drawn n gates e k l)))
 
-  stretches-short : length gates ≤ mostGates → Each (λ s. length s < mostGates + 1) (stretchesOf n gates)
+  stretches-short : length gates ≤ mostGates → All (λ s. length s < mostGates + 1) (stretchesOf n gates)
   unfolding stretchesOf
-  stretches-short l = each-short (isHadamard n) gates (mostGates + 1) (omega arith)
+  stretches-short l = cut-short (isHadamard n) gates (mostGates + 1) (omega arith)
 
 -- ---- 6 and 7, of a stretch
 
@@ -95,8 +97,8 @@ module _ (n : ℕ) where
       go true x e = absurd (let y : _≡_ {A = ℕ} 6 0 = e in omega arith)
       go false x e = omega (arith, ltb-false (overAt (gatesOf n s)) (length s) x, over-le (gatesOf n s), length-map s (gateOf n))
 
-  pub parities-counted : (k : ℕ) (ss : List (List ℕ)) → numberOf (judgedParitiesFrom n k ss) ≡ 0 → Each (Counted n) ss
-  unfolding judgedParitiesFrom Each
+  pub parities-counted : (k : ℕ) (ss : List (List ℕ)) → numberOf (judgedParitiesFrom n k ss) ≡ 0 → All (Counted n) ss
+  unfolding judgedParitiesFrom All
   parities-counted k [] e = tt
   parities-counted k (s ∷ ss) e =
       let a = then-zero (judgedParitiesAt n k s) (judgedParitiesFrom n (k + length s + 1) ss) e in
@@ -114,8 +116,8 @@ module _ (n : ℕ) where
         go true x e = eqb-true (numberOf (judgedReach n isls (gatesOf n s))) 0 x
         go false x e = absurd (let y : _≡_ {A = ℕ} 7 0 = e in omega arith)
 
-    from-reaches : (k : ℕ) (ss : List (List ℕ)) → numberOf (judgedReachFrom n isls k ss) ≡ 0 → Each Reaches ss
-    unfolding judgedReachFrom Each
+    from-reaches : (k : ℕ) (ss : List (List ℕ)) → numberOf (judgedReachFrom n isls k ss) ≡ 0 → All Reaches ss
+    unfolding judgedReachFrom All
     from-reaches k [] e = tt
     from-reaches k (s ∷ ss) e =
         let a = then-zero (judgedReachAt n isls k s) (judgedReachFrom n isls (k + length s + 1) ss) e in
@@ -132,15 +134,15 @@ module _ (n : ℕ) where
       go true r e = absurd (omega arith)
       go false r e = ap (ahead x) (r e)
 
-  reaches-each : (couplers xs : List ℕ) → numberOf (judgedReaches n couplers xs) ≡ 0 → Each (Reaches (islandsOf (nearOf n couplers))) (stretchesOf n xs)
+  reaches-each : (couplers xs : List ℕ) → numberOf (judgedReaches n couplers xs) ≡ 0 → All (Reaches (islandsOf (nearOf n couplers))) (stretchesOf n xs)
   unfolding judgedReaches
   reaches-each couplers xs e = go (eqb (length (hadamardsOf n xs)) 0) refl e
     where
       isls : List ℕ
       isls = islandsOf (nearOf n couplers)
 
-      go : (b : Bool) → eqb (length (hadamardsOf n xs)) 0 ≡ b → numberOf (pick b (judgedReach n isls (gatesOf n xs)) (judgedReachFrom n isls 0 (stretchesOf n xs))) ≡ 0 → Each (Reaches isls) (stretchesOf n xs)
-      go true x e = subst (Each (Reaches isls)) (sym (none-one xs (eqb-true (length (hadamardsOf n xs)) 0 x))) (each-one (Reaches isls) xs e)
+      go : (b : Bool) → eqb (length (hadamardsOf n xs)) 0 ≡ b → numberOf (pick b (judgedReach n isls (gatesOf n xs)) (judgedReachFrom n isls 0 (stretchesOf n xs))) ≡ 0 → All (Reaches isls) (stretchesOf n xs)
+      go true x e = subst (All (Reaches isls)) (sym (none-one xs (eqb-true (length (hadamardsOf n xs)) 0 x))) (all-one (Reaches isls) xs e)
       go false x e = from-reaches isls 0 (stretchesOf n xs) e
 
 -- ---- a stretch as a job of its own
@@ -157,9 +159,9 @@ room-passed n s few c =
 
 -- past tests 1 to 6
 module _ (n : ℕ) (couplers : List ℕ) (qubits : numberOf (judgedQubits n) ≡ 0) (listed : numberOf (judgedCouplers n couplers) ≡ 0)
-    (s : List ℕ) (fair : Each (Fair n) s) (short : length s < mostGates + 1) (c : Counted n s) where
+    (s : List ℕ) (fair : All (Fair n) s) (short : length s < mostGates + 1) (c : Counted n s) where
   only-reach : OnlyReach n couplers s
-  unfolding verdictOf judgedMeaning
+  unfolding verdictOf verdictOn judgedMeaning
   only-reach =
       let reach : Verdict = judgedReach n (islandsOf (nearOf n couplers)) (gatesOf n s) in
       let r : Verdict = andThen reach (judgedRoom n (gatesOf n s) largest) in
@@ -194,8 +196,8 @@ pub record Passed (n : ℕ) (couplers gates : List ℕ) : Type 0 where
   pub listed : judgedCouplers n couplers ≡ Accepted
   pub drawn : judgedDrawn n gates ≡ Accepted
   pub short : length gates ≤ mostGates
-  pub counted : Each (Counted n) (stretchesOf n gates)
-  pub accepts : Each (Accepts n couplers) (stretchesOf n gates)
+  pub counted : All (Counted n) (stretchesOf n gates)
+  pub accepts : All (Accepts n couplers) (stretchesOf n gates)
 
 module _ (n : ℕ) (couplers gates : List ℕ) where
   record Drawing : Type 0 where
@@ -204,38 +206,38 @@ module _ (n : ℕ) (couplers gates : List ℕ) where
     short : length gates ≤ mostGates
     drawn : judgedDrawn n gates ≡ Accepted
 
-  drawing : numberOf (judgedDrawing n couplers gates) ≡ 0 → Drawing
-  unfolding judgedDrawing
+  drawing : numberOf (judgedFive n couplers gates) ≡ 0 → Drawing
+  unfolding judgedFive
   drawing z =
       let a = then-zero (judgedQubits n) _ z in
       let b = then-zero (judgedCouplers n couplers) _ (a .1) in
       let c = then-zero (judgedCount gates) _ (b .1) in
       record { qubits = a .0; couplers-listed = b .0; short = row-passes (tests-4 gates) .exactly .0 (c .0); drawn = zero-accepted (judgedDrawn n gates) (c .1) }
 
-  module _ (d : numberOf (judgedDrawing n couplers gates) ≡ 0) where
-    stretches : (P : List ℕ → Type 0) → ((s : List ℕ) → Each (Fair n) s → length s < mostGates + 1 → P s) → Each P (stretchesOf n gates)
+  module _ (d : numberOf (judgedFive n couplers gates) ≡ 0) where
+    stretches : (P : List ℕ → Type 0) → ((s : List ℕ) → All (Fair n) s → length s < mostGates + 1 → P s) → All P (stretchesOf n gates)
     stretches P f =
-        each-both (Each (Fair n)) (λ s. length s < mostGates + 1) P f (stretchesOf n gates) (stretches-fair n gates (drawing d .drawn)) (stretches-short n gates (drawing d .short))
+        all-both (All (Fair n)) (λ s. length s < mostGates + 1) P f (stretchesOf n gates) (stretches-fair n gates (drawing d .drawn)) (stretches-short n gates (drawing d .short))
 
     module _ (p : numberOf (judgedParitiesFrom n 0 (stretchesOf n gates)) ≡ 0) where
-      past-six : (P : List ℕ → Type 0) → ((s : List ℕ) → Each (Fair n) s → length s < mostGates + 1 → Counted n s → P s) → Each P (stretchesOf n gates)
-      past-six P f = each-both (λ s. Counted n s → P s) (Counted n) P (λ s g c. g c) (stretchesOf n gates) (stretches (λ s. Counted n s → P s) f) (parities-counted n 0 (stretchesOf n gates) p)
+      past-six : (P : List ℕ → Type 0) → ((s : List ℕ) → All (Fair n) s → length s < mostGates + 1 → Counted n s → P s) → All P (stretchesOf n gates)
+      past-six P f = all-both (λ s. Counted n s → P s) (Counted n) P (λ s g c. g c) (stretchesOf n gates) (stretches (λ s. Counted n s → P s) f) (parities-counted n 0 (stretchesOf n gates) p)
 
-      pub only-reaches : Each (OnlyReach n couplers) (stretchesOf n gates)
+      pub only-reaches : All (OnlyReach n couplers) (stretchesOf n gates)
       only-reaches = past-six (OnlyReach n couplers) (only-reach n couplers (drawing d .qubits) (drawing d .couplers-listed))
 
       -- each stretch by itself is past tests 1 to 6
-      pub stretches-six : Each (λ s. numberOf (judgedSix n couplers s) ≡ 0) (stretchesOf n gates)
+      pub stretches-six : All (λ s. numberOf (judgedSix n couplers s) ≡ 0) (stretchesOf n gates)
       stretches-six = past-six (λ s. numberOf (judgedSix n couplers s) ≡ 0) (stretch-six n couplers (drawing d .qubits) (drawing d .couplers-listed))
 
   pub job-passed : numberOf (judgedStretches n couplers gates) ≡ 0 → Passed n couplers gates
   unfolding judgedStretches
   job-passed z =
-      let a = then-zero (judgedDrawing n couplers gates) _ z in
+      let a = then-zero (judgedFive n couplers gates) _ z in
       let b = then-zero (judgedParitiesFrom n 0 (stretchesOf n gates)) _ (a .1) in
       let d = drawing (a .0) in
       let isls : List ℕ = islandsOf (nearOf n couplers) in
-      let c : Each (Counted n) (stretchesOf n gates) = parities-counted n 0 (stretchesOf n gates) (b .0) in
+      let c : All (Counted n) (stretchesOf n gates) = parities-counted n 0 (stretchesOf n gates) (b .0) in
       record {
         qubits = d .qubits;
         few = qubits-few n (d .qubits) .1;
@@ -243,9 +245,9 @@ module _ (n : ℕ) (couplers gates : List ℕ) where
         drawn = d .drawn;
         short = d .short;
         counted = c;
-        accepts = each-both (λ s. Counted n s → Reaches n isls s → Accepts n couplers s) (λ s. Counted n s × Reaches n isls s) (Accepts n couplers) (λ s f p. f (p .0) (p .1)) (stretchesOf n gates)
+        accepts = all-both (λ s. Counted n s → Reaches n isls s → Accepts n couplers s) (λ s. Counted n s × Reaches n isls s) (Accepts n couplers) (λ s f p. f (p .0) (p .1)) (stretchesOf n gates)
             (stretches (a .0) (λ s. Counted n s → Reaches n isls s → Accepts n couplers s) (λ s f l p. stretch-accepted n couplers (d .qubits) (d .couplers-listed) s f l p))
-            (each-both (Counted n) (Reaches n isls) (λ s. Counted n s × Reaches n isls s) (λ s x y. (x, y)) (stretchesOf n gates) c (reaches-each n couplers gates (b .1)));
+            (all-both (Counted n) (Reaches n isls) (λ s. Counted n s × Reaches n isls s) (λ s x y. (x, y)) (stretchesOf n gates) c (reaches-each n couplers gates (b .1)));
       }
 
   -- ---- what is laid
@@ -258,8 +260,8 @@ module _ (n : ℕ) (couplers gates : List ℕ) where
   part-few s a c few =
       omega (arith, bounded s a, bound-most n (length (terms (gatesOf n s))) few (omega (arith, terms-few (gatesOf n s), over-few (gatesOf n s) c)))
 
-  woven-length : (ss : List (List ℕ)) (hs : List ℕ) → Each (Accepts n couplers) ss → length (weave (map (stretchRecords n couplers) ss) hs) ≤ boundsOf n ss + length hs
-  unfolding weave boundsOf Each
+  woven-length : (ss : List (List ℕ)) (hs : List ℕ) → All (Accepts n couplers) ss → length (weave (map (stretchRecords n couplers) ss) hs) ≤ boundsOf n ss + length hs
+  unfolding weave boundsOf All
   woven-length [] hs a = omega arith
   woven-length (s ∷ ss) [] a = omega (arith, bounded s (a .0))
   woven-length (s ∷ ss) (h ∷ hs) a =
@@ -271,8 +273,8 @@ module _ (n : ℕ) (couplers gates : List ℕ) where
   job-bounded p = woven-length (stretchesOf n gates) (hadamardsOf n gates) (p .accepts)
 
   -- and the whole is never longer than a part for each gate
-  woven-few : (ss : List (List ℕ)) (hs : List ℕ) → Each (Accepts n couplers) ss → Each (Counted n) ss → n ≤ 20 → length (weave (map (stretchRecords n couplers) ss) hs) ≤ 10765 * length ss
-  unfolding weave Each boundOf
+  woven-few : (ss : List (List ℕ)) (hs : List ℕ) → All (Accepts n couplers) ss → All (Counted n) ss → n ≤ 20 → length (weave (map (stretchRecords n couplers) ss) hs) ≤ 10765 * length ss
+  unfolding weave All boundOf
   woven-few [] hs a c few = omega arith
   woven-few (s ∷ ss) [] a c few = omega (arith, part-few s (a .0) (c .0) few)
   woven-few (s ∷ ss) (h ∷ hs) a c few =

@@ -11,7 +11,7 @@ use Rattle.sets.specs.Pick.{pick}
 use Rattle.gates.specs.declared.gate.Gate.{Gate}
 use Rattle.gates.specs.Layout.{gatesOf, recordOf, Good}
 use Rattle.gates.specs.Hadamards.{isHadamard}
-use Rattle.gates.specs.All.{All}
+use Rattle.sets.specs.Lists.{All}
 use Rattle.gates.proofs.Alls.{records-gates}
 use Rattle.gates.proofs.Hadamards.{good-between}
 use Rattle.verdicts.specs.Verdicts.{numberOf}
@@ -25,13 +25,12 @@ use Rattle.laying.specs.Demands.{Island, Faithful, FlipsLast, SameCouplers, Agr
 use Rattle.laying.proofs.Accepting.{job-layable}
 use Rattle.laying.proofs.Demands.{demand-2, demand-2-flips-last, records-are}
 use Rattle.laying.proofs.Archive.{each-qubit-has-an-island, meaning-agrees, one-circuit-for-one-meaning}
-use Rattle.stretches.specs.Cut.{Each}
 use Rattle.stretches.specs.Asked.{Accepts}
 use Rattle.stretches.specs.Laid.{stretchRecords}
 
 -- the records of good gates
-records-between : (n : ℕ) (gs : List Gate) → n ≤ 256 → All (Good n) gs → Each (λ x. isHadamard n x ≡ false) (map recordOf gs)
-unfolding All Each
+records-between : (n : ℕ) (gs : List Gate) → n ≤ 256 → All (Good n) gs → All (λ x. isHadamard n x ≡ false) (map recordOf gs)
+unfolding All
 records-between n [] few a = tt
 records-between n (g ∷ gs) few a = (good-between n g few (a .0), records-between n gs few (a .1))
 
@@ -46,7 +45,7 @@ module _ (n : ℕ) (couplers s : List ℕ) (room : ℕ) (z : numberOf (verdictOf
   stretch-gates = records-gates n (circuitOf n couplers s) stretch-few (demand-2 n couplers s room z .good)
 
   -- none of its records is a Hadamard
-  pub stretch-between : Each (λ x. isHadamard n x ≡ false) (stretchRecords n couplers s)
+  pub stretch-between : All (λ x. isHadamard n x ≡ false) (stretchRecords n couplers s)
   stretch-between = records-between n (circuitOf n couplers s) stretch-few (demand-2 n couplers s room z .good)
 
   -- the phase returned for it is its own

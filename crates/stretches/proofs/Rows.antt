@@ -14,7 +14,7 @@ use Rattle.judging.specs.Tests.{judgedCount}
 use Rattle.laying.specs.Rows.{Passes4}
 use Rattle.laying.proofs.Rows.{tests-4, Later, later-not, later-than}
 use Rattle.stretches.specs.Stretches.{stretchesOf}
-use Rattle.stretches.specs.Tests.{judgedDrawing, judgedParitiesFrom, judgedReaches, judgedBound, judgedStretches, jobVerdict}
+use Rattle.stretches.specs.Tests.{judgedFive, judgedParitiesFrom, judgedReaches, judgedBound, judgedStretches, jobVerdict}
 use Rattle.stretches.specs.Meaning.{ReachableJob}
 use Rattle.stretches.specs.Rows.{PassesSix, Unreached, JobRows}
 use Rattle.stretches.proofs.Passing.{stretches-six}
@@ -56,7 +56,7 @@ module _ (n : ℕ) (couplers gates : List ℕ) (room : ℕ) where
 
   -- 1 to 8, of which 2 and 3 are one function
   all-judged : all ≡ jobVerdict n couplers gates room
-  unfolding jobVerdict judgedStretches judgedDrawing
+  unfolding jobVerdict judgedStretches judgedFive
   all-judged =
       let k : Verdict = judgedCount gates in
       let g : Verdict = judgedDrawn n gates in
@@ -64,7 +64,7 @@ module _ (n : ℕ) (couplers gates : List ℕ) (room : ℕ) where
       (sym (then-assoc (judgedMany couplers) (judgedWrong n couplers) behind3) ∙ ap (λ (v : Verdict). andThen v behind3) (couplers-parted n couplers)
       ∙ ap (andThen (judgedCouplers n couplers)) (sym (then-assoc k g behind5)) ∙ sym (then-assoc (judgedCouplers n couplers) (andThen k g) behind5))
       ∙ sym (then-assoc (judgedQubits n) (andThen (judgedCouplers n couplers) (andThen k g)) behind5)
-      ∙ ap (andThen (judgedDrawing n couplers gates)) (sym (then-assoc parities reach bound)) ∙ sym (then-assoc (judgedDrawing n couplers gates) (andThen parities reach) bound)
+      ∙ ap (andThen (judgedFive n couplers gates)) (sym (then-assoc parities reach bound)) ∙ sym (then-assoc (judgedFive n couplers gates) (andThen parities reach) bound)
 
   module _ (p1 : Passes1 n) (p2 : Passes2 couplers) (p3 : Passes3 n couplers) where
     couplers-passed : numberOf (judgedCouplers n couplers) ≡ 0
@@ -72,8 +72,8 @@ module _ (n : ℕ) (couplers gates : List ℕ) (room : ℕ) where
         sym (ap numberOf (then-on (judgedMany couplers) (judgedWrong n couplers) (test-passed (tests-2 couplers) p2) ∙ couplers-parted n couplers)) ∙ test-passed (tests-3 n couplers) p3
 
     module _ (p4 : Passes4 gates) (p5 : PassesDrawn n gates) (p6 : PassesSix n stretches) where
-      drawing-passed : numberOf (judgedDrawing n couplers gates) ≡ 0
-      unfolding judgedDrawing
+      drawing-passed : numberOf (judgedFive n couplers gates) ≡ 0
+      unfolding judgedFive
       drawing-passed =
           sym (ap numberOf (then-on (judgedCount gates) _ (test-passed (tests-4 gates) p4) ∙ then-on (judgedCouplers n couplers) _ couplers-passed ∙ then-on (judgedQubits n) _ (test-passed (tests-1 n) p1)))
           ∙ test-passed (tests-drawn n gates) p5

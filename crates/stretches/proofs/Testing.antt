@@ -29,12 +29,12 @@ use Rattle.laying.specs.Rows.{Passes6, Brings}
 use Rattle.laying.proofs.Demands.{reach-tests}
 use Rattle.laying.proofs.Rows.{tests-6}
 use Rattle.tallies.specs.Tally.{largest}
-use Rattle.stretches.specs.Cut.{Each}
+use Rattle.sets.specs.Lists.{All}
 use Rattle.stretches.specs.Stretches.{stretchesOf, hadamardsOf}
 use Rattle.stretches.specs.Tests.{judgedParitiesAt, judgedParitiesFrom, judgedReachAt, judgedReachFrom, judgedReaches, jobBound, judgedBound}
 use Rattle.stretches.specs.Meaning.{ReachableJob}
 use Rattle.stretches.specs.Rows.{PassesSix, BringsFrom, UnreachedFrom, Unreached}
-use Rattle.stretches.proofs.Eachs.{each-head, each-one}
+use Rattle.sets.proofs.Lists.{all-head, all-one}
 use Rattle.stretches.proofs.Passing.{none-one}
 
 -- ---- tests in other words, and one behind another
@@ -89,7 +89,7 @@ module _ (n : ℕ) where
 
   -- test 6 is passed where every stretch passes it
   pub parities-tests : (k : ℕ) (ss : List (List ℕ)) → Tests (judgedParitiesFrom n k ss) 6 (PassesSix n ss) (PassesSix n ss → ⊥) (BringsFrom n k ss)
-  unfolding judgedParitiesFrom BringsFrom Each
+  unfolding judgedParitiesFrom BringsFrom All
   parities-tests k [] = tests-end 6 (omega arith)
   parities-tests k (s ∷ ss) = tests-then (parities-at k s) (parities-tests (k + length s + 1) ss) (λ p f a. a)
 
@@ -118,13 +118,13 @@ module _ (n : ℕ) (couplers : List ℕ) where
       go false e = inr (refl, λ r. eqb-false (numberOf reach) 0 e (row-passes (reach-tests n couplers s largest z) .exactly .1 r), refl)
 
   -- of stretches with a Hadamard between each and the next
-  reach-from : (k : ℕ) (ss : List (List ℕ)) → Each Six ss → Tests (judgedReachFrom n isls k ss) 7 (Each Reaches ss) (Each Reaches ss → ⊥) (UnreachedFrom n couplers k ss)
-  unfolding judgedReachFrom UnreachedFrom Each
+  reach-from : (k : ℕ) (ss : List (List ℕ)) → All Six ss → Tests (judgedReachFrom n isls k ss) 7 (All Reaches ss) (All Reaches ss → ⊥) (UnreachedFrom n couplers k ss)
+  unfolding judgedReachFrom UnreachedFrom All
   reach-from k [] z = tests-end 7 (omega arith)
   reach-from k (s ∷ ss) z = tests-then (reach-at k s (z .0)) (reach-from (k + length s + 1) ss (z .1)) (λ p f a. (a, f))
 
   -- test 7, past test 6, is passed where every stretch can be reached
-  pub reaches-tests : (gates : List ℕ) → Each Six (stretchesOf n gates)
+  pub reaches-tests : (gates : List ℕ) → All Six (stretchesOf n gates)
       → Tests (judgedReaches n couplers gates) 7 (ReachableJob n couplers gates) (ReachableJob n couplers gates → ⊥) (Unreached n couplers gates)
   unfolding judgedReaches
   reaches-tests gates z = go (eqb (length hs) 0) refl
@@ -140,7 +140,7 @@ module _ (n : ℕ) (couplers : List ℕ) where
           → Tests (pick b (judgedReach n isls (gatesOf n gates)) (judgedReachFrom n isls 0 (stretchesOf n gates))) 7 (ReachableJob n couplers gates) (ReachableJob n couplers gates → ⊥) (Unreached n couplers gates)
       go true e =
           let one = none-one n gates (eqb-true (length hs) 0 e) in
-          tests-as (reach-tests n couplers gates largest (each-head Six gates [] (subst (Each Six) one z))) (λ r. subst (Each Reaches) (sym one) (each-one Reaches gates r)) (λ r. each-head Reaches gates [] (subst (Each Reaches) one r))
+          tests-as (reach-tests n couplers gates largest (all-head Six gates [] (subst (All Six) one z))) (λ r. subst (All Reaches) (sym one) (all-one Reaches gates r)) (λ r. all-head Reaches gates [] (subst (All Reaches) one r))
           (λ p f a. record { one = λ x. a; more = λ x. absurd (x (empty hs (eqb-true (length hs) 0 e))) })
       go false e = tests-as (reach-from 0 (stretchesOf n gates) z) (λ r. r) (λ r. r) (λ p f a. record { one = λ x. absurd (eqb-false (length hs) 0 e (ap length x)); more = λ x. a })
 

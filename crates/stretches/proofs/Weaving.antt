@@ -1,12 +1,14 @@
 -- Cut and woven: what is woven of pieces and cuts is cut into the same again, and a list that is cut is woven into itself. Assumes nothing.
-use mathlib.Core.Path.{_≡_, refl, ap, _∙_}
+use mathlib.Core.Path.{_≡_, refl, ap, ap₂, _∙_}
 use mathlib.Core.Bool.{Bool, true, false}
 use mathlib.Core.List.{List, [], _∷_, _++_}
 use Prim.Native.Nat.{suc}
 use native.Mathlib.Omega.{arith}
 use lib.ListN.{length}
 use Rattle.sets.specs.Pick.{pick}
-use Rattle.stretches.specs.Cut.{ahead, cutAt, those, weave, Each}
+use Rattle.sets.specs.Lists.{those, All}
+use Rattle.sets.proofs.Lists.{those-taken, those-append, those-no}
+use Rattle.stretches.specs.Cut.{ahead, cutAt, weave}
 
 module _ {A : Type 0} (h : A → Bool) where
   -- one piece more than cuts
@@ -40,42 +42,35 @@ module _ {A : Type 0} (h : A → Bool) where
   -- ---- a piece, and what follows it
 
   -- a piece has no cut in it
-  abbrev Whole : List A → Type 0
-  Whole s = Each (λ x. h x ≡ false) s
+  abbrev Uncut : List A → Type 0
+  Uncut s = All (λ x. h x ≡ false) s
 
-  cut-behind : (s : List A) → Whole s → (x : A) → h x ≡ true → (xs : List A) → cutAt h (s ++ x ∷ xs) ≡ s ∷ cutAt h xs
-  unfolding cutAt Each ahead
+  cut-behind : (s : List A) → Uncut s → (x : A) → h x ≡ true → (xs : List A) → cutAt h (s ++ x ∷ xs) ≡ s ∷ cutAt h xs
+  unfolding cutAt All ahead
   cut-behind [] a x e xs = ap (λ (b : Bool). pick b ([] ∷ cutAt h xs) (ahead x (cutAt h xs))) e
   cut-behind (y ∷ s) a x e xs =
       ap (λ (b : Bool). pick b ([] ∷ cutAt h (s ++ x ∷ xs)) (ahead y (cutAt h (s ++ x ∷ xs)))) (a .0) ∙ ap (ahead y) (cut-behind s (a .1) x e xs)
 
-  cut-whole : (s : List A) → Whole s → cutAt h s ≡ s ∷ []
-  unfolding cutAt Each ahead
+  cut-whole : (s : List A) → Uncut s → cutAt h s ≡ s ∷ []
+  unfolding cutAt All ahead
   cut-whole [] a = refl
   cut-whole (y ∷ s) a = ap (λ (b : Bool). pick b ([] ∷ cutAt h s) (ahead y (cutAt h s))) (a .0) ∙ ap (ahead y) (cut-whole s (a .1))
 
-  those-behind : (s : List A) → Whole s → (x : A) → h x ≡ true → (xs : List A) → those h (s ++ x ∷ xs) ≡ x ∷ those h xs
-  unfolding those Each
-  those-behind [] a x e xs = ap (λ (b : Bool). pick b (x ∷ those h xs) (those h xs)) e
-  those-behind (y ∷ s) a x e xs = ap (λ (b : Bool). pick b (y ∷ those h (s ++ x ∷ xs)) (those h (s ++ x ∷ xs))) (a .0) ∙ those-behind s (a .1) x e xs
-
-  those-whole : (s : List A) → Whole s → those h s ≡ []
-  unfolding those Each
-  those-whole [] a = refl
-  those-whole (y ∷ s) a = ap (λ (b : Bool). pick b (y ∷ those h s) (those h s)) (a .0) ∙ those-whole s (a .1)
+  those-behind : (s : List A) → Uncut s → (x : A) → h x ≡ true → (xs : List A) → those h (s ++ x ∷ xs) ≡ x ∷ those h xs
+  those-behind s a x e xs = those-append h s (x ∷ xs) ∙ ap₂ _++_ (those-no h s a) (those-taken h x xs e)
 
   -- ---- pieces without a cut, woven with one cut fewer, are cut into the same
 
-  pub cut-weave : (ss : List (List A)) (hs : List A) → length ss ≡ suc (length hs) → Each (Each (λ x. h x ≡ false)) ss → Each (λ x. h x ≡ true) hs → cutAt h (weave ss hs) ≡ ss
-  unfolding weave Each
+  pub cut-weave : (ss : List (List A)) (hs : List A) → length ss ≡ suc (length hs) → All (All (λ x. h x ≡ false)) ss → All (λ x. h x ≡ true) hs → cutAt h (weave ss hs) ≡ ss
+  unfolding weave All
   cut-weave [] hs l a b = absurd (omega (arith, l))
   cut-weave (s ∷ []) [] l a b = cut-whole s (a .0)
   cut-weave (s ∷ t ∷ ss) [] l a b = absurd (omega (arith, l))
   cut-weave (s ∷ ss) (x ∷ hs) l a b = cut-behind s (a .0) x (b .0) (weave ss hs) ∙ ap (λ (r : List (List A)). s ∷ r) (cut-weave ss hs (omega (arith, l)) (a .1) (b .1))
 
-  pub those-weave : (ss : List (List A)) (hs : List A) → length ss ≡ suc (length hs) → Each (Each (λ x. h x ≡ false)) ss → Each (λ x. h x ≡ true) hs → those h (weave ss hs) ≡ hs
-  unfolding weave Each
+  pub those-weave : (ss : List (List A)) (hs : List A) → length ss ≡ suc (length hs) → All (All (λ x. h x ≡ false)) ss → All (λ x. h x ≡ true) hs → those h (weave ss hs) ≡ hs
+  unfolding weave All
   those-weave [] hs l a b = absurd (omega (arith, l))
-  those-weave (s ∷ []) [] l a b = those-whole s (a .0)
+  those-weave (s ∷ []) [] l a b = those-no h s (a .0)
   those-weave (s ∷ t ∷ ss) [] l a b = absurd (omega (arith, l))
   those-weave (s ∷ ss) (x ∷ hs) l a b = those-behind s (a .0) x (b .0) (weave ss hs) ∙ ap (λ (r : List A). x ∷ r) (those-weave ss hs (omega (arith, l)) (a .1) (b .1))

@@ -19,21 +19,11 @@ unfoldable pub cutAt : {A : Type 0} → (A → Bool) → List A → List (List A
 cutAt h [] = [] ∷ []
 cutAt h (x ∷ xs) = pick (h x) ([] ∷ cutAt h xs) (ahead x (cutAt h xs))
 
--- those items, in order
-unfoldable pub those : {A : Type 0} → (A → Bool) → List A → List A
-those h [] = []
-those h (x ∷ xs) = pick (h x) (x ∷ those h xs) (those h xs)
-
 -- lists one behind another, with an item between each and the next
 unfoldable pub weave : {A : Type 0} → List (List A) → List A → List A
 weave [] hs = []
 weave (s ∷ ss) [] = s
 weave (s ∷ ss) (h ∷ hs) = s ++ h ∷ weave ss hs
-
--- every member of a list has a property
-unfoldable pub Each : {A : Type 0} → (A → Type 0) → List A → Type 0
-Each P [] = Unit {0}
-Each P (x ∷ xs) = P x × Each P xs
 
 -- two lists are of one length, and each two members at the same place stand in the relation
 unfoldable pub Pairs : {A B : Type 0} → (A → B → Type 0) → List A → List B → Type 0

@@ -5,6 +5,7 @@ use mathlib.Core.List.{List, [], _∷_}
 use Prim.Native.Nat.{ℕ, _≤_}
 use lib.ListN.{length}
 use Rattle.sets.specs.Pick.{pick}
+use Rattle.sets.specs.Lists.{those}
 use Rattle.sets.specs.Bit.{has}
 use Rattle.gates.specs.Layout.{aIn, gateOf, gatesOf}
 use Rattle.gates.specs.Hadamards.{isHadamard}
@@ -56,5 +57,4 @@ recordIsOn n S x = pick (isHadamard n x) (has S (aIn x)) (isOn S (gateOf n x))
 
 -- "the gates laid on that island", in order, Hadamards among them
 unfoldable pub recordsOn : ℕ → ℕ → List ℕ → List ℕ
-recordsOn n S [] = []
-recordsOn n S (x ∷ xs) = pick (recordIsOn n S x) (x ∷ recordsOn n S xs) (recordsOn n S xs)
+recordsOn n S xs = those (recordIsOn n S) xs

@@ -5,7 +5,8 @@ use Prim.Native.Nat.{ℕ}
 use Rattle.gates.specs.Layout.{gatesOf}
 use Rattle.circuit.specs.Phase.{phases}
 use Rattle.meaning.specs.Same.{Alike, Reachable}
-use Rattle.stretches.specs.Cut.{Each, Pairs}
+use Rattle.sets.specs.Lists.{All}
+use Rattle.stretches.specs.Cut.{Pairs}
 use Rattle.stretches.specs.Stretches.{stretchesOf, hadamardsOf}
 use Rattle.stretches.specs.Laid.{jobPhase}
 
@@ -21,4 +22,4 @@ pub record SameJob (n extra : ℕ) (g h : List ℕ) : Type 0 where
 
 -- every stretch can be reached
 abbrev pub ReachableJob : ℕ → List ℕ → List ℕ → Type 0
-ReachableJob n couplers gates = Each (λ s. Reachable n couplers (gatesOf n s)) (stretchesOf n gates)
+ReachableJob n couplers gates = All (λ s. Reachable n couplers (gatesOf n s)) (stretchesOf n gates)

@@ -11,14 +11,14 @@ use Rattle.verdicts.specs.Rows.{Row, Nowhere, Some, First, Passes1, Passes2, Wr
 use Rattle.meaning.specs.Same.{Reachable}
 use Rattle.laying.specs.Demands.{Strays}
 use Rattle.laying.specs.Rows.{Passes4, Passes6, Brings}
-use Rattle.stretches.specs.Cut.{Each}
+use Rattle.sets.specs.Lists.{All}
 use Rattle.stretches.specs.Stretches.{stretchesOf, hadamardsOf}
 use Rattle.stretches.specs.Tests.{jobBound}
 use Rattle.stretches.specs.Meaning.{ReachableJob}
 
 -- 6: every stretch has at most 256 parities that bear a rotation
 abbrev pub PassesSix : ℕ → List (List ℕ) → Type 0
-PassesSix n ss = Each (λ s. Passes6 (gatesOf n s)) ss
+PassesSix n ss = All (λ s. Passes6 (gatesOf n s)) ss
 
 -- the place p of the gate that brings the 257th parity of the first stretch with so many; the first of the stretches begins at k, and a Hadamard stands between each and the next
 unfoldable pub BringsFrom : ℕ → ℕ → List (List ℕ) → ℕ → Type 0

@@ -5,7 +5,8 @@ use lib.Dec.{leb}
 use lib.ListN.{length, take, drop}
 use Rattle.sets.specs.Pick.{pick}
 use Rattle.gates.specs.Hadamards.{isHadamard}
-use Rattle.stretches.specs.Cut.{firstAt, cutAt, those}
+use Rattle.sets.specs.Lists.{those}
+use Rattle.stretches.specs.Cut.{firstAt, cutAt}
 
 unfoldable pub stretchesOf : ℕ → List ℕ → List (List ℕ)
 stretchesOf n gates = cutAt (isHadamard n) gates

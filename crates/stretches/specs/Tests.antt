@@ -18,8 +18,8 @@ use Rattle.stretches.specs.Stretches.{stretchesOf, hadamardsOf}
 
 -- ---- 1 to 5, of all gates
 
-unfoldable pub judgedDrawing : ℕ → List ℕ → List ℕ → Verdict
-judgedDrawing n couplers gates = andThen (judgedQubits n) (andThen (judgedCouplers n couplers) (andThen (judgedCount gates) (judgedDrawn n gates)))
+unfoldable pub judgedFive : ℕ → List ℕ → List ℕ → Verdict
+judgedFive n couplers gates = andThen (judgedQubits n) (andThen (judgedCouplers n couplers) (andThen (judgedCount gates) (judgedDrawn n gates)))
 
 -- ---- 6: "the 256 parities are counted for each stretch"
 
@@ -62,7 +62,7 @@ judgedBound n gates room = pick (ltb room (jobBound n gates)) Room Accepted
 
 -- 1 to 7: "all stretches pass 6 before any is tested for 7"
 unfoldable pub judgedStretches : ℕ → List ℕ → List ℕ → Verdict
-judgedStretches n couplers gates = andThen (judgedDrawing n couplers gates) (andThen (judgedParitiesFrom n 0 (stretchesOf n gates)) (judgedReaches n couplers gates))
+judgedStretches n couplers gates = andThen (judgedFive n couplers gates) (andThen (judgedParitiesFrom n 0 (stretchesOf n gates)) (judgedReaches n couplers gates))
 
 -- "Laying tests 1 to 9 in that order", 9 being gone with request E7
 unfoldable pub jobVerdict : ℕ → List ℕ → List ℕ → ℕ → Verdict

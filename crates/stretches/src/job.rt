@@ -16,7 +16,7 @@ ghost use Rattle.gates.specs.Layout.{gatesOf};
 ghost use Rattle.circuit.specs.Phase.{phaseOf};
 ghost use Rattle.meaning.specs.Borne.{terms};
 ghost use Rattle.tallies.specs.Tally.{boundOf};
-ghost use Rattle.stretches.specs.Cut.{Each};
+ghost use Rattle.sets.specs.Lists.{All};
 ghost use Rattle.stretches.specs.Stretches.{stretchesOf};
 ghost use Rattle.stretches.specs.Tests.{judgedBound};
 ghost use Rattle.stretches.specs.Asked.{Counted, Accepts};
@@ -37,7 +37,7 @@ fn bound_of(n: usize, stretch: &[u32]) -> usize
 
 // Test 8: each stretch takes its B from the room, and each Hadamard one record.
 fn judge_room(n: usize, gates: &[u32], room: usize) -> Verdict
-    requires { ⌜ (n ≤ 20) × Each (Counted n) (stretchesOf n (now gates)) ⌝ }
+    requires { ⌜ (n ≤ 20) × All (Counted n) (stretchesOf n (now gates)) ⌝ }
     ensures { λ r. ⌜ r ≡ judgedBound n (now (gates .entry)) room ⌝ }
 {
     let mut left = room;
@@ -99,7 +99,7 @@ fn lay_stretch(n: usize, couplers: &[u32], stretch: &[u32], out: &mut [u32], at:
 
 // The stretches one behind another, with the Hadamards between them.
 fn lay_stretches(n: usize, couplers: &[u32], gates: &[u32], out: &mut [u32]) -> Part
-    requires { ⌜ Each (Accepts n (now couplers)) (stretchesOf n (now gates)) × (length (jobRecords n (now couplers) (now gates)) ≤ length (now out)) ⌝ }
+    requires { ⌜ All (Accepts n (now couplers)) (stretchesOf n (now gates)) × (length (jobRecords n (now couplers) (now gates)) ≤ length (now out)) ⌝ }
     ensures { λ r. ⌜ (r .next ≡ length (jobRecords n (now (couplers .entry)) (now (gates .entry)))) × (r .phase ≡ jobPhase n (now (gates .entry))) × (now (out .exit) ≡ sets (now (out .entry)) 0 (jobRecords n (now (couplers .entry)) (now (gates .entry)))) ⌝ }
 {
     let mut at = 0;

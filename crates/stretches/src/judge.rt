@@ -10,14 +10,14 @@ use verdicts::verdict::Verdict;
 ghost use mathlib.Core.Path.{_≡_};
 ghost use Rattle.gates.specs.Layout.{gatesOf};
 ghost use Rattle.meaning.specs.Borne.{overAt};
-ghost use Rattle.stretches.specs.Cut.{Each};
+ghost use Rattle.sets.specs.Lists.{All};
 ghost use Rattle.stretches.specs.Stretches.{stretchesOf};
-ghost use Rattle.stretches.specs.Tests.{judgedDrawing, judgedParitiesFrom, judgedReaches, judgedStretches};
+ghost use Rattle.stretches.specs.Tests.{judgedFive, judgedParitiesFrom, judgedReaches, judgedStretches};
 ghost use Rattle.stretches.specs.Asked.{OnlyReach};
 
 // Tests 1 to 5.
 fn judge_drawing(n: usize, couplers: &[u32], gates: &[u32]) -> Verdict
-    ensures { λ r. ⌜ r ≡ judgedDrawing n (now (couplers .entry)) (now (gates .entry)) ⌝ }
+    ensures { λ r. ⌜ r ≡ judgedFive n (now (couplers .entry)) (now (gates .entry)) ⌝ }
 {
     let qubits = verdict::judge_qubits(n);
     if verdict::number(qubits) != 0 {
@@ -60,7 +60,7 @@ fn judge_parities(n: usize, gates: &[u32]) -> Verdict
 // Test 7 of every stretch, on islands that are found once for all of them. Where nothing else can
 // refuse a stretch, what refuses it is test 7.
 fn judge_reaches(n: usize, couplers: &[u32], gates: &[u32]) -> Verdict
-    requires { ⌜ Each (OnlyReach n (now couplers)) (stretchesOf n (now gates)) ⌝ }
+    requires { ⌜ All (OnlyReach n (now couplers)) (stretchesOf n (now gates)) ⌝ }
     ensures { λ r. ⌜ r ≡ judgedReaches n (now (couplers .entry)) (now (gates .entry)) ⌝ }
 {
     let islands = islands::islands(couplers::near(couplers, n));

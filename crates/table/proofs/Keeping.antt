@@ -1,7 +1,7 @@
 -- Keeping the entries whose sum is not 0. Assumes nothing.
 use mathlib.Core.Path.{_≡_, refl, sym, ap, ap₂, _∙_}
 use mathlib.Core.Logic.{_≢_}
-use mathlib.Core.Bool.{Bool, true, false}
+use mathlib.Core.Bool.{Bool, true, false, not}
 use mathlib.Core.List.{List, [], _∷_, _++_, map, append-assoc, append-nil}
 use Prim.Native.Nat.{ℕ, suc, _+_, _-_, _≤_, _<_}
 use native.Mathlib.Omega.{arith}
@@ -11,6 +11,7 @@ use lib.ListN.{length, getD, set, take, replicate, length-append, length-take}
 use lib.Seq.{take-suc, take-all, getD-take, take-append-seam, length-take-le, set-at}
 use borrow.Author.Tests.{eq-eqb, ne-eqb}
 use Rattle.sets.specs.Pick.{pick}
+use Rattle.sets.specs.Lists.{those}
 use Rattle.sets.proofs.Finding.{sub-suc}
 use Rattle.table.specs.declared.sums.Sums.{Sums}
 use Rattle.table.specs.Table.{kept, padded, keptTable}
@@ -28,16 +29,6 @@ kept-snoc (y ∷ xs) (t ∷ ss) x s e = go (eqb t 0) (kept-snoc xs ss x s (omega
         → pick b (kept (xs ++ x ∷ []) (ss ++ s ∷ [])) (y ∷ kept (xs ++ x ∷ []) (ss ++ s ∷ [])) ≡ pick b (kept xs ss) (y ∷ kept xs ss) ++ pick (eqb s 0) [] (x ∷ [])
     go true ih = ih
     go false ih = ap (λ (l : List ℕ). y ∷ l) ih
-
-pub kept-le : (xs ss : List ℕ) → length (kept xs ss) ≤ length xs
-unfolding kept
-kept-le [] ss = omega arith
-kept-le (x ∷ xs) [] = omega arith
-kept-le (x ∷ xs) (s ∷ ss) = go (eqb s 0) (kept-le xs ss)
-  where
-    go : (b : Bool) → length (kept xs ss) ≤ length xs → length (pick b (kept xs ss) (x ∷ kept xs ss)) ≤ suc (length xs)
-    go true h = omega arith
-    go false h = omega arith
 
 kept-length : (xs ys ss : List ℕ) → length xs ≡ length ys → length (kept xs ss) ≡ length (kept ys ss)
 unfolding kept
@@ -141,6 +132,17 @@ keeping-all parity sum n i parities sums len lp ls h k =
     rw (k .first, k .second, k .count, wp, ws)
 
 -- ---- keeping by what a function gives
+
+-- beside f's values, those whose value is not 0
+pub kept-those : (f : ℕ → ℕ) (xs : List ℕ) → kept xs (map f xs) ≡ those (λ x. not (eqb (f x) 0)) xs
+unfolding kept those
+kept-those f [] = refl
+kept-those f (x ∷ xs) = go (eqb (f x) 0) (kept-those f xs)
+  where
+    go : (b : Bool) → kept xs (map f xs) ≡ those (λ x. not (eqb (f x) 0)) xs
+        → pick b (kept xs (map f xs)) (x ∷ kept xs (map f xs)) ≡ pick (not b) (x ∷ those (λ x. not (eqb (f x) 0)) xs) (those (λ x. not (eqb (f x) 0)) xs)
+    go true e = e
+    go false e = ap (λ (l : List ℕ). x ∷ l) e
 
 pub kept-map : (f : ℕ → ℕ) (ps : List ℕ) → kept (map f ps) (map f ps) ≡ map f (kept ps (map f ps))
 unfolding kept

@@ -1,2 +1,3 @@
-// The table of parities with their sums. It knows no gates.
+// The table of parities with their sums, as the code holds it. It knows numbers and limits, and no
+// gates.
 pub mod sums;

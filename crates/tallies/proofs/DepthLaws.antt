@@ -11,9 +11,9 @@ use Rattle.gates.specs.Limits.{mostQubits}
 use Rattle.gates.specs.declared.gate.Gate.{Gate}
 use Rattle.gates.specs.declared.gate.Gate.the-variants.{Cnot, Rotation, X, Bad}
 use Rattle.gates.specs.Layout.{Good}
-use Rattle.gates.specs.All.{All}
+use Rattle.sets.specs.Lists.{All}
 use Rattle.tallies.specs.Tally.{tally, oneCnot, cnotsOf, raised, layered, layersFrom, highest, depthOf}
-use Rattle.tallies.specs.Part.{Part, none, with, without}
+use Rattle.tallies.specs.Sublist.{Sublist, none, with, without}
 use Rattle.tallies.proofs.Tallies.{cnots-most}
 use Rattle.tallies.proofs.Layers.{highest-at, highest-layered, highest-none}
 
@@ -53,15 +53,15 @@ depth-passes f g h e = ap highest (layers-pass f g h (replicate mostQubits 0) e)
 
 -- ---- what stands between two lists is a part of all three
 
-part-none : (h : List Gate) → Part [] h
+part-none : (h : List Gate) → Sublist [] h
 part-none [] = none
 part-none (x ∷ h) = without x (part-none h)
 
-part-front : (g h : List Gate) → Part g (g ++ h)
+part-front : (g h : List Gate) → Sublist g (g ++ h)
 part-front [] h = part-none h
 part-front (x ∷ g) h = with x (part-front g h)
 
-pub part-between : (f g h : List Gate) → Part g (f ++ g ++ h)
+pub part-between : (f g h : List Gate) → Sublist g (f ++ g ++ h)
 part-between [] g h = part-front g h
 part-between (x ∷ f) g h = without x (part-between f g h)
 
@@ -116,13 +116,13 @@ below-later (Rotation q a) b = b
 below-later (X q) b = b
 below-later Bad b = b
 
-layers-part : {part gs : List Gate} {L M : List ℕ} → Part part gs → Below L M → Below (layersFrom part L) (layersFrom gs M)
+layers-part : {part gs : List Gate} {L M : List ℕ} → Sublist part gs → Below L M → Below (layersFrom part L) (layersFrom gs M)
 unfolding layersFrom
 layers-part none b = b
 layers-part (with g p) b = layers-part p (below-layered g b)
 layers-part (without g p) b = layers-part p (below-later g b)
 
-pub depth-part : {part gs : List Gate} → Part part gs → depthOf part ≤ depthOf gs
+pub depth-part : {part gs : List Gate} → Sublist part gs → depthOf part ≤ depthOf gs
 unfolding depthOf
 depth-part p = below-highest (layers-part p (below-same (replicate mostQubits 0)))
 

@@ -13,10 +13,11 @@ use Rattle.verdicts.specs.declared.verdict.Verdict.the-variants.{Accepted, Room
 use Rattle.verdicts.specs.InOrder.{andThen}
 use Rattle.verdicts.proofs.Judged.{then-on, then-stop, then-zero}
 use Rattle.lines.specs.Lines.{textOf}
-use Rattle.text.specs.Writings.{judgedRoom, judgedText, writingOf}
+use Rattle.reading.specs.Readings.{judgedPlaces}
+use Rattle.text.specs.Writings.{judgedText, writingOf}
 use Rattle.text.specs.declared.write.Writing.the-variants.{Written, Refused}
 
-pub room-zero : (need room : ℕ) → numberOf (judgedRoom need room) ≡ 0 → need ≤ room
+pub room-zero : (need room : ℕ) → numberOf (judgedPlaces need room) ≡ 0 → need ≤ room
 room-zero need room e = go (leb need room) refl e
   where
     go : (t : Bool) → leb need room ≡ t → numberOf (pick t Accepted Room) ≡ 0 → need ≤ room
@@ -38,22 +39,22 @@ module _ (n : ℕ) (es gs : List ℕ) (room : ℕ) where
       unfolding judgedText
       judged-drawn c = then-stop (judgedDrawn n gs) _ c ∙ then-on (judgedCouplers n es) _ b ∙ then-on (judgedQubits n) _ a
 
-      pub judged-room : numberOf (judgedDrawn n gs) ≡ 0 → judgedRoom (length (textOf n es gs)) room ≡ judgedText n es gs room
+      pub judged-room : numberOf (judgedDrawn n gs) ≡ 0 → judgedPlaces (length (textOf n es gs)) room ≡ judgedText n es gs room
       unfolding judgedText
       judged-room c = then-on (judgedDrawn n gs) _ c ∙ then-on (judgedCouplers n es) _ b ∙ then-on (judgedQubits n) _ a
 
 -- what the writer accepts
-pub record Accepts (n : ℕ) (es gs : List ℕ) (room : ℕ) : Type 0 where
+pub record AcceptsJob (n : ℕ) (es gs : List ℕ) (room : ℕ) : Type 0 where
   pub qubits : numberOf (judgedQubits n) ≡ 0
   pub couplers : numberOf (judgedCouplers n es) ≡ 0
   pub gates : numberOf (judgedDrawn n gs) ≡ 0
   pub fits : length (textOf n es gs) ≤ room
 
 module _ (n : ℕ) (es gs : List ℕ) (room : ℕ) where
-  pub accepts : numberOf (judgedText n es gs room) ≡ 0 → Accepts n es gs room
+  pub accepts : numberOf (judgedText n es gs room) ≡ 0 → AcceptsJob n es gs room
   unfolding judgedText
   accepts e =
-      let r = judgedRoom (length (textOf n es gs)) room in
+      let r = judgedPlaces (length (textOf n es gs)) room in
       let g = andThen (judgedDrawn n gs) r in
       let a = then-zero (judgedQubits n) (andThen (judgedCouplers n es) g) e in
       let b = then-zero (judgedCouplers n es) g (a .1) in
@@ -69,11 +70,11 @@ module _ (n : ℕ) (es gs : List ℕ) (room : ℕ) where
   writing-no e = rw (ne-eqb (numberOf (judgedText n es gs room)) 0 e)
 
   -- the writer accepts where it writes, and then it writes the whole text
-  pub written : (bytes : ℕ) → writingOf n es gs room ≡ Written bytes → (bytes ≡ length (textOf n es gs)) × Accepts n es gs room
+  pub written : (bytes : ℕ) → writingOf n es gs room ≡ Written bytes → (bytes ≡ length (textOf n es gs)) × AcceptsJob n es gs room
   unfolding writingOf
   written bytes e = go (eqb (numberOf (judgedText n es gs room)) 0) refl e
     where
       go : (t : Bool) → eqb (numberOf (judgedText n es gs room)) 0 ≡ t → pick t (Written (length (textOf n es gs))) (Refused (judgedText n es gs room)) ≡ Written bytes
-          → (bytes ≡ length (textOf n es gs)) × Accepts n es gs room
+          → (bytes ≡ length (textOf n es gs)) × AcceptsJob n es gs room
       go true q e = (cc e, accepts (eqb-true (numberOf (judgedText n es gs room)) 0 q))
       go false q e = let z : _≡_ {A = ℕ} 0 1 = cc e in absurd (omega arith)

@@ -12,8 +12,9 @@ use Rattle.verdicts.specs.Verdicts.{numberOf, judgedCouplers}
 use Rattle.lines.specs.Lines.{recordsText}
 use Rattle.lines.specs.Lent.{onto}
 use Rattle.reading.specs.Limits.{mostBytes}
-use Rattle.reading.specs.Misfit.{AllFit, NoLf}
-use Rattle.reading.specs.Readings.{couplersIn, listAfter}
+use Rattle.reading.specs.Misfit.{NoLf}
+use Rattle.sets.specs.Lists.{All}
+use Rattle.reading.specs.Readings.{couplersIn, readVerdict, lentAfter}
 use Rattle.reading.specs.Listing.{CouplersText, MisfitCoupler, endCouplers, parsedCouplers, couplersReading}
 use Rattle.reading.specs.declared.read.Reading.the-variants.{Read, Refused}
 use Rattle.reading.proofs.Fronts.{unended-none}
@@ -23,7 +24,7 @@ use Rattle.text.proofs.Accepted.{couplers-fit}
 
 -- the first records that reading left in the lent memory
 abbrev pub listedRead : List ℕ → Job → List ℕ → List ℕ
-listedRead s j memory = take (j .couplers) (listAfter (Read j) (couplersIn (parsedCouplers s)) memory)
+listedRead s j memory = take (j .couplers) (lentAfter (readVerdict (Read j)) (couplersIn (parsedCouplers s)) memory)
 
 -- couplers of a chip of n qubits, in a text of at most 65,536 bytes, read back the same where the room suffices
 pub record ListedBack (s couplers memory : List ℕ) : Type 0 where
@@ -55,7 +56,7 @@ coupler-refused s room k h m = sym (listing-line s room k h (coupler-misfit-pars
 
 -- "empty allowed"
 pub empty-listed : (room : ℕ) → couplersReading [] room ≡ Read (record { qubits = 0; couplers = 0; gates = 0 })
-unfolding recordsText AllFit
+unfolding recordsText All
 empty-listed room = sym (listing-read [] room [] (omega arith) (couplers-parsed [] (record { couplers = []; fit = tt; same = refl })) refl (omega arith))
 
 -- a last line without LF is refused, whatever it holds

@@ -4,26 +4,23 @@ use mathlib.Core.Bool.{Bool, true, false}
 use mathlib.Core.List.{List, [], _∷_, _++_}
 use Prim.Native.Nat.{ℕ, _+_, _≤_}
 use native.Mathlib.Omega.{arith}
-use lib.Dec.{leb, eqb}
+use lib.Dec.{leb}
 use lib.ListN.{length, take}
 use lib.Seq.{take-append-seam}
-use Rattle.sets.specs.Pick.{pick, both}
+use Rattle.sets.specs.Pick.{both}
 use Rattle.gates.specs.declared.job.Job.{Job}
-use Rattle.verdicts.specs.declared.verdict.Verdict.{Verdict}
-use Rattle.verdicts.specs.declared.verdict.Verdict.the-variants.{Accepted, Room, Line, LongText}
-use Rattle.verdicts.specs.Verdicts.{numberOf}
-use Rattle.verdicts.specs.InOrder.{andThen}
+use Rattle.verdicts.specs.declared.verdict.Verdict.the-variants.{Line}
 use Rattle.reading.specs.Limits.{mostBytes}
 use Rattle.lines.specs.Lines.{textOf}
 use Rattle.reading.specs.Misfit.{JobText, NoLf, Misfit}
 use Rattle.reading.specs.Parsing.{Parsed, misfit, job, endOf, parsed}
 use Rattle.lines.specs.Lent.{onto}
-use Rattle.reading.specs.Readings.{judgedLines, judgedReading, readingOf, couplersIn, gatesIn, jobIn, listAfter}
-use Rattle.reading.specs.declared.read.Reading.{Reading}
+use Rattle.reading.specs.Readings.{judgedReading, readingOf, couplersIn, gatesIn, jobIn, readVerdict, lentAfter}
 use Rattle.reading.specs.declared.read.Reading.the-variants.{Read, Refused}
-use Rattle.text.specs.Writings.{writingOf, textAfter}
+use Rattle.text.specs.Writings.{writingOf, writeVerdict}
 use Rattle.text.specs.declared.write.Writing.the-variants.{Written}
-use Rattle.text.proofs.Accepted.{qubits-few, couplers-fit, gates-fit}
+use Rattle.text.proofs.Accepted.{qubits-fit, couplers-fit, gates-fit}
+use Rattle.reading.proofs.ListingAnswers.{answerBy, read-refused}
 use Rattle.reading.proofs.Answers.{answer-line, answer-job, parsed-first}
 use Rattle.reading.proofs.Fronts.{unended-none, unended-head}
 use Rattle.text.proofs.Judging.{written}
@@ -33,29 +30,20 @@ use Rattle.reading.proofs.Runs.{parsed-forth, text-parsed}
 -- ---- what stands in the lent memory: the first `bytes` bytes that writing left, the first records that reading left
 
 abbrev pub writtenIn : ℕ → List ℕ → List ℕ → List ℕ → ℕ → List ℕ
-writtenIn n couplers gates memory bytes = take bytes (textAfter (Written bytes) (textOf n couplers gates) memory)
+writtenIn n couplers gates memory bytes = take bytes (lentAfter (writeVerdict (Written bytes)) (textOf n couplers gates) memory)
 
 abbrev pub couplersRead : List ℕ → Job → List ℕ → List ℕ
-couplersRead s j memory = take (j .couplers) (listAfter (Read j) (couplersIn (parsed s)) memory)
+couplersRead s j memory = take (j .couplers) (lentAfter (readVerdict (Read j)) (couplersIn (parsed s)) memory)
 
 abbrev pub gatesRead : List ℕ → Job → List ℕ → List ℕ
-gatesRead s j memory = take (j .gates) (listAfter (Read j) (gatesIn (parsed s)) memory)
+gatesRead s j memory = take (j .gates) (lentAfter (readVerdict (Read j)) (gatesIn (parsed s)) memory)
 
 -- ---- from the answers to what was found
-
-two : {B : Type 0} {j : Job} {v : Verdict} → Refused v ≡ Read j → B
-two e = let z : _≡_ {A = ℕ} 0 1 = cc e in absurd (omega arith)
 
 record JobRead (s : List ℕ) (j : Job) : Type 0 where
   found : parsed s ≡ job (j .qubits) (couplersIn (parsed s)) (gatesIn (parsed s))
   couplers-all : j .couplers ≡ length (couplersIn (parsed s))
   gates-all : j .gates ≡ length (gatesIn (parsed s))
-
--- the answer by the tests: the text is short enough, what was found, the lists are long enough
-abbrev answerBy : Bool → Parsed → Bool → Reading
-answerBy t p u =
-    let v = andThen (pick t Accepted LongText) (andThen (judgedLines p) (pick u Accepted Room)) in
-    pick (eqb (numberOf v) 0) (Read (jobIn p)) (Refused v)
 
 job-read : (s : List ℕ) (a b : ℕ) (j : Job) → readingOf s a b ≡ Read j → JobRead s j
 unfolding readingOf judgedReading
@@ -69,16 +57,16 @@ job-read s a b j e = go (leb (length s) mostBytes) (parsed s) (both (leb (length
           couplers-all = sym (ap (λ r. length (couplersIn r)) q);
           gates-all = sym (ap (λ r. length (gatesIn r)) q);
         })
-    go true (job n es gs) false q e = two e
-    go true (misfit k) u q e = two e
-    go false p u q e = two e
+    go true (job n es gs) false q e = read-refused e
+    go true (misfit k) u q e = read-refused e
+    go false p u q e = read-refused e
 
 line-read : (s : List ℕ) (a b k : ℕ) → readingOf s a b ≡ Refused (Line k) → parsed s ≡ misfit k
 unfolding readingOf judgedReading
 line-read s a b k e = go (leb (length s) mostBytes) (parsed s) (both (leb (length (couplersIn (parsed s))) a) (leb (length (gatesIn (parsed s))) b)) e
   where
     go : (t : Bool) (p : Parsed) (u : Bool) → answerBy t p u ≡ Refused (Line k) → p ≡ misfit k
-    go true (job n es gs) true e = two (sym e)
+    go true (job n es gs) true e = read-refused (sym e)
     go true (job n es gs) false e = let z : _≡_ {A = ℕ} 0 1 = cc e in absurd (omega arith)
     go true (misfit i) u e = let z : i ≡ k = cc e in ap misfit z
     go false p u e = let z : _≡_ {A = ℕ} 0 1 = cc e in absurd (omega arith)
@@ -105,7 +93,7 @@ pub lists-read-back : (n : ℕ) (couplers gates memory cs gs : List ℕ) (bytes 
 lists-read-back n couplers gates memory cs gs bytes e short a b =
     let w = written n couplers gates (length memory) bytes e in
     let p : parsed (textOf n couplers gates) ≡ job n couplers gates
-    = text-parsed n couplers gates (qubits-few n (w .1 .qubits)) (couplers-fit n couplers (w .1 .couplers)) (gates-fit n gates (w .1 .gates)) in
+    = text-parsed n couplers gates (qubits-fit n (w .1 .qubits)) (couplers-fit n couplers (w .1 .couplers)) (gates-fit n gates (w .1 .gates)) in
     subst (λ s. ReadBack s n couplers gates cs gs) (sym (written-text n couplers gates memory bytes e)) (record {
       job = record { qubits = n; couplers = length couplers; gates = length gates };
       answer = sym (answer-job (textOf n couplers gates) (length cs) (length gs) n couplers gates (omega (arith, w .0)) p refl refl a b);

@@ -20,11 +20,11 @@ use Rattle.lines.specs.Lines.{textOf}
 use Rattle.reading.specs.Limits.{mostBytes}
 use Rattle.reading.specs.Misfit.{JobText, Misfit}
 use Rattle.reading.specs.Parsing.{Parsed, misfit, job, parsed}
-use Rattle.reading.specs.Readings.{couplersIn, gatesIn, judgedBytes, judgedLines, judgedLists, judgedReading}
-use Rattle.reading.specs.Listing.{CouplersText, MisfitCoupler, parsedCouplers, judgedPlaces, judgedCouplersText}
+use Rattle.reading.specs.Readings.{couplersIn, gatesIn, judgedBytes, judgedLines, judgedLists, judgedReading, judgedPlaces}
+use Rattle.reading.specs.Listing.{CouplersText, MisfitCoupler, parsedCouplers, judgedCouplersText}
 use Rattle.reading.proofs.Misfits.{two, job-found, job-parsed, misfit-first, misfit-parsed}
 use Rattle.reading.proofs.Listings.{couplers-found, couplers-parsed, coupler-misfit-first, coupler-misfit-parsed}
-use Rattle.text.specs.Writings.{judgedRoom, judgedText}
+use Rattle.text.specs.Writings.{judgedText}
 use Rattle.text.specs.Rows.{Suffices, TooShort, ReadingRows, CouplersRows, WritingRows}
 
 -- what is needed is at most what is there
@@ -126,20 +126,20 @@ module _ (s : List ℕ) (room : ℕ) where
       go (misfit k) e = let m = coupler-misfit-first s k e in inr (refl, (k, m), m)
       go (job n es gs) e = let f = couplers-found s n es gs e in inl (refl, record { couplers = es; fit = f .fit; same = f .same })
 
-  listing-8 : CouplersText s → Tests (judgedPlaces (parsedCouplers s) room) 8 ((c : CouplersText s) → length (c .couplers) ≤ room) ((c : CouplersText s) → room < length (c .couplers)) Nowhere
+  listing-8 : CouplersText s → Tests (judgedPlaces (length (couplersIn (parsedCouplers s))) room) 8 ((c : CouplersText s) → length (c .couplers) ≤ room) ((c : CouplersText s) → room < length (c .couplers)) Nowhere
   listing-8 c =
       record { decided = go (tests .decided); apart = λ p f. omega (arith, p c, f c); refuses = omega arith }
     where
       listed : ℕ
       listed = length (couplersIn (parsedCouplers s))
 
-      tests : Tests (judgedPlaces (parsedCouplers s) room) 8 (listed ≤ room) (room < listed) Nowhere
+      tests : Tests (judgedPlaces (length (couplersIn (parsedCouplers s))) room) 8 (listed ≤ room) (room < listed) Nowhere
       tests = room-tests listed room Room (omega arith) refl
 
       listed-are : (i : CouplersText s) → length (i .couplers) ≡ listed
       listed-are i = sym (ap (λ (p : Parsed). length (couplersIn p)) (couplers-parsed s i))
 
-      go : let v = judgedPlaces (parsedCouplers s) room in ((numberOf v ≡ 0) × (listed ≤ room)) ⊎ ((numberOf v ≡ 8) × (room < listed) × Nowhere (placeOf v))
+      go : let v = judgedPlaces (length (couplersIn (parsedCouplers s))) room in ((numberOf v ≡ 0) × (listed ≤ room)) ⊎ ((numberOf v ≡ 8) × (room < listed) × Nowhere (placeOf v))
           → ((numberOf v ≡ 0) × ((c : CouplersText s) → length (c .couplers) ≤ room)) ⊎ ((numberOf v ≡ 8) × ((c : CouplersText s) → room < length (c .couplers)) × Nowhere (placeOf v))
       go (inl d) = inl (d .0, λ i. omega (arith, listed-are i, d .1))
       go (inr d) = inr (d .0, (λ i. omega (arith, listed-are i, d .1)), d .2)
@@ -157,7 +157,7 @@ module _ (s : List ℕ) (room : ℕ) where
 
 module _ (n : ℕ) (couplers gates : List ℕ) (room : ℕ) where
   abbrev judgedFit : Verdict
-  judgedFit = judgedRoom (length (textOf n couplers gates)) room
+  judgedFit = judgedPlaces (length (textOf n couplers gates)) room
 
   abbrev behind3 : Verdict
   behind3 = andThen (judgedDrawn n gates) judgedFit

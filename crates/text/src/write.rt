@@ -2,7 +2,7 @@
 use lines::put;
 use lines::records;
 use lines::room;
-use lines::room::Room;
+use lines::room::Leeway;
 use verdicts::verdict;
 use verdicts::verdict::Verdict;
 ghost use mathlib.Core.Path.{_≡_};
@@ -11,7 +11,8 @@ ghost use lib.Dec.{leb};
 ghost use lib.ListN.{length};
 ghost use lib.Seq.{sets};
 ghost use Rattle.lines.specs.Lines.{textOf};
-ghost use Rattle.text.specs.Writings.{judgedText, writingOf, textAfter};
+ghost use Rattle.reading.specs.Readings.{lentAfter};
+ghost use Rattle.text.specs.Writings.{judgedText, writingOf, writeVerdict};
 
 pub enum Writing {
     Written { bytes: usize },
@@ -32,12 +33,12 @@ fn fits(n: usize, couplers: &[u32], gates: &[u32], room: usize) -> bool
     ensures { λ r. ⌜ r ≡ leb (length (textOf n (now (couplers .entry)) (now (gates .entry)))) room ⌝ }
 {
     let numbers = [n];
-    let r0 = room::after_line(Room::Left(room), &numbers);
+    let r0 = room::after_line(Leeway::Left(room), &numbers);
     let r1 = room::after_records(r0, couplers);
     let r2 = room::after_records(r1, gates);
     match r2 {
-        Room::Over => false,
-        Room::Left(_) => true,
+        Leeway::Over => false,
+        Leeway::Left(_) => true,
     }
 }
 
@@ -64,7 +65,7 @@ fn judge(n: usize, couplers: &[u32], gates: &[u32], room: usize) -> Verdict
 }
 
 pub fn write(n: usize, couplers: &[u32], gates: &[u32], text: &mut [u8]) -> Writing
-    ensures { λ r. ⌜ (r ≡ writingOf n (now (couplers .entry)) (now (gates .entry)) (length (now (text .entry)))) × (now (text .exit) ≡ textAfter r (textOf n (now (couplers .entry)) (now (gates .entry))) (now (text .entry))) ⌝ }
+    ensures { λ r. ⌜ (r ≡ writingOf n (now (couplers .entry)) (now (gates .entry)) (length (now (text .entry)))) × (now (text .exit) ≡ lentAfter (writeVerdict r) (textOf n (now (couplers .entry)) (now (gates .entry))) (now (text .entry))) ⌝ }
 {
     let room = text.len();
     let v = judge(n, couplers, gates, room);

@@ -15,7 +15,7 @@ use Rattle.verdicts.specs.declared.verdict.Verdict.the-variants.{Accepte
 use Rattle.gates.specs.Layout.{gateOf, gatesOf, isBad, recordOf, Good}
 use Rattle.gates.specs.Hadamards.{isHadamard}
 use Rattle.verdicts.specs.Verdicts.{firstFailing, badAt, judgedGates, isNeither, neitherAt, judgedDrawn}
-use Rattle.gates.specs.All.{All}
+use Rattle.sets.specs.Lists.{All}
 use Rattle.gates.proofs.Records.{gate-back}
 use Rattle.gates.proofs.Alls.{all-at}
 

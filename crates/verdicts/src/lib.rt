@@ -1,2 +1,3 @@
-// The table of refusals, and the tests of a job's lists.
+// The table of refusals, with numbers and places, and the tests of a job's lists. It knows records,
+// and nothing of what they mean.
 pub mod verdict;

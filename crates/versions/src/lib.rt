@@ -1,4 +1,4 @@
-// The versions of OpenQASM that are read and written.
+// The versions of OpenQASM that are read and written. It knows nothing else.
 pub enum Version {
     Two,
     Three,

@@ -8,12 +8,12 @@ use lib.ListN.{length, getD, set, take, drop, replicate, length-map, length-take
 use lib.Seq.{sets, sets-eq, take-suc, take-all, take-set-le, take-append-seam}
 use Rattle.gates.specs.declared.gate.Gate.{Gate}
 use Rattle.gates.specs.Layout.{gateOf, gatesOf, recordOf, Good}
-use Rattle.gates.specs.All.{All}
+use Rattle.sets.specs.Lists.{All}
 use Rattle.gates.proofs.Alls.{records-gates}
 use Rattle.tallies.specs.Tally.{largest}
 use Rattle.emitting.specs.Emit.{emit, emitAt}
 use Rattle.emitting.proofs.Emitting.{emit-none, emit-at-none, emit-append, emit-at-append}
-use Rattle.ways.specs.Memory.{held, Fine}
+use Rattle.ways.specs.Memory.{inMemory, FitsMemory}
 use Rattle.sets.proofs.Storing.{sets-append, map-append}
 
 -- the first k records are written from `at` on
@@ -78,14 +78,14 @@ module _ (gs : List Gate) where
       ∙ ap (take (length records)) (sets-eq records zeros 0 (omega (arith, fits, length-map first recordOf)))
       ∙ take-append-seam records (drop (0 + length records) zeros)
 
-  -- all of them, where they are fine, by any width in which they are good
-  module _ (fine : Fine gs) where
+  -- all of them, where they fit, by any width in which they are good
+  module _ (fits-all : FitsMemory gs) where
     records-read : (n : ℕ) → n ≤ 256 → All (Good n) gs → gatesOf n records ≡ gs
-    records-read n w good = ap (λ (l : List Gate). gatesOf n (map recordOf l)) (take-all largest gs (fine .few)) ∙ records-gates n gs w good
+    records-read n w good = ap (λ (l : List Gate). gatesOf n (map recordOf l)) (take-all largest gs (fits-all .few)) ∙ records-gates n gs w good
 
     pub gates-read : (n : ℕ) → n ≤ 256 → All (Good n) gs → gatesOf n (take (emitAt zeros 0 gs) (emit zeros 0 gs)) ≡ gs
     gates-read n w good = ap (gatesOf n) records-held ∙ records-read n w good
 
-    pub held-fine : held gs ≡ gs
-    unfolding held
-    held-fine = records-read 20 (omega arith) (fine .good)
+    pub memory-fits : inMemory gs ≡ gs
+    unfolding inMemory
+    memory-fits = records-read 20 (omega arith) (fits-all .good)

@@ -5,14 +5,15 @@ use gates::gate;
 use gates::job::Job;
 use share::own::Own;
 use tallies::tally;
-ghost use mathlib.Core.Path.{_≡_};
 ghost use Rattle.gates.specs.Layout.{gatesOf};
-ghost use Rattle.emitting.specs.Emit.{emit, emitAt};
-ghost use Rattle.ways.specs.Memory.{held, closedBy, stepsOwn, nearestOwn, heldOwn};
+ghost use Rattle.emitting.specs.Emit.{Emits};
+ghost use Rattle.share.specs.OwnTable.{shareIn};
+ghost use Rattle.ways.specs.Ways.{bySteps, byNearest, withClosing};
+ghost use Rattle.ways.specs.Memory.{inMemory, islandInMemory};
 
 // The gates of the records once more.
 pub fn replay(laid: &[u32], out: &mut [u32], at: usize) -> usize
-    ensures { λ r. ⌜ (now (out .exit) ≡ emit (now (out .entry)) at (gatesOf 20 (now (laid .entry)))) × (r ≡ emitAt (now (out .entry)) at (gatesOf 20 (now (laid .entry)))) ⌝ }
+    ensures { λ r. ⌜ Emits (now (out .entry)) at (gatesOf 20 (now (laid .entry))) (now (out .exit)) r ⌝ }
 {
     let mut next = at;
     for k in 0..laid.len() {
@@ -23,7 +24,7 @@ pub fn replay(laid: &[u32], out: &mut [u32], at: usize) -> usize
 
 // The gates that lay the terms, and the closing behind them.
 fn closed(own: Own, laid: &[u32], out: &mut [u32]) -> usize
-    ensures { λ r. ⌜ (now (out .exit) ≡ emit (now (out .entry)) 0 (closedBy own (gatesOf 20 (now (laid .entry))))) × (r ≡ emitAt (now (out .entry)) 0 (closedBy own (gatesOf 20 (now (laid .entry))))) ⌝ }
+    ensures { λ r. ⌜ Emits (now (out .entry)) 0 (withClosing (shareIn own) (gatesOf 20 (now (laid .entry)))) (now (out .exit)) r ⌝ }
 {
     let near = own.near;
     let asked = own.asked;
@@ -33,7 +34,7 @@ fn closed(own: Own, laid: &[u32], out: &mut [u32]) -> usize
 }
 
 fn by_steps(own: Own, out: &mut [u32]) -> usize
-    ensures { λ r. ⌜ (now (out .exit) ≡ emit (now (out .entry)) 0 (closedBy own (held (stepsOwn own .laid)))) × (r ≡ emitAt (now (out .entry)) 0 (closedBy own (held (stepsOwn own .laid)))) ⌝ }
+    ensures { λ r. ⌜ Emits (now (out .entry)) 0 (withClosing (shareIn own) (inMemory (bySteps (shareIn own)))) (now (out .exit)) r ⌝ }
 {
     let near = own.near;
     let terms = own.terms;
@@ -45,7 +46,7 @@ fn by_steps(own: Own, out: &mut [u32]) -> usize
 }
 
 fn by_nearest(own: Own, out: &mut [u32]) -> usize
-    ensures { λ r. ⌜ (now (out .exit) ≡ emit (now (out .entry)) 0 (closedBy own (held (nearestOwn own .laid)))) × (r ≡ emitAt (now (out .entry)) 0 (closedBy own (held (nearestOwn own .laid)))) ⌝ }
+    ensures { λ r. ⌜ Emits (now (out .entry)) 0 (withClosing (shareIn own) (inMemory (byNearest (shareIn own)))) (now (out .exit)) r ⌝ }
 {
     let near = own.near;
     let terms = own.terms;
@@ -58,7 +59,7 @@ fn by_nearest(own: Own, out: &mut [u32]) -> usize
 
 // The gates of the island behind those that are laid: the shorter way, the steps in a tie.
 pub fn lay_island(own: Own, out: &mut [u32], at: usize) -> usize
-    ensures { λ r. ⌜ (now (out .exit) ≡ emit (now (out .entry)) at (heldOwn own)) × (r ≡ emitAt (now (out .entry)) at (heldOwn own)) ⌝ }
+    ensures { λ r. ⌜ Emits (now (out .entry)) at (islandInMemory (shareIn own)) (now (out .exit)) r ⌝ }
 {
     let mut first = [0u32; tally::LARGEST];
     let a = by_steps(own, &mut first);

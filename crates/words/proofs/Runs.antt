@@ -10,7 +10,7 @@ use lib.Seq.{take-suc}
 use lib.Dec.{eqb}
 use borrow.Author.Tests.{eq-eqb, ne-eqb}
 use Rattle.sets.specs.Pick.{pick, both, either}
-use Rattle.words.specs.Bytes.{small, inName, inWord, goesOn, same, ends, lineBehind}
+use Rattle.words.specs.Bytes.{small, inName, inWord, goesOn, same, endedLines, lineBehind}
 use Rattle.words.specs.Taking.{allInName, isName}
 use Rattle.words.proofs.Steps.{at-cons, at-end}
 
@@ -96,27 +96,27 @@ module _ (w : List ℕ) where
 
 -- ---- lines
 
-ends-append : (s t : List ℕ) → ends (s ++ t) ≡ ends s + ends t
-unfolding ends
+ends-append : (s t : List ℕ) → endedLines (s ++ t) ≡ endedLines s + endedLines t
+unfolding endedLines
 ends-append [] t = omega arith
 ends-append (x ∷ s) t = let ih = ends-append s t in omega arith
 
 pub line-next : (s : List ℕ) (i : ℕ) → i < length s → lineBehind (take (i + 1) s) ≡ pick (eqb (getD s i 0) 10) 1 0 + lineBehind (take i s)
-unfolding ends
+unfolding endedLines
 line-next s i h =
-    let e : ends (take (i + 1) s) ≡ ends (take i s) + (pick (eqb (getD s i 0) 10) 1 0 + 0) = rw (add-one, take-suc s i 0) (ends-append (take i s) (getD s i 0 ∷ [])) in
+    let e : endedLines (take (i + 1) s) ≡ endedLines (take i s) + (pick (eqb (getD s i 0) 10) 1 0 + 0) = rw (add-one, take-suc s i 0) (ends-append (take i s) (getD s i 0 ∷ [])) in
     omega (arith, e)
 
 pub line-first : (s : List ℕ) → 1 ≡ lineBehind (take 0 s)
-unfolding ends
+unfolding endedLines
 line-first s = refl
 
-ends-le : (s : List ℕ) → ends s ≤ length s
-unfolding ends
+ends-le : (s : List ℕ) → endedLines s ≤ length s
+unfolding endedLines
 ends-le [] = omega arith
 ends-le (x ∷ s) = go (eqb x 10) (ends-le s)
   where
-    go : (t : Bool) → ends s ≤ length s → pick t 1 0 + ends s ≤ suc (length s)
+    go : (t : Bool) → endedLines s ≤ length s → pick t 1 0 + endedLines s ≤ suc (length s)
     go true h = omega arith
     go false h = omega arith
 

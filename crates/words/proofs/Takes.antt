@@ -5,10 +5,10 @@ use mathlib.Core.List.{List, [], _∷_}
 use mathlib.Core.Option.{none, some}
 use Prim.Native.Nat.{ℕ, _≤_, _<_}
 use lib.ListN.{length, drop}
-use Rattle.spots.specs.Numbers.{readNumber}
+use Rattle.spots.specs.Numbers.{lost, readNumber}
 use Rattle.words.specs.Bytes.{same}
 use Rattle.words.specs.Words.{Word}
-use Rattle.words.specs.Taking.{lost, taken, numbered, isName, named, front}
+use Rattle.words.specs.Taking.{taken, numbered, isName, named, frontWord}
 use Rattle.words.proofs.Steps.{at-cons, at-end}
 
 module _ (ws : List Word) (e : ws ≡ []) where
@@ -16,9 +16,9 @@ module _ (ws : List Word) (e : ws ≡ []) where
   unfolding taken
   taken-none b = rw e
 
-  pub number-none : (most : ℕ) → lost ≡ numbered most (some ws)
+  pub word-number-none : (most : ℕ) → lost ≡ numbered most (some ws)
   unfolding numbered
-  number-none most = rw e
+  word-number-none most = rw e
 
   pub named-none : none ≡ named (some ws)
   unfolding named
@@ -41,19 +41,19 @@ module _ (ws ts : List Word) (w : Word) (e : ws ≡ w ∷ ts) where
   unfolding named
   named-miss t = rw (e, t)
 
-  pub front-is : w .bytes ≡ front (some ws)
-  unfolding front
-  front-is = rw e
+  pub front-word-is : w .bytes ≡ frontWord (some ws)
+  unfolding frontWord
+  front-word-is = rw e
 
   module _ (most v : ℕ) where
-    pub number-lost : Rattle.spots.specs.Numbers.readNumber most (some (w .bytes)) ≡ record { value = v; rest = none } → record { value = v; rest = none } ≡ numbered most (some ws)
+    pub word-number-lost : Rattle.spots.specs.Numbers.readNumber most (some (w .bytes)) ≡ record { value = v; rest = none } → record { value = v; rest = none } ≡ numbered most (some ws)
     unfolding numbered
-    number-lost t = rw (e, t)
+    word-number-lost t = rw (e, t)
 
-    pub number-more : (i : ℕ) → readNumber most (some (w .bytes)) ≡ record { value = v; rest = some (drop i (w .bytes)) } → i < length (w .bytes) → record { value = v; rest = none } ≡ numbered most (some ws)
+    pub word-number-more : (i : ℕ) → readNumber most (some (w .bytes)) ≡ record { value = v; rest = some (drop i (w .bytes)) } → i < length (w .bytes) → record { value = v; rest = none } ≡ numbered most (some ws)
     unfolding numbered
-    number-more i t h = rw (e, t, at-cons (w .bytes) i h)
+    word-number-more i t h = rw (e, t, at-cons (w .bytes) i h)
 
-    pub number-all : (i : ℕ) → readNumber most (some (w .bytes)) ≡ record { value = v; rest = some (drop i (w .bytes)) } → length (w .bytes) ≤ i → record { value = v; rest = some ts } ≡ numbered most (some ws)
+    pub word-number-all : (i : ℕ) → readNumber most (some (w .bytes)) ≡ record { value = v; rest = some (drop i (w .bytes)) } → length (w .bytes) ≤ i → record { value = v; rest = some ts } ≡ numbered most (some ws)
     unfolding numbered
-    number-all i t h = rw (e, t, at-end (w .bytes) i h)
+    word-number-all i t h = rw (e, t, at-end (w .bytes) i h)

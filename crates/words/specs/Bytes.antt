@@ -2,8 +2,9 @@
 use mathlib.Core.Path.{_≡_}
 use mathlib.Core.Bool.{Bool, true, false}
 use mathlib.Core.List.{List, [], _∷_}
-use Prim.Native.Nat.{ℕ, _+_}
+use Prim.Native.Nat.{ℕ, _+_, _-_}
 use lib.Dec.{eqb, leb}
+use lib.ListN.{length, take}
 use Rattle.sets.specs.Pick.{pick, both, either}
 
 -- from a to b
@@ -47,10 +48,14 @@ same (x ∷ xs) [] = false
 same (x ∷ xs) (y ∷ ys) = both (eqb x y) (same xs ys)
 
 -- how many lines end in s
-unfoldable pub ends : List ℕ → ℕ
-ends [] = 0
-ends (x ∷ s) = pick (eqb x 10) 1 0 + ends s
+unfoldable pub endedLines : List ℕ → ℕ
+endedLines [] = 0
+endedLines (x ∷ s) = pick (eqb x 10) 1 0 + endedLines s
 
 -- the line of what stands behind s, from 1
 abbrev pub lineBehind : List ℕ → ℕ
-lineBehind s = 1 + ends s
+lineBehind s = 1 + endedLines s
+
+-- the line on which that stands of which l bytes are left, with all behind it
+abbrev pub lineAt : List ℕ → ℕ → ℕ
+lineAt s l = lineBehind (take (length s - l) s)

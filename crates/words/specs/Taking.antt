@@ -4,17 +4,9 @@ use mathlib.Core.List.{List, [], _∷_}
 use mathlib.Core.Option.{Option, none, some}
 use Prim.Native.Nat.{ℕ}
 use Rattle.sets.specs.Pick.{pick, both}
-use Rattle.spots.specs.Numbers.{readNumber}
+use Rattle.spots.specs.Numbers.{Got, lost, readNumber}
 use Rattle.words.specs.Bytes.{small, inName, same}
 use Rattle.words.specs.Words.{Word}
-
--- a value that was read, and the words that are left behind it
-pub record Got : Type 0 where
-  pub value : ℕ
-  pub rest : Option (List Word)
-
-abbrev pub lost : Got
-lost = record { value = 0; rest = none }
 
 -- the word b
 unfoldable pub taken : List ℕ → Option (List Word) → Option (List Word)
@@ -29,16 +21,16 @@ behind (some []) ws = some ws
 behind (some (x ∷ s)) ws = none
 
 -- a number of at most `most`, without a leading zero
-unfoldable pub numbered : ℕ → Option (List Word) → Got
+unfoldable pub numbered : ℕ → Option (List Word) → Got Word
 numbered most none = lost
 numbered most (some []) = lost
 numbered most (some (w ∷ ws)) = record { value = readNumber most (some (w .bytes)) .value; rest = behind (readNumber most (some (w .bytes)) .rest) ws }
 
 -- the bytes of the word in front
-unfoldable pub front : Option (List Word) → List ℕ
-front none = []
-front (some []) = []
-front (some (w ∷ ws)) = w .bytes
+unfoldable pub frontWord : Option (List Word) → List ℕ
+frontWord none = []
+frontWord (some []) = []
+frontWord (some (w ∷ ws)) = w .bytes
 
 unfoldable pub allInName : List ℕ → Bool
 allInName [] = true
@@ -54,8 +46,3 @@ unfoldable pub named : Option (List Word) → Option (List Word)
 named none = none
 named (some []) = none
 named (some (w ∷ ws)) = pick (isName (w .bytes)) (some ws) none
-
--- g where it was read, else h
-unfoldable pub orElse : {A : Type 0} → Option (List Word) → A → A → A
-orElse none g h = h
-orElse (some t) g h = g

@@ -2,14 +2,14 @@
 use crate::byte;
 use crate::word;
 use spots::spot;
-use spots::spot::Part;
+use spots::spot::Fetched;
 use spots::spot::Spot;
 ghost use mathlib.Core.Path.{_≡_};
 ghost use Rattle.words.specs.Taking.{taken, numbered};
-ghost use Rattle.words.specs.Places.{leftAt, gotAt, NameAt};
+ghost use Rattle.words.specs.Places.{wordsAt, gotWords, NameAt};
 
 pub fn take(text: &[u8], from: Spot, word: &[u8]) -> Spot
-    ensures { λ r. ⌜ leftAt (now (text .entry)) r ≡ taken (now (word .entry)) (leftAt (now (text .entry)) from) ⌝ }
+    ensures { λ r. ⌜ wordsAt (now (text .entry)) r ≡ taken (now (word .entry)) (wordsAt (now (text .entry)) from) ⌝ }
 {
     match from {
         Spot::Lost => Spot::Lost,
@@ -29,11 +29,11 @@ pub fn take(text: &[u8], from: Spot, word: &[u8]) -> Spot
 }
 
 // A number of at most `most`.
-pub fn number(text: &[u8], from: Spot, most: u32) -> Part
-    ensures { λ r. ⌜ gotAt (now (text .entry)) r ≡ numbered most (leftAt (now (text .entry)) from) ⌝ }
+pub fn number(text: &[u8], from: Spot, most: u32) -> Fetched
+    ensures { λ r. ⌜ gotWords (now (text .entry)) r ≡ numbered most (wordsAt (now (text .entry)) from) ⌝ }
 {
     match from {
-        Spot::Lost => Part {
+        Spot::Lost => Fetched {
             value: 0,
             next: Spot::Lost,
         },
@@ -42,7 +42,7 @@ pub fn number(text: &[u8], from: Spot, most: u32) -> Part
             let start = b.from;
             let end = b.to;
             if text.len() <= start {
-                return Part {
+                return Fetched {
                     value: 0,
                     next: Spot::Lost,
                 };
@@ -54,12 +54,12 @@ pub fn number(text: &[u8], from: Spot, most: u32) -> Part
                 Spot::Lost => p,
                 Spot::At(e) => {
                     if e < w.len() {
-                        return Part {
+                        return Fetched {
                             value: p.value,
                             next: Spot::Lost,
                         };
                     }
-                    Part {
+                    Fetched {
                         value: p.value,
                         next: Spot::At(end),
                     }
@@ -70,17 +70,17 @@ pub fn number(text: &[u8], from: Spot, most: u32) -> Part
 }
 
 // Where a name stands.
-pub struct Named {
+pub struct NameSpan {
     pub from: usize,
     pub to: usize,
     pub next: Spot,
 }
 
-pub fn name(text: &[u8], from: Spot) -> Named
+pub fn name(text: &[u8], from: Spot) -> NameSpan
     ensures { λ r. ⌜ NameAt (now (text .entry)) from (r .from) (r .to) (r .next) ⌝ }
 {
     match from {
-        Spot::Lost => Named {
+        Spot::Lost => NameSpan {
             from: 0,
             to: 0,
             next: Spot::Lost,
@@ -90,20 +90,20 @@ pub fn name(text: &[u8], from: Spot) -> Named
             let start = b.from;
             let end = b.to;
             if text.len() <= start {
-                return Named {
+                return NameSpan {
                     from: 0,
                     to: 0,
                     next: Spot::Lost,
                 };
             }
             if byte::is_name(&text[start..end]) {
-                return Named {
+                return NameSpan {
                     from: start,
                     to: end,
                     next: Spot::At(end),
                 };
             }
-            Named {
+            NameSpan {
                 from: 0,
                 to: 0,
                 next: Spot::Lost,

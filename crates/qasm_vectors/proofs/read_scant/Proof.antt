@@ -3,27 +3,28 @@ use mathlib.Core.Path.{_≡_, sym, ap, _∙_}
 use mathlib.Core.List.{List}
 use Prim.Native.Nat.{ℕ, _≤_}
 use lib.ListN.{length, take}
+use Rattle.reading.specs.Readings.{lentAfter}
 use Rattle.qasm_reading.specs.declared.read.Circuit.{Circuit}
-use Rattle.qasm_reading.specs.declared.read.Reading.{Reading}
-use Rattle.qasm_reading.specs.declared.read.Reading.the-variants.{Read}
-use Rattle.qasm_reading.specs.Parsing.{parsed}
-use Rattle.qasm_reading.specs.Readings.{gatesIn, readingOf, listAfter}
-use Rattle.qasm_reading.proofs.Said.{gates-counted, read-says}
+use Rattle.qasm_reading.specs.declared.read.CircuitReading.{CircuitReading}
+use Rattle.qasm_reading.specs.declared.read.CircuitReading.the-variants.{Read}
+use Rattle.qasm_reading.specs.Parsing.{parsedCircuit}
+use Rattle.qasm_reading.specs.Readings.{circuitGates, circuitReading, circuitVerdict}
+use Rattle.qasm_reading.proofs.Said.{circuit-counted, circuit-read-says}
 use Rattle.console.proofs.Fronts.{front-fits, front-long}
 use borrow.Author.Needs.{needs}
 use Rattle.qasm_vectors.proofs.read_scant.Statement.{statement}
 use Rattle.qasm_vectors.proofs.read_scant.Tie as tie
 
 -- the reader was lent gs₀, and left gs
-module _ (t gs₀ gs : List ℕ) (room : ℕ) {r : Reading} {j : Circuit} (e : r ≡ readingOf t room) (g : gs ≡ listAfter r (gatesIn (parsed t)) gs₀) (d : r ≡ Read j) where
-  counted : j .gates ≡ length (gatesIn (parsed t))
-  counted = ap (λ (i : Circuit). i .gates) (read-says t room j (sym e ∙ d) .1) ∙ gates-counted (parsed t)
+module _ (t gs₀ gs : List ℕ) (room : ℕ) {r : CircuitReading} {j : Circuit} (e : r ≡ circuitReading t room) (g : gs ≡ lentAfter (circuitVerdict r) (circuitGates (parsedCircuit t)) gs₀) (d : r ≡ Read j) where
+  counted : j .gates ≡ length (circuitGates (parsedCircuit t))
+  counted = ap (λ (i : Circuit). i .gates) (circuit-read-says t room j (sym e ∙ d) .1) ∙ circuit-counted (parsedCircuit t)
 
   gates-fit : j .gates ≤ length gs
-  gates-fit = front-fits (gatesIn (parsed t)) gs₀ gs (j .gates) counted (g ∙ ap (λ (x : Reading). listAfter x (gatesIn (parsed t)) gs₀) d)
+  gates-fit = front-fits (circuitGates (parsedCircuit t)) gs₀ gs (j .gates) counted (g ∙ ap (λ (x : CircuitReading). lentAfter (circuitVerdict x) (circuitGates (parsedCircuit t)) gs₀) d)
 
   gates-long : j .gates ≡ length (take (j .gates) gs)
-  gates-long = front-long (gatesIn (parsed t)) gs₀ gs (j .gates) counted (g ∙ ap (λ (x : Reading). listAfter x (gatesIn (parsed t)) gs₀) d)
+  gates-long = front-long (circuitGates (parsedCircuit t)) gs₀ gs (j .gates) counted (g ∙ ap (λ (x : CircuitReading). lentAfter (circuitVerdict x) (circuitGates (parsedCircuit t)) gs₀) d)
 
 slice-aggregate-read : tie.Need-slice-aggregate-read
 slice-aggregate-read c = search needs

@@ -3,14 +3,14 @@ use mathlib.Core.Path.{sym, _∙_, ap₂}
 use Prim.Native.Nat.{ℕ, _≤_, _-_}
 use mathlib.Core.Logic.{⊎-elim}
 use mathlib.Core.List.{List}
-use Rattle.chip.proofs.Order.{Writing, writing-none, writing-with, writing-without, writing-all, pairs-room, record-is, ordered}
+use Rattle.chip.proofs.Order.{Listing, writing-none, writing-with, writing-without, writing-all, pairs-room, record-is, ordered}
 use borrow.Author.Needs.{needs}
 use native.Mathlib.Omega.{arith}
 use Rattle.chip.proofs.couplers.in_order.Statement.{statement}
 use Rattle.chip.proofs.couplers.in_order.Tie as tie
 
 abbrev Inv-loop : tie.InvT-loop
-Inv-loop near records₀ len₀ k₀ records len k = (k ≤ 400) × Writing near k records len
+Inv-loop near records₀ len₀ k₀ records len k = (k ≤ 400) × Listing near k records len
 
 abbrev μ-loop : tie.MeasureT-loop
 μ-loop near records₀ len₀ k₀ records len k = 400 - k

@@ -8,14 +8,14 @@ use Rattle.columns.specs.Pieces.{held, wrote}
 use Rattle.columns.specs.Striking.{strikeRow, strikeFrom, strikeOff}
 use Rattle.columns.proofs.Piecing.{held-is}
 use Rattle.columns.proofs.Strikes.{from-next, from-end}
-use Rattle.columns.proofs.Singles.{Named, singles-named, none-struck, row-passed, named-still}
+use Rattle.columns.proofs.Singles.{Shows, singles-named, none-struck, row-passed, named-still}
 use borrow.Author.Needs.{needs}
 use Rattle.columns.proofs.striking.strike.Statement.{statement}
 use Rattle.columns.proofs.striking.strike.Tie as tie
 
 abbrev Inv-loop : tie.InvT-loop
 Inv-loop cols₀ angles out₀ at s a₀ q₀ cols out a q =
-    (q ≤ 20) × (length cols ≡ length cols₀) × (length out ≡ length out₀) × Named s cols × (wrote out a (strikeFrom (20 - q) q angles cols) ≡ wrote out₀ at (strikeOff angles cols₀))
+    (q ≤ 20) × (length cols ≡ length cols₀) × (length out ≡ length out₀) × Shows s cols × (wrote out a (strikeFrom (20 - q) q angles cols) ≡ wrote out₀ at (strikeOff angles cols₀))
 
 abbrev μ-loop : tie.MeasureT-loop
 μ-loop cols₀ angles out₀ at s a₀ q₀ cols out a q = 20 - q

@@ -3,7 +3,8 @@ use mathlib.Core.Path.{_∙_}
 use Rattle.tallies.specs.Tally.{boundOf}
 use Rattle.verdicts.proofs.Judged.{passed, refused}
 use Rattle.stretches.proofs.Passing.{job-passed}
-use Rattle.console.proofs.Whole.{line-whole}
+use Rattle.console.specs.Printed.{mostPrinted}
+use Rattle.console.proofs.Whole.{text-whole}
 use Rattle.console.proofs.Choosing.{prints-same}
 use Rattle.console.proofs.Tallying.{counted-text, counted-fits, counted-refused}
 use borrow.Author.Needs.{needs}
@@ -39,7 +40,7 @@ counts-requires c κs = search needs
 
 returns-2 : tie.Need-returns-2
 unfolding boundOf
-returns-2 c = prints-same (counted-text _ _ _ (passed (c .before .before .before .before .before .before .before .judge .ensures) (c .before .before .before .before .before .before .number .ensures) (c .before .before .before .before .before .if1 .left)) _ _ _ (c .before .before .before .before .count-stretches .ensures .0) (c .before .before .before .before .count-stretches .ensures .1) (c .before .before .highest .ensures ∙ c .before .before .before .before .count-stretches .ensures .2)) (line-whole (c .before .before .before .before .before .before .before .before .before .before .args .out .now) _ _ (c .before .counts-arg .given .0 .1) _ (counted-fits _ _ _ (passed (c .before .before .before .before .before .before .before .judge .ensures) (c .before .before .before .before .before .before .number .ensures) (c .before .before .before .before .before .if1 .left)) _ _ _ (c .before .before .before .before .count-stretches .ensures .0) (c .before .before .before .before .count-stretches .ensures .1) (c .before .before .highest .ensures ∙ c .before .before .before .before .count-stretches .ensures .2)) (c .counts .ensures))
+returns-2 c = prints-same (counted-text _ _ _ (passed (c .before .before .before .before .before .before .before .judge .ensures) (c .before .before .before .before .before .before .number .ensures) (c .before .before .before .before .before .if1 .left)) _ _ _ (c .before .before .before .before .count-stretches .ensures .0) (c .before .before .before .before .count-stretches .ensures .1) (c .before .before .highest .ensures ∙ c .before .before .before .before .count-stretches .ensures .2)) (text-whole mostPrinted (c .before .before .before .before .before .before .before .before .before .before .args .out .now) _ _ (c .before .counts-arg .given .0 .1) _ (counted-fits _ _ _ (passed (c .before .before .before .before .before .before .before .judge .ensures) (c .before .before .before .before .before .before .number .ensures) (c .before .before .before .before .before .if1 .left)) _ _ _ (c .before .before .before .before .count-stretches .ensures .0) (c .before .before .before .before .count-stretches .ensures .1) (c .before .before .highest .ensures ∙ c .before .before .before .before .count-stretches .ensures .2)) (c .counts .ensures))
 
 pub count-job-spec : {M : Type 1} → statement M
 count-job-spec =

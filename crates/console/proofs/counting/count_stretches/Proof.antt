@@ -3,7 +3,7 @@ use Prim.Native.Nat.{_+_, _-_}
 use lib.ListN.{length}
 use native.Mathlib.Omega.{arith}
 use Rattle.stretches.proofs.Judging.{lent-within}
-use Rattle.console.proofs.Tallying.{Counting, counting-none, counting-accepts, counting-fits, counting-next, counting-end}
+use Rattle.console.proofs.Tallying.{CountingStretches, counting-none, counting-accepts, counting-fits, counting-next, counting-end}
 use borrow.Author.Needs.{needs}
 use Rattle.console.proofs.counting.count_stretches.Statement.{statement}
 use Rattle.console.proofs.counting.count_stretches.Tie as tie
@@ -12,7 +12,7 @@ use Rattle.stretches.proofs.cut.stretch_at.Reads as stretch-at-reads
 use Rattle.tallies.proofs.depth.Layers.none.Reads as none-reads
 
 abbrev Inv-loop : tie.InvT-loop
-Inv-loop n couplers gates counts₀ from₀ counts from = Counting n couplers gates from (counts .cnots) (counts .rotations) (counts .layers .last)
+Inv-loop n couplers gates counts₀ from₀ counts from = CountingStretches n couplers gates from (counts .cnots) (counts .rotations) (counts .layers .last)
 
 abbrev μ-loop : tie.MeasureT-loop
 μ-loop n couplers gates counts₀ from₀ counts from = length gates + 1 - from

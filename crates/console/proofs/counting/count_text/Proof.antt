@@ -4,7 +4,7 @@ use Prim.Native.Nat.{ℕ}
 use lib.ListN.{length-replicate}
 use Rattle.console.specs.Printed.{mostCouplerLines, mostGateLines, countedJob, countedText}
 use Rattle.console.proofs.Choosing.{prints-same}
-use Rattle.console.proofs.Reading.{couplers-fit, couplers-long, gates-fit, gates-long, text-read, text-unread}
+use Rattle.console.proofs.Reading.{couplers-within, couplers-long, gates-within, gates-long, text-read, text-unread}
 use borrow.Author.Needs.{needs}
 use Rattle.console.proofs.counting.count_text.Statement.{statement}
 use Rattle.console.proofs.counting.count_text.Tie as tie
@@ -29,13 +29,13 @@ enum-known-job : tie.Need-enum-known-job
 enum-known-job c = search needs
 
 array-share-prefix-couplers : tie.Need-array-share-prefix-couplers
-array-share-prefix-couplers c = couplers-fit _ _ _ _ _ (length-replicate {A = ℕ} mostCouplerLines 0) (length-replicate {A = ℕ} mostGateLines 0) _ _ (c .before .before .before .before .before .read .ensures .0) (c .before .job .given .1) (c .before .before .before .before .before .read .ensures .1) (c .before .before .before .before .before .read .ensures .2)
+array-share-prefix-couplers c = couplers-within _ _ _ _ _ (length-replicate {A = ℕ} mostCouplerLines 0) (length-replicate {A = ℕ} mostGateLines 0) _ _ (c .before .before .before .before .before .read .ensures .0) (c .before .job .given .1) (c .before .before .before .before .before .read .ensures .1) (c .before .before .before .before .before .read .ensures .2)
 
 slice-aggregate-count-job : tie.Need-slice-aggregate-count-job
 slice-aggregate-count-job c = couplers-long _ _ _ _ _ (length-replicate {A = ℕ} mostCouplerLines 0) (length-replicate {A = ℕ} mostGateLines 0) _ _ (c .before .before .before .before .before .before .read .ensures .0) (c .before .before .job .given .1) (c .before .before .before .before .before .before .read .ensures .1) (c .before .before .before .before .before .before .read .ensures .2)
 
 array-share-prefix-gates : tie.Need-array-share-prefix-gates
-array-share-prefix-gates c = gates-fit _ _ _ _ _ (length-replicate {A = ℕ} mostCouplerLines 0) (length-replicate {A = ℕ} mostGateLines 0) _ _ (c .before .before .before .before .before .before .read .ensures .0) (c .before .before .job .given .1) (c .before .before .before .before .before .before .read .ensures .1) (c .before .before .before .before .before .before .read .ensures .2)
+array-share-prefix-gates c = gates-within _ _ _ _ _ (length-replicate {A = ℕ} mostCouplerLines 0) (length-replicate {A = ℕ} mostGateLines 0) _ _ (c .before .before .before .before .before .before .read .ensures .0) (c .before .before .job .given .1) (c .before .before .before .before .before .before .read .ensures .1) (c .before .before .before .before .before .before .read .ensures .2)
 
 slice-aggregate-count-job-2 : tie.Need-slice-aggregate-count-job-2
 slice-aggregate-count-job-2 c = gates-long _ _ _ _ _ (length-replicate {A = ℕ} mostCouplerLines 0) (length-replicate {A = ℕ} mostGateLines 0) _ _ (c .before .before .before .before .before .before .before .read .ensures .0) (c .before .before .before .job .given .1) (c .before .before .before .before .before .before .before .read .ensures .1) (c .before .before .before .before .before .before .before .read .ensures .2)

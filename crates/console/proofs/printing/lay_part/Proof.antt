@@ -2,6 +2,7 @@
 use mathlib.Core.Path.{_∙_}
 use Rattle.tallies.specs.Tally.{boundOf}
 use Rattle.stretches.proofs.Judging.{lent-within}
+use Rattle.lines.specs.Lines.{recordsText}
 use Rattle.console.proofs.Choosing.{prints-same}
 use Rattle.console.proofs.Partly.{past-text, past-next, past-share, part-text, part-next, part-share, behind-one, prints-none}
 use borrow.Author.Needs.{needs}
@@ -20,7 +21,7 @@ put-records-requires c κs = search needs
 
 returns : tie.Need-returns
 unfolding boundOf
-returns c = (prints-same (past-text _ _ _ (c .before .before .before .before .before .before .args .from) (c .before .before .before .if1 .taken)) (prints-none _ _ _ (c .before .before .put-records-arg .given .0 .1) (c .put-records .ensures)), past-next _ (c .before .before .before .before .before .before .args .couplers .now) _ (c .before .before .before .before .before .before .args .from) (c .before .before .before .if1 .taken), past-share _ _ _ (c .before .before .before .before .before .before .args .from) (c .before .before .before .if1 .taken))
+returns c = (prints-same (past-text recordsText _ _ _ (c .before .before .before .before .before .before .args .from) (c .before .before .before .if1 .taken)) (prints-none _ _ _ (c .before .before .put-records-arg .given .0 .1) (c .put-records .ensures)), past-next _ (c .before .before .before .before .before .before .args .couplers .now) _ (c .before .before .before .before .before .before .args .from) (c .before .before .before .if1 .taken), past-share _ _ _ (c .before .before .before .before .before .before .args .from) (c .before .before .before .if1 .taken))
 
 stretch-at-requires : tie.Need-stretch-at-requires
 stretch-at-requires c κs = search needs
@@ -38,7 +39,7 @@ add-t18 : tie.Need-add-t18
 add-t18 c = search (needs, lent-within _ _ (c .before .before .before .before .before .before .before .args .from) _ (c .before .before .before .stretch-at .ensures) (c .before .before .before .before .if1 .left))
 
 returns-2 : tie.Need-returns-2
-returns-2 c = (prints-same (part-text _ _ _ (c .before .before .before .before .before .before .before .args .from) (c .before .before .before .before .if1 .left) _ _ (c .before .before .before .stretch-at .ensures) (c .before .before .hadamard-at .ensures)) (c .print-part .ensures .0), part-next _ (c .before .before .before .before .before .before .before .args .couplers .now) _ (c .before .before .before .before .before .before .before .args .from) (c .before .before .before .before .if1 .left) _ _ (c .before .before .before .stretch-at .ensures) (c .before .before .hadamard-at .ensures), c .print-part .ensures .1 ∙ part-share _ _ _ (c .before .before .before .before .before .before .before .args .from) (c .before .before .before .before .if1 .left) _ _ (c .before .before .before .stretch-at .ensures) (c .before .before .hadamard-at .ensures))
+returns-2 c = (prints-same (part-text recordsText _ _ _ (c .before .before .before .before .before .before .before .args .from) (c .before .before .before .before .if1 .left) _ _ (c .before .before .before .stretch-at .ensures) (c .before .before .hadamard-at .ensures)) (c .print-part .ensures .0), part-next _ (c .before .before .before .before .before .before .before .args .couplers .now) _ (c .before .before .before .before .before .before .before .args .from) (c .before .before .before .before .if1 .left) _ _ (c .before .before .before .stretch-at .ensures) (c .before .before .hadamard-at .ensures), c .print-part .ensures .1 ∙ part-share _ _ _ (c .before .before .before .before .before .before .before .args .from) (c .before .before .before .before .if1 .left) _ _ (c .before .before .before .stretch-at .ensures) (c .before .before .hadamard-at .ensures))
 
 pub lay-part-spec : {M : Type 1} → statement M
 lay-part-spec =

@@ -4,7 +4,7 @@ use lib.ListN.{replicate, length-replicate}
 use Rattle.tallies.specs.Tally.{boundOf, largest}
 use Rattle.stretches.proofs.Alone.{alone-fits, alone-long, alone-is}
 use Rattle.console.proofs.Choosing.{prints-same}
-use Rattle.console.proofs.Partly.{both-printed, records-few, laid-said, laid-share, refused-said, refused-share}
+use Rattle.console.proofs.Partly.{records-printed, records-few, laid-said, laid-share, refused-said, refused-share}
 use borrow.Author.Needs.{needs}
 use Rattle.console.proofs.printing.print_part.Statement.{statement}
 use Rattle.console.proofs.printing.print_part.Tie as tie
@@ -43,7 +43,7 @@ print-refusal-requires c κs = search needs
 
 returns : tie.Need-returns
 unfolding boundOf
-returns c = (prints-same (laid-said _ _ _ _ (length-replicate {A = ℕ} largest 0) _ (c .before .before .before .before .before .before .before .before .before .lay .ensures .0) _ (c .before .before .before .before .before .before .before .before .before .lay .ensures .1) _ _ _ _ _ (c .before .before .before .before .before .before .records .given .1) _) (both-printed _ _ _ (c .before .before .before .before .before .before .before .before .before .before .before .before .before .before .args .out .now) _ _ _ _ (c .before .before .before .before .put-records-arg .given .0 .1) (alone-is _ _ _ _ _ (length-replicate {A = ℕ} largest 0) _ (c .before .before .before .before .before .before .before .before .before .lay .ensures .0) (c .before .before .before .before .before .before .before .before .before .lay .ensures .1) _ _ _ _ _ (c .before .before .before .before .before .before .records .given .1)) (records-few _ _ _ _ (length-replicate {A = ℕ} largest 0) _ (c .before .before .before .before .before .before .before .before .before .lay .ensures .0) _ (c .before .before .before .before .before .before .before .before .before .lay .ensures .1) _ _ _ _ _ (c .before .before .before .before .before .before .records .given .1)) (c .before .before .before .before .before .before .before .before .before .before .before .before .before .before .pre) (c .before .before .put-records .ensures .0) (c .before .before .put-records .ensures .1) (c .put-records2 .ensures .0) (c .put-records2 .ensures .1)), laid-share _ _ _ _ (length-replicate {A = ℕ} largest 0) _ (c .before .before .before .before .before .before .before .before .before .lay .ensures .0) _ (c .before .before .before .before .before .before .before .before .before .lay .ensures .1) _ _ _ _ _ (c .before .before .before .before .before .before .records .given .1))
+returns c = (prints-same (laid-said _ _ _ _ (length-replicate {A = ℕ} largest 0) _ (c .before .before .before .before .before .before .before .before .before .lay .ensures .0) _ (c .before .before .before .before .before .before .before .before .before .lay .ensures .1) _ _ _ _ _ (c .before .before .before .before .before .before .records .given .1) _) (records-printed _ _ _ (c .before .before .before .before .before .before .before .before .before .before .before .before .before .before .args .out .now) _ _ _ _ (c .before .before .before .before .put-records-arg .given .0 .1) (alone-is _ _ _ _ _ (length-replicate {A = ℕ} largest 0) _ (c .before .before .before .before .before .before .before .before .before .lay .ensures .0) (c .before .before .before .before .before .before .before .before .before .lay .ensures .1) _ _ _ _ _ (c .before .before .before .before .before .before .records .given .1)) (records-few _ _ _ _ (length-replicate {A = ℕ} largest 0) _ (c .before .before .before .before .before .before .before .before .before .lay .ensures .0) _ (c .before .before .before .before .before .before .before .before .before .lay .ensures .1) _ _ _ _ _ (c .before .before .before .before .before .before .records .given .1)) (c .before .before .before .before .before .before .before .before .before .before .before .before .before .before .pre) (c .before .before .put-records .ensures .0) (c .before .before .put-records .ensures .1) (c .put-records2 .ensures .0) (c .put-records2 .ensures .1)), laid-share _ _ _ _ (length-replicate {A = ℕ} largest 0) _ (c .before .before .before .before .before .before .before .before .before .lay .ensures .0) _ (c .before .before .before .before .before .before .before .before .before .lay .ensures .1) _ _ _ _ _ (c .before .before .before .before .before .before .records .given .1))
 
 returns-2 : tie.Need-returns-2
 unfolding boundOf

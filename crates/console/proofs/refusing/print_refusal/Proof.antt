@@ -1,5 +1,7 @@
 -- `console::refusing::print_refusal` meets its contract. Assumes nothing.
+use native.Mathlib.Omega.{arith}
 use Rattle.tallies.specs.Tally.{boundOf}
+use Rattle.console.specs.Printed.{mostPrinted}
 use Rattle.console.proofs.Whole.{refusal-whole}
 use borrow.Author.Needs.{needs}
 use Rattle.console.proofs.refusing.print_refusal.Statement.{statement}
@@ -19,7 +21,7 @@ refusal-requires c κs = search needs
 
 returns : tie.Need-returns
 unfolding boundOf
-returns c = refusal-whole (c .before .before .before .before .args .out .now) _ _ (c .before .refusal-arg .given .0 .1) (c .before .before .before .before .args .v) _ _ (c .before .before .before .number .ensures) (c .before .before .place .ensures) (c .before .before .place .ok) (c .refusal .ensures)
+returns c = refusal-whole mostPrinted (c .before .before .before .before .args .out .now) _ _ (c .before .refusal-arg .given .0 .1) (c .before .before .before .before .args .v) _ _ (omega arith) (c .before .before .before .number .ensures) (c .before .before .place .ensures) (c .before .before .place .ok) (c .refusal .ensures)
 
 pub print-refusal-spec : {M : Type 1} → statement M
 print-refusal-spec = tie.close (tie.spec number-requires place-requires refusal-requires returns)

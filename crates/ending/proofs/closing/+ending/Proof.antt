@@ -1,10 +1,12 @@
 -- `ending::closing::ending` meets its contract. It calls itself with an island of one qubit less: the measure is the number of qubits.
 -- Assumes nothing.
+use mathlib.Core.Path.{sym, _∙_}
 use Prim.Native.Nat.{ℕ, _<_}
 use borrow.Author.Needs.{needs}
 use native.Mathlib.Omega.{arith}
 use Rattle.sets.specs.Size.{sizeOf}
 use Rattle.ending.proofs.Writing.{written-none, written-both}
+use Rattle.ending.proofs.Choice.{cheapest-fit}
 use Rattle.ending.proofs.Recursion.{size-falls, ending-done, ending-stops, ending-goes}
 use borrow.Fn.Kinds.{In}
 use borrow.Fn.PlainCycle.{Measures, is, falls, and}
@@ -40,22 +42,28 @@ ending-returns t c = written-none _ _ _ (ending-done _ _ _ _ _ (c .before .size 
 ending-cheapest-requires : (t : ℕ) → ending-lts.Need-cheapest-requires (ending-claims t) (ending-at t) ending.Post
 ending-cheapest-requires t c κs = search needs
 
-ending-returns-2 : (t : ℕ) → ending-lts.Need-returns-2 (ending-claims t) (ending-at t) ending.Post
-ending-returns-2 t c = written-none _ _ _ (ending-stops _ _ _ _ _ _ (c .before .before .before .size .ensures) (c .before .before .if1 .left) (c .before .cheapest .ensures) (c .if2 .taken))
+ending-enum-told : (t : ℕ) → ending-lts.Need-enum-told (ending-claims t) (ending-at t) ending.Post
+ending-enum-told t c = search needs
+
+ending-enum-known-choice : (t : ℕ) → ending-lts.Need-enum-known-choice (ending-claims t) (ending-at t) ending.Post
+ending-enum-known-choice t c = search needs
 
 ending-put-out-requires : (t : ℕ) → ending-lts.Need-put-out-requires (ending-claims t) (ending-at t) ending.Post
-ending-put-out-requires t c κs = search needs
+ending-put-out-requires t c κs = cheapest-fit _ _ _ _ _ _ (sym (c .before .before .choice .given .1) ∙ c .before .before .before .before .cheapest .ensures) .0
 
 ending-taken-requires : (t : ℕ) → ending-lts.Need-taken-requires (ending-claims t) (ending-at t) ending.Post
-ending-taken-requires t c κs = search needs
+ending-taken-requires t c κs = cheapest-fit _ _ _ _ _ _ (sym (c .before .before .before .before .before .choice .given .1) ∙ c .before .before .before .before .before .before .before .cheapest .ensures) .0
 
 ending-only-requires : (t : ℕ) → ending-lts.Need-only-requires (ending-claims t) (ending-at t) ending.Post
 ending-only-requires t c κs = search needs
 
 ending-ending-requires : (t : ℕ) → ending-lts.Need-ending-requires (ending-claims t) (ending-at t) ending.Post
 ending-ending-requires t c κs =
-    let fall = size-falls _ _ _ _ _ _ (c .before .before .before .before .before .before .before .before .before .before .cheapest .ensures) (c .before .before .before .before .before .before .before .before .before .if2 .left) (c .before .only .ensures) in
-    (omega (arith, fall, c .before .before .before .before .before .before .before .before .before .before .before .before .before .before .pre .0), c .before .before .before .before .before .before .before .before .before .before .before .before .before .before .pre .1)
+    let fall = size-falls _ _ _ _ _ _ _ (sym (c .before .before .before .before .before .before .before .before .before .before .choice .given .1) ∙ c .before .before .before .before .before .before .before .before .before .before .before .before .cheapest .ensures) (c .before .only .ensures) in
+    (omega (arith, fall, c .before .before .before .before .before .before .before .before .before .before .before .before .before .before .before .before .pre .0), c .before .before .before .before .before .before .before .before .before .before .before .before .before .before .before .before .pre .1)
+
+ending-returns-2 : (t : ℕ) → ending-lts.Need-returns-2 (ending-claims t) (ending-at t) ending.Post
+ending-returns-2 t c = written-none _ _ _ (ending-stops _ _ _ _ _ (c .before .before .before .before .size .ensures) (c .before .before .before .if1 .left) (sym (c .enum-told .given .1) ∙ c .before .before .cheapest .ensures))
 
 ending-same-length : (t : ℕ) → ending-lts.Need-same-length (ending-claims t) (ending-at t) ending.Post
 ending-same-length t c = search needs
@@ -63,7 +71,7 @@ ending-same-length t c = search needs
 ending-returns-3 : (t : ℕ) → ending-lts.Need-returns-3 (ending-claims t) (ending-at t) ending.Post
 ending-returns-3 t c =
     written-both _ _ _ _ _ _ _ _ _
-    (ending-goes _ _ _ _ _ _ _ _ (c .before .before .before .before .before .before .before .before .before .before .before .before .before .before .before .size .ensures) (c .before .before .before .before .before .before .before .before .before .before .before .before .before .before .if1 .left) (c .before .before .before .before .before .before .before .before .before .before .before .before .before .cheapest .ensures) (c .before .before .before .before .before .before .before .before .before .before .before .before .if2 .left) (c .before .before .before .before .only .ensures) (c .before .before .before .before .before .before .before .taken .ensures))
+    (ending-goes _ _ _ _ _ _ _ _ (sym (c .before .before .before .before .before .before .before .before .before .before .before .before .before .choice .given .1) ∙ c .before .before .before .before .before .before .before .before .before .before .before .before .before .before .before .cheapest .ensures) (c .before .before .before .before .only .ensures) (c .before .before .before .before .before .before .before .taken .ensures) _ (c .before .before .before .before .before .before .before .before .before .before .before .before .before .before .before .before .before .size .ensures) (c .before .before .before .before .before .before .before .before .before .before .before .before .before .before .before .before .if1 .left))
     (c .before .before .before .before .before .before .before .before .before .before .put-out .ensures .0) (c .before .before .before .before .before .before .before .before .before .before .put-out .ensures .1) (c .before .before .ending .ensures .0) (c .before .before .ending .ensures .1)
 
 pub +ending-spec : {M : Type 1} → statement M
@@ -73,10 +81,12 @@ pub +ending-spec : {M : Type 1} → statement M
     (ending-size-requires t)
     (ending-returns t)
     (ending-cheapest-requires t)
-    (ending-returns-2 t)
+    (ending-enum-told t)
+    (ending-enum-known-choice t)
     (ending-put-out-requires t)
     (ending-taken-requires t)
     (ending-only-requires t)
     (ending-ending-requires t)
+    (ending-returns-2 t)
     (ending-same-length t)
     (ending-returns-3 t)

@@ -2,14 +2,14 @@
 use mathlib.Core.Path.{_≡_, refl, _∙_}
 use Prim.Native.Nat.{_≤_, _-_}
 use lib.ListN.{length}
-use Rattle.gathering.specs.Gather.{cnotsIn}
+use Rattle.gathering.specs.Gather.{cnotsFrom}
 use Rattle.ending.proofs.Writing.{Writes, writes-start, writes-on, writes-end, moves-more, moves-done, moves-all}
 use borrow.Author.Needs.{needs}
 use Rattle.ending.proofs.closing.put_moves.Statement.{statement}
 use Rattle.ending.proofs.closing.put_moves.Tie as tie
 
 abbrev Inv-loop : tie.InvT-loop
-Inv-loop out₀ at n to by next₀ i₀ out next i = (i ≤ n) × (length out ≡ length out₀) × Writes out₀ at (cnotsIn to by 0 n) out next (cnotsIn to by i (n - i))
+Inv-loop out₀ at n to by next₀ i₀ out next i = (i ≤ n) × (length out ≡ length out₀) × Writes out₀ at (cnotsFrom to by 0 n) out next (cnotsFrom to by i (n - i))
 
 abbrev μ-loop : tie.MeasureT-loop
 μ-loop out₀ at n to by next₀ i₀ out next i = n - i

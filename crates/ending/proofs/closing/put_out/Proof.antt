@@ -1,5 +1,5 @@
 -- `ending::closing::put_out` meets its contract. Assumes nothing.
-use Rattle.ending.proofs.Choosing.{first-few, second-few, both-are}
+use Rattle.ending.proofs.Choosing.{lead-len, trail-len, both-are}
 use Rattle.ending.proofs.Writing.{written-both}
 use borrow.Author.Needs.{needs}
 use Rattle.ending.proofs.closing.put_out.Statement.{statement}
@@ -9,13 +9,13 @@ lead-requires : tie.Need-lead-requires
 lead-requires c κs = search needs
 
 put-moves-requires : tie.Need-put-moves-requires
-put-moves-requires c κs = first-few _ _ _ _ _ _ (c .before .before .before .lead .ensures)
+put-moves-requires c κs = lead-len _ _ _ _ (c .before .before .before .before .before .args .choice) _ (c .before .before .before .lead .ensures)
 
 trail-requires : tie.Need-trail-requires
 trail-requires c κs = search needs
 
 put-moves-requires-2 : tie.Need-put-moves-requires-2
-put-moves-requires-2 c κs = second-few _ _ _ _ _ _ (c .before .before .before .trail .ensures)
+put-moves-requires-2 c κs = trail-len _ _ _ _ (c .before .before .before .before .before .before .before .before .before .before .before .before .args .choice) _ (c .before .before .before .trail .ensures)
 
 same-length : tie.Need-same-length
 same-length c = search needs

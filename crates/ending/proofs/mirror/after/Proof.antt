@@ -3,7 +3,7 @@ use mathlib.Core.Path.{sym, ap, _∙_}
 use mathlib.Core.List.{[], _∷_}
 use Rattle.gates.specs.declared.gate.Gate.{Gate}
 use Rattle.circuit.specs.Circuit.{run, step}
-use Rattle.gathering.specs.Gather.{flip}
+use Rattle.gathering.specs.Gather.{exchanged}
 use borrow.Author.Needs.{needs}
 use Rattle.ending.proofs.mirror.after.Statement.{statement}
 use Rattle.ending.proofs.mirror.after.Tie as tie
@@ -25,19 +25,19 @@ enum-told-3 c = search needs
 
 returns : tie.Need-returns
 unfolding run step
-returns c = c .joined .ensures ∙ sym (ap (λ (g : Gate). run (flip (g ∷ [])) (c .before .before .before .before .args .rows)) (c .before .before .g .given .1))
+returns c = c .joined .ensures ∙ sym (ap (λ (g : Gate). run (exchanged (g ∷ [])) (c .before .before .before .before .args .rows)) (c .before .before .g .given .1))
 
 returns-2 : tie.Need-returns-2
 unfolding run step
-returns-2 c = sym (ap (λ (g : Gate). run (flip (g ∷ [])) (c .before .before .args .rows)) (c .enum-told .given .1))
+returns-2 c = sym (ap (λ (g : Gate). run (exchanged (g ∷ [])) (c .before .before .args .rows)) (c .enum-told .given .1))
 
 returns-3 : tie.Need-returns-3
 unfolding run step
-returns-3 c = sym (ap (λ (g : Gate). run (flip (g ∷ [])) (c .before .before .args .rows)) (c .enum-told2 .given .1))
+returns-3 c = sym (ap (λ (g : Gate). run (exchanged (g ∷ [])) (c .before .before .args .rows)) (c .enum-told2 .given .1))
 
 returns-4 : tie.Need-returns-4
 unfolding run step
-returns-4 c = sym (ap (λ (g : Gate). run (flip (g ∷ [])) (c .before .before .args .rows)) (c .enum-told3 .given .1))
+returns-4 c = sym (ap (λ (g : Gate). run (exchanged (g ∷ [])) (c .before .before .args .rows)) (c .enum-told3 .given .1))
 
 pub after-spec : {M : Type 1} → statement M
 after-spec =

@@ -4,7 +4,7 @@ use Prim.Native.Nat.{_≤_, _-_}
 use lib.ListN.{length, drop}
 use Rattle.gates.specs.Layout.{gatesOf}
 use Rattle.circuit.specs.Circuit.{run}
-use Rattle.gathering.specs.Gather.{flip}
+use Rattle.gathering.specs.Gather.{exchanged}
 use Rattle.ending.specs.Mirror.{mirrorsOf}
 use Rattle.ending.proofs.Writing.{mirror-start, mirror-next, mirror-end}
 use borrow.Author.Needs.{needs}
@@ -12,7 +12,7 @@ use Rattle.ending.proofs.mirror.mirrored.Statement.{statement}
 use Rattle.ending.proofs.mirror.mirrored.Tie as tie
 
 abbrev Inv-loop : tie.InvT-loop
-Inv-loop gates n all₀ i₀ i-end all i = (i ≤ length gates) × (length all ≡ 20) × (run (flip (gatesOf n (drop i gates))) all ≡ mirrorsOf (gatesOf n gates))
+Inv-loop gates n all₀ i₀ i-end all i = (i ≤ length gates) × (length all ≡ 20) × (run (exchanged (gatesOf n (drop i gates))) all ≡ mirrorsOf (gatesOf n gates))
 
 abbrev μ-loop : tie.MeasureT-loop
 μ-loop gates n all₀ i₀ i-end all i = length gates - i

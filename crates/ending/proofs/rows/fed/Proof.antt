@@ -3,10 +3,11 @@ use mathlib.Core.Path.{sym, ap, ap₂, _∙_}
 use mathlib.Core.Bool.{Bool}
 use mathlib.Core.List.{[], _∷_}
 use Rattle.gates.specs.declared.gate.Gate.{Gate}
-use Rattle.ending.specs.Rows.{played, seen}
-use Rattle.ending.proofs.Playing.{fed-rotation, fed-x, fed-bad}
+use Rattle.ending.specs.Mirror.{seen}
+use Rattle.ending.proofs.Loops.{fed-rotation, fed-x, fed-bad}
 use borrow.Author.Needs.{needs}
 use Rattle.ending.proofs.rows.fed.Statement.{statement}
+use Rattle.gathering.specs.Gather.{turns}
 use Rattle.ending.proofs.rows.fed.Tie as tie
 
 enum-known-g : tie.Need-enum-known-g
@@ -28,19 +29,19 @@ enum-told-3 : tie.Need-enum-told-3
 enum-told-3 c = search needs
 
 returns : tie.Need-returns
-returns c = c .turned .ensures ∙ sym (ap₂ (λ (b : Bool) (g : Gate). played (seen b (g ∷ [])) (c .before .before .before .before .before .args .x)) (c .before .if1 .taken) (c .before .before .before .g .given .1))
+returns c = c .turned .ensures ∙ sym (ap₂ (λ (b : Bool) (g : Gate). turns (seen b (g ∷ [])) (c .before .before .before .before .before .args .x)) (c .before .if1 .taken) (c .before .before .before .g .given .1))
 
 returns-2 : tie.Need-returns-2
-returns-2 c = c .turned2 .ensures ∙ sym (ap₂ (λ (b : Bool) (g : Gate). played (seen b (g ∷ [])) (c .before .before .before .before .before .args .x)) (c .before .if1 .left) (c .before .before .before .g .given .1))
+returns-2 c = c .turned2 .ensures ∙ sym (ap₂ (λ (b : Bool) (g : Gate). turns (seen b (g ∷ [])) (c .before .before .before .before .before .args .x)) (c .before .if1 .left) (c .before .before .before .g .given .1))
 
 returns-3 : tie.Need-returns-3
-returns-3 c = sym (ap (λ (g : Gate). played (seen (c .before .before .args .mirror) (g ∷ [])) (c .before .before .args .x)) (c .enum-told .given .1) ∙ fed-rotation (c .before .before .args .mirror) _ _ _)
+returns-3 c = sym (ap (λ (g : Gate). turns (seen (c .before .before .args .mirror) (g ∷ [])) (c .before .before .args .x)) (c .enum-told .given .1) ∙ fed-rotation (c .before .before .args .mirror) _ _ _)
 
 returns-4 : tie.Need-returns-4
-returns-4 c = sym (ap (λ (g : Gate). played (seen (c .before .before .args .mirror) (g ∷ [])) (c .before .before .args .x)) (c .enum-told2 .given .1) ∙ fed-x (c .before .before .args .mirror) _ _)
+returns-4 c = sym (ap (λ (g : Gate). turns (seen (c .before .before .args .mirror) (g ∷ [])) (c .before .before .args .x)) (c .enum-told2 .given .1) ∙ fed-x (c .before .before .args .mirror) _ _)
 
 returns-5 : tie.Need-returns-5
-returns-5 c = sym (ap (λ (g : Gate). played (seen (c .before .before .args .mirror) (g ∷ [])) (c .before .before .args .x)) (c .enum-told3 .given .1) ∙ fed-bad (c .before .before .args .mirror) _)
+returns-5 c = sym (ap (λ (g : Gate). turns (seen (c .before .before .args .mirror) (g ∷ [])) (c .before .before .args .x)) (c .enum-told3 .given .1) ∙ fed-bad (c .before .before .args .mirror) _)
 
 pub fed-spec : {M : Type 1} → statement M
 fed-spec =

@@ -1,8 +1,8 @@
 -- `ending::rows::fed_all` meets its contract. Assumes nothing.
 use mathlib.Core.List.{[], _∷_}
 use Prim.Native.Nat.{_-_}
-use Rattle.ending.specs.Rows.{seen}
-use Rattle.ending.proofs.Playing.{Rowed, rowed-start, rowed-next, rowed-end}
+use Rattle.ending.specs.Mirror.{seen}
+use Rattle.ending.proofs.Loops.{Rowed, rowed-start, rowed-next, rowed-end}
 use borrow.Author.Needs.{needs}
 use Rattle.ending.proofs.rows.fed_all.Statement.{statement}
 use Rattle.ending.proofs.rows.fed_all.Tie as tie

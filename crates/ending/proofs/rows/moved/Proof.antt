@@ -1,15 +1,14 @@
 -- `ending::rows::moved` meets its contract: the moves passed and those to come. Assumes nothing.
 use mathlib.Core.Path.{_≡_}
 use Prim.Native.Nat.{_≤_, _-_}
-use Rattle.gathering.specs.Gather.{cnotsIn}
-use Rattle.ending.specs.Rows.{played}
-use Rattle.ending.proofs.Playing.{moved-start, moved-next, moved-end}
+use Rattle.gathering.specs.Gather.{cnotsFrom, turns}
+use Rattle.ending.proofs.Loops.{moved-start, moved-next, moved-end}
 use borrow.Author.Needs.{needs}
 use Rattle.ending.proofs.rows.moved.Statement.{statement}
 use Rattle.ending.proofs.rows.moved.Tie as tie
 
 abbrev Inv-loop : tie.InvT-loop
-Inv-loop x n to by y₀ i₀ y i = (i ≤ n) × (played (cnotsIn to by i (n - i)) y ≡ played (cnotsIn to by 0 n) x)
+Inv-loop x n to by y₀ i₀ y i = (i ≤ n) × (turns (cnotsFrom to by i (n - i)) y ≡ turns (cnotsFrom to by 0 n) x)
 
 abbrev μ-loop : tie.MeasureT-loop
 μ-loop x n to by y₀ i₀ y i = n - i

@@ -1,13 +1,13 @@
 -- `ending::rows::moved_all` meets its contract. Assumes nothing.
 use Prim.Native.Nat.{_-_}
-use Rattle.gathering.specs.Gather.{cnotsIn}
-use Rattle.ending.proofs.Playing.{Rowed, rowed-start, rowed-next, rowed-end}
+use Rattle.gathering.specs.Gather.{cnotsFrom}
+use Rattle.ending.proofs.Loops.{Rowed, rowed-start, rowed-next, rowed-end}
 use borrow.Author.Needs.{needs}
 use Rattle.ending.proofs.rows.moved_all.Statement.{statement}
 use Rattle.ending.proofs.rows.moved_all.Tie as tie
 
 abbrev Inv-loop : tie.InvT-loop
-Inv-loop to by n rows all₀ i₀ all i = Rowed (cnotsIn to by 0 n) rows all i
+Inv-loop to by n rows all₀ i₀ all i = Rowed (cnotsFrom to by 0 n) rows all i
 
 abbrev μ-loop : tie.MeasureT-loop
 μ-loop to by n rows all₀ i₀ all i = 20 - i

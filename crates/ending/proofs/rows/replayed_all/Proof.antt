@@ -4,14 +4,15 @@ use mathlib.Core.List.{map}
 use Prim.Native.Nat.{_≤_, _-_}
 use lib.ListN.{length, drop}
 use Rattle.gates.specs.Layout.{gatesOf}
-use Rattle.ending.specs.Rows.{played, seen}
-use Rattle.ending.proofs.Playing.{replayed-next, replayed-end}
+use Rattle.ending.specs.Mirror.{seen}
+use Rattle.ending.proofs.Loops.{replayed-next, replayed-end}
 use borrow.Author.Needs.{needs}
 use Rattle.ending.proofs.rows.replayed_all.Statement.{statement}
+use Rattle.gathering.specs.Gather.{turns}
 use Rattle.ending.proofs.rows.replayed_all.Tie as tie
 
 abbrev Inv-loop : tie.InvT-loop
-Inv-loop laid mirror all₀ i₀ i-end all i = (i ≤ length laid) × (length all ≡ 20) × (map (played (seen mirror (gatesOf 20 (drop i laid)))) all ≡ map (played (seen mirror (gatesOf 20 laid))) all₀)
+Inv-loop laid mirror all₀ i₀ i-end all i = (i ≤ length laid) × (length all ≡ 20) × (map (turns (seen mirror (gatesOf 20 (drop i laid)))) all ≡ map (turns (seen mirror (gatesOf 20 laid))) all₀)
 
 abbrev μ-loop : tie.MeasureT-loop
 μ-loop laid mirror all₀ i₀ i-end all i = length laid - i

@@ -1,13 +1,13 @@
 -- `isles::islands::islands` meets its contract: the islands of the qubits passed are found. Assumes nothing.
 use Prim.Native.Nat.{_≤_, _-_}
-use Rattle.isles.proofs.Isles.{Found, found-none, found-next, found-all}
+use Rattle.isles.proofs.Isles.{IslesFound, found-none, found-next, found-all}
 use borrow.Author.Needs.{needs}
 use native.Mathlib.Omega.{arith}
 use Rattle.isles.proofs.islands.islands.Statement.{statement}
 use Rattle.isles.proofs.islands.islands.Tie as tie
 
 abbrev Inv-loop : tie.InvT-loop
-Inv-loop near all₀ q₀ all q = (q ≤ 20) × Found near q all
+Inv-loop near all₀ q₀ all q = (q ≤ 20) × IslesFound near q all
 
 abbrev μ-loop : tie.MeasureT-loop
 μ-loop near all₀ q₀ all q = 20 - q

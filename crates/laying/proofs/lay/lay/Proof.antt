@@ -45,22 +45,22 @@ lay-on-requires c κs = let a = c .before .before .before .before .before .befor
 
 array-share-prefix-laid : tie.Need-array-share-prefix-laid
 unfolding boundOf
-array-share-prefix-laid c = part-fits _ _ _ (c .before .lay-on .ensures .0) (c .before .lay-on .ensures .1)
+array-share-prefix-laid c = part-fits _ _ _ (c .before .lay-on .ensures .0 .0) (c .before .lay-on .ensures .0 .1)
 
 slice-aggregate-replay : tie.Need-slice-aggregate-replay
 unfolding boundOf
-slice-aggregate-replay c = part-long _ _ _ (c .before .before .lay-on .ensures .0) (c .before .before .lay-on .ensures .1)
+slice-aggregate-replay c = part-long _ _ _ (c .before .before .lay-on .ensures .0 .0) (c .before .before .lay-on .ensures .0 .1)
 
 replay-requires : tie.Need-replay-requires
 replay-requires c κs = search needs
 
 array-share-prefix-laid-2 : tie.Need-array-share-prefix-laid-2
 unfolding boundOf
-array-share-prefix-laid-2 c = part-fits _ _ _ (c .before .before .before .before .before .before .lay-on .ensures .0) (c .before .before .before .before .before .before .lay-on .ensures .1)
+array-share-prefix-laid-2 c = part-fits _ _ _ (c .before .before .before .before .before .before .lay-on .ensures .0 .0) (c .before .before .before .before .before .before .lay-on .ensures .0 .1)
 
 slice-aggregate-counted : tie.Need-slice-aggregate-counted
 unfolding boundOf
-slice-aggregate-counted c = part-long _ _ _ (c .before .before .before .before .before .before .before .lay-on .ensures .0) (c .before .before .before .before .before .before .before .lay-on .ensures .1)
+slice-aggregate-counted c = part-long _ _ _ (c .before .before .before .before .before .before .before .lay-on .ensures .0 .0) (c .before .before .before .before .before .before .before .lay-on .ensures .0 .1)
 
 counted-requires : tie.Need-counted-requires
 counted-requires c κs = search needs
@@ -74,7 +74,7 @@ returns-2 c = let a = c .before .before .before .before .before .before .before 
     let v = verdict-found (a .n) (a .couplers .now) _ (a .gates .now) _ _ (c .before .before .before .before .before .before .before .before .before .before .before .before .before .before .near .ensures) (c .before .before .before .before .before .before .before .before .before .before .before .before .before .islands .ensures) (c .before .before .before .before .before .before .before .before .before .before .before .before .judge-on .result) (c .before .before .before .before .before .before .before .before .before .before .before .before .judge-on .ensures) in
     let l = c .before .before .before .before .before .before .before .before .lay-on .ensures in
     let o = circuit-on (a .n) (a .couplers .now) (a .gates .now) (a .out .now) _ (c .before .before .before .before .before .before .before .before .before .before .before .before .before .before .near .ensures) in
-    copied (a .n) (a .couplers .now) (a .gates .now) (a .out .now) (ap numberOf (sym v) ∙ sym (c .before .before .before .before .before .before .before .before .before .before .before .number .ensures) ∙ c .before .before .before .before .before .before .before .before .before .before .if1 .left) _ _ (l .0 ∙ ap (emit zeros 0) o) (l .1 ∙ ap (emitAt zeros 0) o) _ _ _ (l .2) (c .counted .ensures) (c .before .before .before .before .replay .ensures .0)
+    copied (a .n) (a .couplers .now) (a .gates .now) (a .out .now) (ap numberOf (sym v) ∙ sym (c .before .before .before .before .before .before .before .before .before .before .before .number .ensures) ∙ c .before .before .before .before .before .before .before .before .before .before .if1 .left) _ _ (l .0 .0 ∙ ap (emit zeros 0) o) (l .0 .1 ∙ ap (emitAt zeros 0) o) _ _ _ (l .1) (c .counted .ensures) (c .before .before .before .before .replay .ensures .0)
 
 pub lay-spec : {M : Type 1} → statement M
 lay-spec =

@@ -64,7 +64,7 @@ same-length c = c .before .loop .inv .size
 returns : tie.Need-returns Inv-loop μ-loop
 returns c = let a = c .before .before .before .before .before .before .before .before .before .before .before .args in
     let w = walked-all _ _ _ _ (c .before .loop .q) _ _ (search needs) (c .before .loop .inv) in
-    (w .0, w .1, phase-is (a .n) (a .near) _ (a .gates .now) (c .before .before .before .before .before .before .before .before .before .before .before .pre) (c .before .before .before .before .before .before .before .before .tell .result) _ (c .before .before .before .before .before .before .before .before .tell .ensures) (c .before .before .mirrored .ensures))
+    ((w .0, w .1), phase-is (a .n) (a .near) _ (a .gates .now) (c .before .before .before .before .before .before .before .before .before .before .before .pre) (c .before .before .before .before .before .before .before .before .tell .result) _ (c .before .before .before .before .before .before .before .before .tell .ensures) (c .before .before .mirrored .ensures))
 
 pub lay-on-spec : {M : Type 1} → statement M
 lay-on-spec =

@@ -1,6 +1,6 @@
 -- `laying::lay::lay_own` meets its contract: an island that stands gets nothing. Assumes nothing.
 use mathlib.Core.Path.{sym, _∙_}
-use Rattle.laying.proofs.Standing.{idle}
+use Rattle.laying.proofs.Standing.{nothing-laid}
 use borrow.Author.Needs.{needs}
 use Rattle.laying.proofs.lay.lay_own.Statement.{statement}
 use Rattle.laying.proofs.lay.lay_own.Tie as tie
@@ -9,7 +9,7 @@ stands-requires : tie.Need-stands-requires
 stands-requires c κs = search needs
 
 returns : tie.Need-returns
-returns c = idle (c .before .before .before .args .own) (c .before .before .before .pre (sym (c .before .stands .ensures) ∙ c .if1 .taken)) _ _
+returns c = nothing-laid _ (c .before .before .before .pre (sym (c .before .stands .ensures) ∙ c .if1 .taken)) _ _
 
 lay-island-requires : tie.Need-lay-island-requires
 lay-island-requires c κs = search needs

@@ -4,8 +4,8 @@ use native.Mathlib.Omega.{arith}
 use Prim.Native.Nat.{_+_, _-_, _≤_}
 use denote.Ref.{now}
 use lib.ListN.{length, getD, drop}
-use Rattle.lines.specs.Pattern.{piece, filled}
-use Rattle.lines.specs.Room.{roomAfter}
+use Rattle.lines.specs.Pattern.{filledByte, filled}
+use Rattle.lines.specs.Leeway.{roomAfter}
 use Rattle.lines.proofs.Rooms.{room-turn, room-past}
 use Rattle.lines.proofs.Filled.{uses-most, filled-turn, filled-past}
 use borrow.Author.Needs.{needs}
@@ -27,8 +27,8 @@ shared-slice-read-x c = search needs
 number-at-requires : tie.Need-number-at-requires Inv-loop μ-loop
 number-at-requires c κs = search needs
 
-after-piece-requires : tie.Need-after-piece-requires Inv-loop μ-loop
-after-piece-requires c κs = search needs
+after-filled-byte-requires : tie.Need-after-filled-byte-requires Inv-loop μ-loop
+after-filled-byte-requires c κs = search needs
 
 used-by-requires : tie.Need-used-by-requires Inv-loop μ-loop
 used-by-requires c κs = search needs
@@ -52,7 +52,7 @@ loop-again c =
     let n = c .before .before .number-at in (
       omega arith,
       omega (arith, l .inv .1, u .ensures, uses-most (getD s (l .i) 0)),
-      room-turn (a .room) (length (filled s vs)) (l .left) (l .inv .2) (piece (getD s (l .i) 0) (n .result)) (filled (drop (l .i + 1) s) (drop (l .k + u .result) vs)) (filled-turn s vs (l .i) (l .k) (c .before .before .before .before .loop-test .taken) (n .ensures) (u .ensures)) (c .before .after-piece .ensures),
+      room-turn (a .room) (length (filled s vs)) (l .left) (l .inv .2) (filledByte (getD s (l .i) 0) (n .result)) (filled (drop (l .i + 1) s) (drop (l .k + u .result) vs)) (filled-turn s vs (l .i) (l .k) (c .before .before .before .before .loop-test .taken) (n .ensures) (u .ensures)) (c .before .after-filled-byte .ensures),
     )
 
 returns : tie.Need-returns Inv-loop μ-loop
@@ -70,7 +70,7 @@ after-pattern-spec =
     loop-holds
     shared-slice-read-x
     number-at-requires
-    after-piece-requires
+    after-filled-byte-requires
     used-by-requires
     add-k
     add-i

@@ -5,7 +5,7 @@ use Prim.Native.Nat.{_+_, _-_, _≤_}
 use denote.Ref.{now}
 use lib.ListN.{length, getD, drop}
 use lib.Seq.{sets}
-use Rattle.lines.specs.Pattern.{piece, filled}
+use Rattle.lines.specs.Pattern.{filledByte, filled}
 use Rattle.lines.proofs.Writes.{Wrote}
 use Rattle.lines.proofs.Filled.{uses-most, filled-turn, filled-past, filled-part, left-turn, left-past}
 use borrow.Author.Needs.{needs}
@@ -27,8 +27,8 @@ shared-slice-read-x c = search needs
 number-at-requires : tie.Need-number-at-requires Inv-loop μ-loop
 number-at-requires c κs = search needs
 
-put-piece-requires : tie.Need-put-piece-requires Inv-loop μ-loop
-put-piece-requires c κs =
+put-filled-byte-requires : tie.Need-put-filled-byte-requires Inv-loop μ-loop
+put-filled-byte-requires c κs =
     let l = c .before .before .before .before .loop in
     let a = c .before .before .before .before .before .before .before .before .args in
     omega (arith, c .before .before .before .before .before .before .before .before .pre, l .inv .2, l .inv .3 .0, filled-part (now (a .pattern)) (now (a .numbers)) (l .i) (l .k) (c .before .before .before .loop-test .taken) (c .number-at .ensures))
@@ -51,13 +51,13 @@ loop-again c =
     let a = c .before .before .before .before .before .before .before .before .before .before .before .before .args in
     let s = now (a .pattern) in
     let vs = now (a .numbers) in
-    let q = c .before .before .before .put-piece in
+    let q = c .before .before .before .put-filled-byte in
     let u = c .used-by in
     let n = c .before .before .before .before .number-at in (
       omega arith,
       omega (arith, l .inv .1, u .ensures, uses-most (getD s (l .i) 0)),
       q .kept .0 ∙ l .inv .2,
-      left-turn (now (a .text)) (a .at) (filled s vs) (l .text) (l .p) (l .inv .3) (piece (getD s (l .i) 0) (n .result)) (filled (drop (l .i + 1) s) (drop (l .k + u .result) vs)) (filled-turn s vs (l .i) (l .k) (c .before .before .before .before .before .before .before .loop-test .taken) (n .ensures) (u .ensures)) (q .ensures),
+      left-turn (now (a .text)) (a .at) (filled s vs) (l .text) (l .p) (l .inv .3) (filledByte (getD s (l .i) 0) (n .result)) (filled (drop (l .i + 1) s) (drop (l .k + u .result) vs)) (filled-turn s vs (l .i) (l .k) (c .before .before .before .before .before .before .before .loop-test .taken) (n .ensures) (u .ensures)) (q .ensures),
     )
 
 same-length : tie.Need-same-length Inv-loop μ-loop
@@ -78,7 +78,7 @@ put-filled-spec =
     loop-holds
     shared-slice-read-x
     number-at-requires
-    put-piece-requires
+    put-filled-byte-requires
     used-by-requires
     add-k
     add-i

@@ -3,7 +3,7 @@ use denote.Ref.{now}
 use lib.ListN.{length}
 use Rattle.lines.specs.Pattern.{filled}
 use Rattle.lines.proofs.Rooms.{behind-over, behind-left}
-use Rattle.lines.proofs.Writes.{lined-fits, lined-over}
+use Rattle.lines.proofs.Writes.{fitted-fits, fitted-over}
 use borrow.Author.Needs.{needs}
 use Rattle.lines.proofs.pattern.put_pattern.Statement.{statement}
 use Rattle.lines.proofs.pattern.put_pattern.Tie as tie
@@ -29,7 +29,7 @@ returns : tie.Need-returns
 returns c =
     let a = c .before .before .before .before .before .before .before .args in
     let line = filled (now (a .pattern)) (now (a .numbers)) in
-    lined-over (now (a .text)) (a .at) line (behind-over (length (now (a .text))) (a .at) (length line) (c .before .before .before .after .ensures) (c .before .before .after-pattern .ensures) (c .enum-told .given .1))
+    fitted-over (now (a .text)) (a .at) line (behind-over (length (now (a .text))) (a .at) (length line) (c .before .before .before .after .ensures) (c .before .before .after-pattern .ensures) (c .enum-told .given .1))
 
 same-length : tie.Need-same-length
 same-length c = search needs
@@ -38,7 +38,7 @@ returns-2 : tie.Need-returns-2
 returns-2 c =
     let a = c .before .before .before .before .before .before .before .before .before .before .before .args in
     let line = filled (now (a .pattern)) (now (a .numbers)) in
-    lined-fits (now (a .text)) (a .at) line (behind-left (length (now (a .text))) (a .at) (length line) (c .before .before .before .before .before .before .before .after .ensures) (c .before .before .before .before .before .before .after-pattern .ensures) (c .before .before .before .before .enum-told2 .given .1)) (c .before .before .put-filled .ensures)
+    fitted-fits (now (a .text)) (a .at) line (behind-left (length (now (a .text))) (a .at) (length line) (c .before .before .before .before .before .before .before .after .ensures) (c .before .before .before .before .before .before .after-pattern .ensures) (c .before .before .before .before .enum-told2 .given .1)) (c .before .before .put-filled .ensures)
 
 pub put-pattern-spec : {M : Type 1} → statement M
 put-pattern-spec =

@@ -1,7 +1,5 @@
 -- `lines::print::counts` meets its contract: it is the line `s` of its numbers. Assumes nothing.
-use denote.Ref.{now}
 use Rattle.lines.specs.Lines.{countsText}
-use Rattle.lines.proofs.Writes.{lined-front}
 use borrow.Author.Needs.{needs}
 use Rattle.lines.proofs.print.counts.Statement.{statement}
 use Rattle.lines.proofs.print.counts.Tie as tie
@@ -17,9 +15,7 @@ same-length c = search needs
 
 returns : tie.Need-returns
 unfolding countsText
-returns c =
-    let a = c .before .before .before .before .before .before .args in
-    lined-front (now (a .text)) (countsText (a .cnots) (a .rotations) (a .depth)) (c .before .before .put-line .ensures)
+returns c = c .before .before .put-line .ensures
 
 pub counts-spec : {M : Type 1} → statement M
 counts-spec = tie.close (tie.spec slice-aggregate-put-line put-line-requires same-length returns)

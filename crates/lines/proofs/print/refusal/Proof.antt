@@ -1,7 +1,5 @@
 -- `lines::print::refusal` meets its contract: it is the line `x` of its numbers. Assumes nothing.
-use denote.Ref.{now}
 use Rattle.lines.specs.Lines.{refusalText}
-use Rattle.lines.proofs.Writes.{lined-front}
 use borrow.Author.Needs.{needs}
 use Rattle.lines.proofs.print.refusal.Statement.{statement}
 use Rattle.lines.proofs.print.refusal.Tie as tie
@@ -17,9 +15,7 @@ same-length c = search needs
 
 returns : tie.Need-returns
 unfolding refusalText
-returns c =
-    let a = c .before .before .before .before .before .before .args in
-    lined-front (now (a .text)) (refusalText (a .number) (a .place)) (c .before .before .put-line .ensures)
+returns c = c .before .before .put-line .ensures
 
 pub refusal-spec : {M : Type 1} → statement M
 refusal-spec = tie.close (tie.spec slice-aggregate-put-line put-line-requires same-length returns)

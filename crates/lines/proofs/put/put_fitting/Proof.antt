@@ -5,7 +5,7 @@ use Prim.Native.Nat.{_+_, _-_, _≤_}
 use denote.Ref.{now}
 use lib.ListN.{length, getD, take, length-append}
 use Rattle.lines.specs.Lines.{digits, fieldsText, lineText}
-use Rattle.lines.proofs.Writes.{Wrote, wrote-then, wrote-none, fields-next, fields-part, fields-all, line-length}
+use Rattle.lines.proofs.Writes.{Wrote, wrote-then, wrote-nothing, fields-next, fields-part, fields-all, line-length}
 use borrow.Author.Needs.{needs}
 use native.Mathlib.Omega.{arith}
 use Rattle.lines.proofs.put.put_fitting.Statement.{statement}
@@ -22,7 +22,7 @@ put-requires c κs = omega (arith, line-length (c .before .before .before .args 
 
 loop-holds : tie.Need-loop-holds Inv-loop μ-loop
 unfolding fieldsText
-loop-holds c = (omega arith, refl, wrote-none (c .before .before .put .last .0) (c .before .before .put .result))
+loop-holds c = (omega arith, refl, wrote-nothing (c .before .before .put .last .0) (c .before .before .put .result))
 
 mul-put-field : tie.Need-mul-put-field Inv-loop μ-loop
 mul-put-field c = search needs

@@ -2,7 +2,7 @@
 use denote.Ref.{now}
 use lib.ListN.{length}
 use Rattle.lines.specs.Lines.{lineText}
-use Rattle.lines.proofs.Writes.{lined-fits, lined-over, line-over, line-left}
+use Rattle.lines.proofs.Writes.{fitted-fits, fitted-over, line-over, line-left}
 use borrow.Author.Needs.{needs}
 use Rattle.lines.proofs.put.put_line.Statement.{statement}
 use Rattle.lines.proofs.put.put_line.Tie as tie
@@ -27,7 +27,7 @@ put-fitting-requires c κs =
 returns : tie.Need-returns
 returns c =
     let a = c .before .before .before .before .before .before .args in
-    lined-over (now (a .text)) (a .at) (lineText (a .letter) (now (a .numbers)))
+    fitted-over (now (a .text)) (a .at) (lineText (a .letter) (now (a .numbers)))
     (line-over (length (now (a .text))) (a .at) (a .letter) (now (a .numbers)) (c .before .before .before .after .ensures) (c .before .before .after-line .ensures) (c .enum-told .given .1))
 
 same-length : tie.Need-same-length
@@ -36,7 +36,7 @@ same-length c = search needs
 returns-2 : tie.Need-returns-2
 returns-2 c =
     let a = c .before .before .before .before .before .before .before .before .before .before .args in
-    lined-fits (now (a .text)) (a .at) (lineText (a .letter) (now (a .numbers)))
+    fitted-fits (now (a .text)) (a .at) (lineText (a .letter) (now (a .numbers)))
     (line-left (length (now (a .text))) (a .at) (a .letter) (now (a .numbers)) (c .before .before .before .before .before .before .before .after .ensures) (c .before .before .before .before .before .before .after-line .ensures) (c .before .before .before .before .enum-told2 .given .1)) (c .before .before .put-fitting .ensures)
 
 pub put-line-spec : {M : Type 1} → statement M

@@ -2,7 +2,7 @@
 use mathlib.Core.Path.{sym, subst}
 use denote.Ref.{now}
 use lib.Seq.{length-take-le}
-use Rattle.lines.proofs.Writes.{Lined, fields-most, record-line}
+use Rattle.lines.proofs.Writes.{Fitted, fields-most, record-line}
 use borrow.Author.Needs.{needs}
 use Rattle.lines.proofs.records.put_record.Statement.{statement}
 use Rattle.lines.proofs.records.put_record.Tie as tie
@@ -35,7 +35,7 @@ returns : tie.Need-returns
 returns c =
     let a = c .before .before .before .before .before .before .before .before .args in
     let p = c .before .before .put-line in
-    subst (λ bs. Lined (now (a .text)) (a .at) bs (p .last .0) (p .result)) (record-line (a .x) (c .before .before .before .before .before .before .letter-of .ensures) (c .before .before .before .before .before .fields-of .ensures)) (p .ensures)
+    subst (λ bs. Fitted (now (a .text)) (a .at) bs (p .last .0) (p .result)) (record-line (a .x) (c .before .before .before .before .before .before .letter-of .ensures) (c .before .before .before .before .before .fields-of .ensures)) (p .ensures)
 
 pub put-record-spec : {M : Type 1} → statement M
 put-record-spec =

@@ -5,7 +5,7 @@ use Prim.Native.Nat.{_+_, _-_, _≤_}
 use denote.Ref.{now}
 use lib.ListN.{length, getD, take, length-append}
 use Rattle.lines.specs.Lines.{digits, fieldsText}
-use Rattle.lines.specs.Room.{roomAfter}
+use Rattle.lines.specs.Leeway.{roomAfter}
 use Rattle.lines.proofs.Rooms.{room-none, room-then}
 use Rattle.lines.proofs.Writes.{width-le, fields-next, fields-all}
 use borrow.Author.Needs.{needs}

@@ -6,7 +6,7 @@ use denote.Ref.{now}
 use lib.ListN.{length, getD, take, length-append}
 use lib.Seq.{length-take-le}
 use Rattle.lines.specs.Lines.{fieldsText, recordText, recordsText}
-use Rattle.lines.specs.Room.{roomAfter}
+use Rattle.lines.specs.Leeway.{roomAfter}
 use Rattle.lines.proofs.Rooms.{room-none, room-then}
 use Rattle.lines.proofs.Writes.{fields-most, record-length, records-next, records-all}
 use borrow.Author.Needs.{needs}

@@ -3,7 +3,7 @@ use Prim.Native.Nat.{_+_, _-_, _≤_, _<_}
 use lib.ListN.{length, drop}
 use Rattle.gathering.specs.Gather.{gatherFrom}
 use Rattle.nearest.specs.Choice.{leastOf}
-use Rattle.nearest.specs.Sure.{Whole, Told}
+use Rattle.nearest.specs.Sure.{Whole, Whenever}
 use Rattle.nearest.proofs.Counting.{Counting, counting-start, counting-next, counting-few, counting-over, counting-end}
 use Rattle.nearest.proofs.Wholes.{detour-few, bound-few, bound-most, bound-next, whole-next}
 use borrow.Author.Needs.{needs}
@@ -12,7 +12,7 @@ use Rattle.nearest.proofs.choice.count.Statement.{statement}
 use Rattle.nearest.proofs.choice.count.Tie as tie
 
 abbrev Inv-loop : tie.InvT-loop
-Inv-loop near order from len set whole x most k₀ earlier₀ left₀ n₀ bound₀ k earlier left n bound = (k < 20) × (from ≤ 400) × Counting near order from k earlier left n (length (gatherFrom near (drop from order) (len - 1) set x)) × Told whole (Whole near order from k earlier left) × (bound ≤ n + leastOf whole left)
+Inv-loop near order from len set whole x most k₀ earlier₀ left₀ n₀ bound₀ k earlier left n bound = (k < 20) × (from ≤ 400) × Counting near order from k earlier left n (length (gatherFrom near (drop from order) (len - 1) set x)) × Whenever whole (Whole near order from k earlier left) × (bound ≤ n + leastOf whole left)
 
 abbrev μ-loop : tie.MeasureT-loop
 μ-loop near order from len set whole x most k₀ earlier₀ left₀ n₀ bound₀ k earlier left n bound = k

@@ -4,7 +4,7 @@ use Prim.Native.Nat.{_-_, _≤_}
 use lib.ListN.{length}
 use native.Mathlib.Nat.{sub-zero}
 use Rattle.columns.specs.Pieces.{wrote}
-use Rattle.gathering.specs.Gather.{cnotsIn}
+use Rattle.gathering.specs.Gather.{cnotsFrom}
 use Rattle.nearest.specs.Moves.{layMoves}
 use Rattle.nearest.proofs.Moving.{move-next, move-end}
 use borrow.Author.Needs.{needs}
@@ -12,7 +12,7 @@ use Rattle.nearest.proofs.moves.lay_moves.Statement.{statement}
 use Rattle.nearest.proofs.moves.lay_moves.Tie as tie
 
 abbrev Inv-loop : tie.InvT-loop
-Inv-loop cols₀ angles out₀ at n to by a₀ i₀ cols out a i = (i ≤ n) × (length cols ≡ length cols₀) × (length out ≡ length out₀) × (wrote out a (layMoves angles (cnotsIn to by i (n - i)) cols) ≡ wrote out₀ at (layMoves angles (cnotsIn to by 0 n) cols₀))
+Inv-loop cols₀ angles out₀ at n to by a₀ i₀ cols out a i = (i ≤ n) × (length cols ≡ length cols₀) × (length out ≡ length out₀) × (wrote out a (layMoves angles (cnotsFrom to by i (n - i)) cols) ≡ wrote out₀ at (layMoves angles (cnotsFrom to by 0 n) cols₀))
 
 abbrev μ-loop : tie.MeasureT-loop
 μ-loop cols₀ angles out₀ at n to by a₀ i₀ cols out a i = n - i

@@ -1,8 +1,8 @@
 -- `qasm_console::printing::begin_drawing` meets its contract. Assumes nothing.
 use mathlib.Core.Path.{ap, _∙_}
 use Rattle.console.proofs.Fronts.{front-short}
-use Rattle.qasm_console.specs.Parts.{headCircuit, handedCircuit}
-use Rattle.qasm_console.proofs.Fronts.{prints-same}
+use Rattle.qasm_console.specs.Parts.{frontCircuit, handedCircuit}
+use Rattle.console.proofs.Choosing.{prints-same}
 use Rattle.qasm_console.proofs.Beginning.{circuit-read, circuit-unread}
 use borrow.Author.Needs.{needs}
 use Rattle.qasm_console.proofs.printing.begin_drawing.Statement.{statement}
@@ -28,7 +28,7 @@ refuse-requires c κs = search needs
 
 returns : tie.Need-returns
 returns c = circuit-read _ _ _ _ (c .before .before .before .before .before .before .before .before .before .read-arg .given .0 .1) _ (c .before .before .before .before .before .before .before .before .read .ensures .0) (c .before .before .before .before .before .before .before .before .read .ensures .1) _ _ _ _ (c .before .before .before .before .before .before .circuit .given .1)
-    (prints-same (ap (headCircuit _ _) (c .before .before .first .ensures)) (c .begin-gates .ensures .0))
+    (prints-same (ap (frontCircuit _ _) (c .before .before .first .ensures)) (c .begin-gates .ensures .0))
     (c .begin-gates .ensures .1 ∙ ap (handedCircuit _ _) (c .before .before .first .ensures))
 
 returns-2 : tie.Need-returns-2

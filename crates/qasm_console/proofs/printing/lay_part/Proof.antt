@@ -6,10 +6,9 @@ use lib.ListN.{length}
 use Rattle.tallies.specs.Tally.{boundOf}
 use Rattle.stretches.proofs.Judging.{lent-within}
 use Rattle.qasm_lines.specs.Spelling.{gatesText}
-use Rattle.console.proofs.Partly.{past-next, past-share, part-next, part-share}
-use Rattle.qasm_console.proofs.Fronts.{prints-same}
+use Rattle.console.proofs.Partly.{past-text, past-next, past-share, part-text, part-next, part-share, prints-none}
+use Rattle.console.proofs.Choosing.{prints-same}
 use Rattle.qasm_console.proofs.Sizes.{hadamard-most}
-use Rattle.qasm_console.proofs.Partly.{past-text, part-text, prints-none}
 use borrow.Author.Needs.{needs}
 use Rattle.qasm_console.proofs.printing.lay_part.Statement.{statement}
 use Rattle.qasm_console.proofs.printing.lay_part.Tie as tie
@@ -22,7 +21,7 @@ put-gates-requires c κs = search needs
 
 returns : tie.Need-returns
 unfolding boundOf
-returns c = (prints-same (past-text _ _ _ _ (c .before .before .before .before .before .before .args .from) (c .before .before .before .if1 .taken)) (prints-none (c .before .before .before .before .before .before .args .version) _ _ _ (c .before .before .put-gates-arg .given .0 .1) (c .put-gates .ensures)), past-next _ (c .before .before .before .before .before .before .args .couplers .now) _ (c .before .before .before .before .before .before .args .from) (c .before .before .before .if1 .taken), past-share _ _ _ (c .before .before .before .before .before .before .args .from) (c .before .before .before .if1 .taken))
+returns c = (prints-same (past-text (gatesText _) _ _ _ (c .before .before .before .before .before .before .args .from) (c .before .before .before .if1 .taken)) (prints-none _ _ _ (c .before .before .put-gates-arg .given .0 .1) (c .put-gates .ensures)), past-next _ (c .before .before .before .before .before .before .args .couplers .now) _ (c .before .before .before .before .before .before .args .from) (c .before .before .before .if1 .taken), past-share _ _ _ (c .before .before .before .before .before .before .args .from) (c .before .before .before .if1 .taken))
 
 stretch-at-requires : tie.Need-stretch-at-requires
 stretch-at-requires c κs = search needs
@@ -41,7 +40,7 @@ add-t19 c = search (needs, lent-within _ _ (c .before .before .before .before .b
 
 returns-2 : tie.Need-returns-2
 returns-2 c = (
-  prints-same (part-text _ _ _ _ (c .before .before .before .before .before .before .before .args .from) (c .before .before .before .before .if1 .left) _ _ (c .before .before .before .stretch-at .ensures) (c .before .before .hadamard-at .ensures)) (c .print-part .ensures .0),
+  prints-same (part-text (gatesText _) _ _ _ (c .before .before .before .before .before .before .before .args .from) (c .before .before .before .before .if1 .left) _ _ (c .before .before .before .stretch-at .ensures) (c .before .before .hadamard-at .ensures)) (c .print-part .ensures .0),
   part-next _ (c .before .before .before .before .before .before .before .args .couplers .now) _ (c .before .before .before .before .before .before .before .args .from) (c .before .before .before .before .if1 .left) _ _ (c .before .before .before .stretch-at .ensures) (c .before .before .hadamard-at .ensures),
   c .print-part .ensures .1 ∙ part-share _ _ _ (c .before .before .before .before .before .before .before .args .from) (c .before .before .before .before .if1 .left) _ _ (c .before .before .before .stretch-at .ensures) (c .before .before .hadamard-at .ensures),
 )

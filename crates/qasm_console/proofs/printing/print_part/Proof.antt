@@ -3,11 +3,10 @@ use Prim.Native.Nat.{ℕ}
 use lib.ListN.{replicate, length-replicate}
 use Rattle.tallies.specs.Tally.{boundOf, largest}
 use Rattle.stretches.proofs.Alone.{alone-fits, alone-long, alone-is}
-use Rattle.console.proofs.Choosing.{unless-passed}
+use Rattle.console.proofs.Choosing.{unless-passed, prints-same}
 use Rattle.console.proofs.Partly.{laid-passed, records-few, laid-share, refused-said, refused-share}
-use Rattle.qasm_console.proofs.Fronts.{prints-same}
 use Rattle.qasm_console.proofs.Sizes.{stretch-most}
-use Rattle.qasm_console.proofs.Partly.{both-printed}
+use Rattle.qasm_console.proofs.Partly.{gates-printed}
 use borrow.Author.Needs.{needs}
 use Rattle.qasm_console.proofs.printing.print_part.Statement.{statement}
 use Rattle.qasm_console.proofs.printing.print_part.Tie as tie
@@ -46,7 +45,7 @@ unfolding boundOf
 returns c =
     let z = laid-passed _ _ _ _ (length-replicate {A = ℕ} largest 0) _ (c .before .before .before .before .before .before .before .before .before .lay .ensures .0) _ (c .before .before .before .before .before .before .before .before .before .lay .ensures .1) _ _ _ _ _ (c .before .before .before .before .before .before .records .given .1) in (
       prints-same (unless-passed _ _ z)
-          (both-printed _ _ _ _ (c .before .before .before .before .before .before .before .before .before .before .before .before .before .before .args .out .now) _ _ _ _ (c .before .before .before .before .put-gates-arg .given .0 .1)
+          (gates-printed _ _ _ _ (c .before .before .before .before .before .before .before .before .before .before .before .before .before .before .args .out .now) _ _ _ _ (c .before .before .before .before .put-gates-arg .given .0 .1)
           (alone-is _ _ _ _ _ (length-replicate {A = ℕ} largest 0) _ (c .before .before .before .before .before .before .before .before .before .lay .ensures .0) (c .before .before .before .before .before .before .before .before .before .lay .ensures .1) _ _ _ _ _ (c .before .before .before .before .before .before .records .given .1))
           (records-few _ _ _ _ (length-replicate {A = ℕ} largest 0) _ (c .before .before .before .before .before .before .before .before .before .lay .ensures .0) _ (c .before .before .before .before .before .before .before .before .before .lay .ensures .1) _ _ _ _ _ (c .before .before .before .before .before .before .records .given .1))
           (stretch-most _ _ _ _ largest z) (c .before .before .before .before .before .before .before .before .before .before .before .before .before .before .pre) (c .before .before .put-gates .ensures .0) (c .before .before .put-gates .ensures .1) (c .put-gates2 .ensures .0) (c .put-gates2 .ensures .1)),

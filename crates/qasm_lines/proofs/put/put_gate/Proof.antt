@@ -4,7 +4,7 @@ use Prim.Native.Nat.{_/_}
 use native.Mathlib.Omega.{arith}
 use denote.Ref.{now}
 use lib.Seq.{length-take-le}
-use Rattle.lines.proofs.Writes.{Lined}
+use Rattle.lines.proofs.Writes.{Fitted}
 use Rattle.qasm_lines.proofs.Spelt.{pattern-most, gate-line}
 use borrow.Author.Needs.{needs}
 use Rattle.qasm_lines.proofs.put.put_gate.Statement.{statement}
@@ -38,7 +38,7 @@ returns : tie.Need-returns
 returns c =
     let a = c .before .before .before .before .before .before .before .before .before .before .args in
     let p = c .before .before .put-pattern in
-    subst (λ bs. Lined (now (a .text)) (a .at) bs (p .last .0) (p .result)) (gate-line (a .version) (a .x) (c .before .before .before .before .before .before .before .before .pattern-of .result) (c .before .before .before .before .before .before .before .before .pattern-of .ensures) (c .before .before .before .before .before .before .before .length-of .ensures) (c .before .before .before .before .before .before .numbers-of .ensures)) (p .ensures)
+    subst (λ bs. Fitted (now (a .text)) (a .at) bs (p .last .0) (p .result)) (gate-line (a .version) (a .x) (c .before .before .before .before .before .before .before .before .pattern-of .result) (c .before .before .before .before .before .before .before .before .pattern-of .ensures) (c .before .before .before .before .before .before .before .length-of .ensures) (c .before .before .before .before .before .before .numbers-of .ensures)) (p .ensures)
 
 pub put-gate-spec : {M : Type 1} → statement M
 put-gate-spec =

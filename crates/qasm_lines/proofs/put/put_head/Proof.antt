@@ -3,7 +3,7 @@ use mathlib.Core.Path.{sym, subst}
 use native.Mathlib.Omega.{arith}
 use denote.Ref.{now}
 use lib.Seq.{length-take-le}
-use Rattle.lines.proofs.Writes.{Lined}
+use Rattle.lines.proofs.Writes.{Fitted}
 use Rattle.qasm_lines.proofs.Spelt.{head-pattern-most, head-line}
 use borrow.Author.Needs.{needs}
 use Rattle.qasm_lines.proofs.put.put_head.Statement.{statement}
@@ -34,7 +34,7 @@ returns : tie.Need-returns
 returns c =
     let a = c .before .before .before .before .before .before .before .before .before .args in
     let p = c .before .before .put-pattern in
-    subst (λ bs. Lined (now (a .text)) 0 bs (p .last .0) (p .result)) (head-line (a .version) (a .n) (c .before .before .before .before .before .before .before .head-pattern .result) (c .before .before .before .before .before .before .before .head-pattern .ensures) (c .before .before .before .before .before .before .head-length .ensures)) (p .ensures)
+    subst (λ bs. Fitted (now (a .text)) 0 bs (p .last .0) (p .result)) (head-line (a .version) (a .n) (c .before .before .before .before .before .before .before .head-pattern .result) (c .before .before .before .before .before .before .before .head-pattern .ensures) (c .before .before .before .before .before .before .head-length .ensures)) (p .ensures)
 
 pub put-head-spec : {M : Type 1} → statement M
 put-head-spec =

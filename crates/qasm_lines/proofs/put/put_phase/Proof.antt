@@ -3,8 +3,8 @@ use mathlib.Core.Path.{sym, subst}
 use native.Mathlib.Omega.{arith}
 use denote.Ref.{now}
 use lib.Seq.{length-take-le}
-use Rattle.lines.proofs.Writes.{Lined}
-use Rattle.qasm_lines.proofs.Spelt.{phase-pattern-most, phase-line, phase-none}
+use Rattle.lines.proofs.Writes.{Fitted}
+use Rattle.qasm_lines.proofs.Spelt.{phase-pattern-most, phase-line, phase-text-none}
 use Rattle.qasm_lines.proofs.Placed.{no-line}
 use borrow.Author.Needs.{needs}
 use Rattle.qasm_lines.proofs.put.put_phase.Statement.{statement}
@@ -13,7 +13,7 @@ use Rattle.qasm_lines.proofs.put.put_phase.Tie as tie
 returns : tie.Need-returns
 returns c =
     let a = c .before .before .args in
-    subst (λ bs. Lined (now (a .text)) (a .at) bs (now (a .text)) (a .at)) (sym (phase-none (a .version) (a .phase) (c .if1 .taken))) (no-line (now (a .text)) (a .at))
+    subst (λ bs. Fitted (now (a .text)) (a .at) bs (now (a .text)) (a .at)) (sym (phase-text-none (a .version) (a .phase) (c .if1 .taken))) (no-line (now (a .text)) (a .at))
 
 phase-pattern-requires : tie.Need-phase-pattern-requires
 phase-pattern-requires c κs = search needs
@@ -43,7 +43,7 @@ returns-2 : tie.Need-returns-2
 returns-2 c =
     let a = c .before .before .before .before .before .before .before .before .before .before .args in
     let p = c .before .before .put-pattern in
-    subst (λ bs. Lined (now (a .text)) (a .at) bs (p .last .0) (p .result)) (phase-line (a .version) (a .phase) (c .before .before .before .before .before .before .before .phase-pattern .result) (c .before .before .before .before .before .before .before .before .if1 .left) (c .before .before .before .before .before .before .before .phase-pattern .ensures) (c .before .before .before .before .before .before .phase-length .ensures)) (p .ensures)
+    subst (λ bs. Fitted (now (a .text)) (a .at) bs (p .last .0) (p .result)) (phase-line (a .version) (a .phase) (c .before .before .before .before .before .before .before .phase-pattern .result) (c .before .before .before .before .before .before .before .before .if1 .left) (c .before .before .before .before .before .before .before .phase-pattern .ensures) (c .before .before .before .before .before .before .phase-length .ensures)) (p .ensures)
 
 pub put-phase-spec : {M : Type 1} → statement M
 put-phase-spec =

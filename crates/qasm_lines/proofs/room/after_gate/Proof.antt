@@ -4,7 +4,7 @@ use Prim.Native.Nat.{_/_}
 use native.Mathlib.Omega.{arith}
 use lib.ListN.{length}
 use lib.Seq.{length-take-le}
-use Rattle.lines.specs.Room.{roomAfter}
+use Rattle.lines.specs.Leeway.{roomAfter}
 use Rattle.qasm_lines.proofs.Spelt.{pattern-most, gate-line}
 use borrow.Author.Needs.{needs}
 use Rattle.qasm_lines.proofs.room.after_gate.Statement.{statement}

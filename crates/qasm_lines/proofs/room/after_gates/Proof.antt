@@ -3,7 +3,7 @@ use mathlib.Core.Path.{_≡_, refl}
 use Prim.Native.Nat.{_+_, _-_, _≤_}
 use denote.Ref.{now}
 use lib.ListN.{length, getD, drop}
-use Rattle.lines.specs.Room.{roomAfter}
+use Rattle.lines.specs.Leeway.{roomAfter}
 use Rattle.lines.proofs.Rooms.{room-turn, room-past}
 use Rattle.qasm_lines.specs.Spelling.{gateText, gatesText}
 use Rattle.qasm_lines.proofs.Placed.{gates-turn, gates-past}

@@ -3,7 +3,7 @@ use mathlib.Core.Path.{sym, ap, _∙_}
 use native.Mathlib.Omega.{arith}
 use lib.ListN.{length}
 use lib.Seq.{length-take-le}
-use Rattle.lines.specs.Room.{roomAfter}
+use Rattle.lines.specs.Leeway.{roomAfter}
 use Rattle.qasm_lines.proofs.Spelt.{head-pattern-most, head-line}
 use borrow.Author.Needs.{needs}
 use Rattle.qasm_lines.proofs.room.after_head.Statement.{statement}

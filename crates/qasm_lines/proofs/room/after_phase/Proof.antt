@@ -3,9 +3,9 @@ use mathlib.Core.Path.{sym, ap, _∙_}
 use native.Mathlib.Omega.{arith}
 use lib.ListN.{length}
 use lib.Seq.{length-take-le}
-use Rattle.lines.specs.Room.{roomAfter}
+use Rattle.lines.specs.Leeway.{roomAfter}
 use Rattle.lines.proofs.Rooms.{room-none}
-use Rattle.qasm_lines.proofs.Spelt.{phase-pattern-most, phase-line, phase-none}
+use Rattle.qasm_lines.proofs.Spelt.{phase-pattern-most, phase-line, phase-text-none}
 use borrow.Author.Needs.{needs}
 use Rattle.qasm_lines.proofs.room.after_phase.Statement.{statement}
 use Rattle.qasm_lines.proofs.room.after_phase.Tie as tie
@@ -13,7 +13,7 @@ use Rattle.qasm_lines.proofs.room.after_phase.Tie as tie
 returns : tie.Need-returns
 returns c =
     let a = c .before .args in
-    rw (phase-none (a .version) (a .phase) (c .if1 .taken)) (sym (room-none (a .room)))
+    rw (phase-text-none (a .version) (a .phase) (c .if1 .taken)) (sym (room-none (a .room)))
 
 phase-pattern-requires : tie.Need-phase-pattern-requires
 phase-pattern-requires c κs = search needs

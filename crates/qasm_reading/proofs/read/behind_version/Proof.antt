@@ -3,11 +3,12 @@ use mathlib.Core.Path.{sym, ap, _∙_}
 use mathlib.Core.Option.{some}
 use denote.Ref.{now}
 use lib.ListN.{length, drop}
+use Rattle.reading.specs.Readings.{lentAfter}
 use Rattle.words.specs.Words.{words}
-use Rattle.words.specs.Places.{leftAt}
-use Rattle.statements.specs.Statements.{includeOf}
+use Rattle.words.specs.Places.{wordsAt}
+use Rattle.statements.specs.Statements.{readInclude}
 use Rattle.qasm_reading.specs.Parsing.{included}
-use Rattle.qasm_reading.specs.Readings.{answerOf, gatesIn, listAfter}
+use Rattle.qasm_reading.specs.Readings.{answerOf, circuitGates, circuitVerdict}
 use Rattle.qasm_reading.proofs.Answers.{head-room, head-list, included-first, included-second, included-body}
 use borrow.Author.Needs.{needs}
 use Rattle.qasm_reading.proofs.read.behind_version.Statement.{statement}
@@ -54,10 +55,10 @@ returns c = let a = c .before .before .before .before .before .before .args in
     let s = now (a .text) in
     let old = now (a .gates) in
     let t = words (drop (a .at) s) in
-    let e = included-first (a .version) t (c .before .before .before .include .ensures) (ap (leftAt s) (c .before .enum-told .given .1)) in
+    let e = included-first (a .version) t (c .before .before .before .include .ensures) (ap (wordsAt s) (c .before .enum-told .given .1)) in
     record {
       answer = c .head-fault .ensures ∙ head-room s t (length old) ∙ sym (ap (answerOf s (length old)) e);
-      list = head-list s t (gatesIn (included (a .version) (includeOf (a .version) (some t)) t)) old (c .head-fault .ensures);
+      list = head-list s t (circuitGates (included (a .version) (readInclude (a .version) (some t)) t)) old (c .head-fault .ensures);
     }
 
 returns-2 : tie.Need-returns-2
@@ -66,10 +67,10 @@ returns-2 c = let a = c .before .before .before .before .before .before .before 
     let old = now (a .gates) in
     let t = words (drop (a .at) s) in
     let u = words (drop (c .before .before .before .before .before .i .given .0 .0) s) in
-    let e = included-second (a .version) t (c .before .before .before .before .before .before .before .include .ensures) u (ap (leftAt s) (c .before .before .before .before .before .i .given .1)) (c .before .before .before .register .ensures .got) (ap (leftAt s) (c .before .enum-told2 .given .1)) in
+    let e = included-second (a .version) t (c .before .before .before .before .before .before .before .include .ensures) u (ap (wordsAt s) (c .before .before .before .before .before .i .given .1)) (c .before .before .before .register .ensures .got) (ap (wordsAt s) (c .before .enum-told2 .given .1)) in
     record {
       answer = c .head-fault2 .ensures ∙ head-room s u (length old) ∙ sym (ap (answerOf s (length old)) e);
-      list = head-list s u (gatesIn (included (a .version) (includeOf (a .version) (some t)) t)) old (c .head-fault2 .ensures);
+      list = head-list s u (circuitGates (included (a .version) (readInclude (a .version) (some t)) t)) old (c .head-fault2 .ensures);
     }
 
 same-length : tie.Need-same-length
@@ -80,11 +81,11 @@ returns-3 c = let a = c .before .before .before .before .before .before .before 
     let s = now (a .text) in
     let old = now (a .gates) in
     let u = words (drop (c .before .before .before .before .before .before .before .before .before .before .i .given .0 .0) s) in
-    let k = ap (leftAt s) (c .before .before .before .before .before .before .r-next .given .1) in
-    let e = included-body (a .version) (words (drop (a .at) s)) (c .before .before .before .before .before .before .before .before .before .before .before .before .include .ensures) u (ap (leftAt s) (c .before .before .before .before .before .before .before .before .before .before .i .given .1)) (c .before .before .before .before .before .before .before .before .register .ensures .got) _ _ k (c .before .before .before .before .before .before .before .before .register .ensures .name _ k) in
+    let k = ap (wordsAt s) (c .before .before .before .before .before .before .r-next .given .1) in
+    let e = included-body (a .version) (words (drop (a .at) s)) (c .before .before .before .before .before .before .before .before .before .before .before .before .include .ensures) u (ap (wordsAt s) (c .before .before .before .before .before .before .before .before .before .before .i .given .1)) (c .before .before .before .before .before .before .before .before .register .ensures .got) _ _ k (c .before .before .before .before .before .before .before .before .register .ensures .name _ k) in
     record {
       answer = c .before .before .body .ensures .answer ∙ sym (ap (answerOf s (length old)) e);
-      list = c .before .before .body .ensures .list ∙ sym (ap (λ p. listAfter (c .before .before .body .result) (gatesIn p) old) e);
+      list = c .before .before .body .ensures .list ∙ sym (ap (λ p. lentAfter (circuitVerdict (c .before .before .body .result)) (circuitGates p) old) e);
     }
 
 pub behind-version-spec : {M : Type 1} → statement M

@@ -5,8 +5,8 @@ use denote.Ref.{now}
 use lib.ListN.{length, drop}
 use Rattle.lines.specs.Lent.{onto}
 use Rattle.words.specs.Words.{words}
-use Rattle.qasm_reading.specs.Parsing.{circuit, runOf, endOf, registered}
-use Rattle.qasm_reading.specs.Readings.{answerOf, gatesIn}
+use Rattle.qasm_reading.specs.Parsing.{circuit, statementRun, endCircuit, registered}
+use Rattle.qasm_reading.specs.Readings.{answerOf, circuitGates}
 use Rattle.qasm_reading.proofs.Answers.{end-angle, end-statement, end-done, room-short, room-long}
 use borrow.Author.Needs.{needs}
 use Rattle.qasm_reading.proofs.read.body.Statement.{statement}
@@ -25,11 +25,11 @@ returns : tie.Need-returns
 unfolding registered
 returns c = let a = c .before .before .before .before .before .before .before .before .args in
     let s = now (a .text) in
-    let r = runOf (a .version) (now (a .name)) (words (drop (a .at) s)) in
+    let r = statementRun (a .version) (now (a .name)) (words (drop (a .at) s)) in
     let l = words (drop (c .before .before .before .before .count .result .next) s) in
     record {
       answer = end-angle s (length (now (a .gates))) (a .version) (now (a .name)) (a .n) (r .records) (r .phase) l (c .before .before .before .line-of .ensures) (c .before .before .if1 .taken) (sym (c .before .bad-angle .ensures) ∙ c .if2 .taken)
-          ∙ ap (λ x. answerOf s (length (now (a .gates))) (endOf (a .version) (now (a .name)) (a .n) (r .records) (r .phase) x)) (c .before .before .before .before .count .ensures .2);
+          ∙ ap (λ x. answerOf s (length (now (a .gates))) (endCircuit (a .version) (now (a .name)) (a .n) (r .records) (r .phase) x)) (c .before .before .before .before .count .ensures .2);
       list = refl;
     }
 
@@ -37,11 +37,11 @@ returns-2 : tie.Need-returns-2
 unfolding registered
 returns-2 c = let a = c .before .before .before .before .before .before .before .before .args in
     let s = now (a .text) in
-    let r = runOf (a .version) (now (a .name)) (words (drop (a .at) s)) in
+    let r = statementRun (a .version) (now (a .name)) (words (drop (a .at) s)) in
     let l = words (drop (c .before .before .before .before .count .result .next) s) in
     record {
       answer = end-statement s (length (now (a .gates))) (a .version) (now (a .name)) (a .n) (r .records) (r .phase) l (c .before .before .before .line-of .ensures) (c .before .before .if1 .taken) (sym (c .before .bad-angle .ensures) ∙ c .if2 .left)
-          ∙ ap (λ x. answerOf s (length (now (a .gates))) (endOf (a .version) (now (a .name)) (a .n) (r .records) (r .phase) x)) (c .before .before .before .before .count .ensures .2);
+          ∙ ap (λ x. answerOf s (length (now (a .gates))) (endCircuit (a .version) (now (a .name)) (a .n) (r .records) (r .phase) x)) (c .before .before .before .before .count .ensures .2);
       list = refl;
     }
 
@@ -49,13 +49,13 @@ returns-3 : tie.Need-returns-3
 unfolding registered
 returns-3 c = let a = c .before .before .before .before .before .before .before .before .args in
     let s = now (a .text) in
-    let r = runOf (a .version) (now (a .name)) (words (drop (a .at) s)) in
+    let r = statementRun (a .version) (now (a .name)) (words (drop (a .at) s)) in
     let l = words (drop (c .before .before .before .before .count .result .next) s) in
-    let e : endOf (a .version) (now (a .name)) (a .n) (r .records) (r .phase) l ≡ circuit (a .version) (a .n) (r .records) (r .phase)
+    let e : endCircuit (a .version) (now (a .name)) (a .n) (r .records) (r .phase) l ≡ circuit (a .version) (a .n) (r .records) (r .phase)
     = end-done s (length (now (a .gates))) (a .version) (now (a .name)) (a .n) (r .records) (r .phase) l (c .before .before .before .line-of .ensures) (c .before .before .if1 .left) in
     record {
       answer = room-short s (length (now (a .gates))) (a .version) (a .n) (r .records) (r .phase) (omega (arith, c .before .before .before .before .count .ensures .0, c .if3 .taken))
-          ∙ sym (ap (answerOf s (length (now (a .gates)))) (ap (endOf (a .version) (now (a .name)) (a .n) (r .records) (r .phase)) (sym (c .before .before .before .before .count .ensures .2)) ∙ e));
+          ∙ sym (ap (answerOf s (length (now (a .gates)))) (ap (endCircuit (a .version) (now (a .name)) (a .n) (r .records) (r .phase)) (sym (c .before .before .before .before .count .ensures .2)) ∙ e));
       list = refl;
     }
 
@@ -69,14 +69,14 @@ returns-4 : tie.Need-returns-4
 unfolding registered
 returns-4 c = let a = c .before .before .before .before .before .before .before .before .before .before .before .before .args in
     let s = now (a .text) in
-    let r = runOf (a .version) (now (a .name)) (words (drop (a .at) s)) in
+    let r = statementRun (a .version) (now (a .name)) (words (drop (a .at) s)) in
     let l = words (drop (c .before .before .before .before .before .before .before .before .count .result .next) s) in
-    let e : endOf (a .version) (now (a .name)) (a .n) (r .records) (r .phase) l ≡ circuit (a .version) (a .n) (r .records) (r .phase)
+    let e : endCircuit (a .version) (now (a .name)) (a .n) (r .records) (r .phase) l ≡ circuit (a .version) (a .n) (r .records) (r .phase)
     = end-done s (length (now (a .gates))) (a .version) (now (a .name)) (a .n) (r .records) (r .phase) l (c .before .before .before .before .before .before .before .line-of .ensures) (c .before .before .before .before .before .before .if1 .left) in
-    let d = ap (endOf (a .version) (now (a .name)) (a .n) (r .records) (r .phase)) (sym (c .before .before .before .before .before .before .before .before .count .ensures .2)) ∙ e in
+    let d = ap (endCircuit (a .version) (now (a .name)) (a .n) (r .records) (r .phase)) (sym (c .before .before .before .before .before .before .before .before .count .ensures .2)) ∙ e in
     record {
       answer = room-long s (length (now (a .gates))) (a .version) (a .n) (r .records) (r .phase) (c .before .before .before .before .before .before .before .before .count .ensures .0) (c .before .before .before .before .before .before .before .before .count .ensures .1) (c .before .before .before .before .if3 .left) ∙ sym (ap (answerOf s (length (now (a .gates)))) d);
-      list = c .before .before .fill .ensures ∙ sym (ap (λ p. onto (gatesIn p) (now (a .gates))) d);
+      list = c .before .before .fill .ensures ∙ sym (ap (λ p. onto (circuitGates p) (now (a .gates))) d);
     }
 
 pub body-spec : {M : Type 1} → statement M

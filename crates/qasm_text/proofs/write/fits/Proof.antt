@@ -1,7 +1,7 @@
 -- `qasm_text::write::fits` meets its contract: the room behind the head, the gates and the common phase is the room behind the text. Assumes nothing.
 use mathlib.Core.Path.{sym, ap, _∙_}
 use denote.Ref.{now}
-use Rattle.lines.specs.Room.{isLeft}
+use Rattle.lines.specs.Leeway.{isLeft}
 use Rattle.qasm_text.proofs.Fitting.{circuit-left}
 use borrow.Author.Needs.{needs}
 use Rattle.qasm_text.proofs.write.fits.Statement.{statement}

@@ -8,7 +8,7 @@ use lib.ListN.{length, drop, length-drop, drop-of-length-le}
 use Rattle.reading.specs.Parsing.{misfit, runOf}
 use Rattle.lines.specs.Lent.{onto}
 use Rattle.reading.specs.Readings.{couplersIn}
-use Rattle.reading.proofs.Answers.{run-length}
+use Rattle.reading.proofs.Answers.{line-run-length}
 use Rattle.reading.proofs.ListingAnswers.{listed-misfit, listed-whole, listing-long, listing-line, listing-room, listing-read}
 use borrow.Author.Needs.{needs}
 use Rattle.reading.proofs.couplers.read_couplers.Statement.{statement}
@@ -21,7 +21,7 @@ count-requires : tie.Need-count-requires
 count-requires c κs = search needs
 
 add-t7 : tie.Need-add-t7
-add-t7 c = omega (arith, c .before .before .before .count .ensures .0, run-length false (now (c .before .before .before .before .before .before .before .args .text)), c .before .before .before .before .if1 .left)
+add-t7 c = omega (arith, c .before .before .before .count .ensures .0, line-run-length false (now (c .before .before .before .before .before .before .before .args .text)), c .before .before .before .before .if1 .left)
 
 returns-2 : tie.Need-returns-2
 returns-2 c =
@@ -39,8 +39,8 @@ returns-3 c =
 fill-requires : tie.Need-fill-requires
 fill-requires c κs = search needs
 
-same-length : tie.Need-same-length
-same-length c = search needs
+repeated-length : tie.Need-same-length
+repeated-length c = search needs
 
 returns-4 : tie.Need-returns-4
 returns-4 c =
@@ -60,5 +60,5 @@ read-couplers-spec =
     returns-2
     returns-3
     fill-requires
-    same-length
+    repeated-length
     returns-4)

@@ -8,11 +8,11 @@ use Prim.Native.Nat.{ℕ, _+_, _≤_}
 use denote.Ref.{now}
 use lib.ListN.{length, drop, length-drop, drop-of-length-le}
 use Rattle.reading.specs.Limits.{mostBytes}
-use Rattle.reading.specs.Parsing.{misfit, job, headOf, runOf, parsed}
+use Rattle.reading.specs.Parsing.{misfit, job, readHead, runOf, parsed}
 use Rattle.spots.specs.Places.{restAt}
 use Rattle.lines.specs.Lent.{onto}
 use Rattle.reading.specs.Readings.{couplersIn, gatesIn}
-use Rattle.reading.proofs.Answers.{run-length, answer-long, answer-line, parsed-first, parsed-misfit, parsed-job, answer-room, answer-room-too, answer-job}
+use Rattle.reading.proofs.Answers.{line-run-length, answer-long, answer-line, parsed-first, parsed-misfit, parsed-job, answer-room, answer-room-too, answer-job}
 use borrow.Author.Needs.{needs}
 use Rattle.reading.proofs.read.read.Statement.{statement}
 use Rattle.reading.proofs.read.read.Tie as tie
@@ -28,14 +28,14 @@ module _ (x : tie.After-count2) where
   abbrev M : List ℕ
   M = drop (x .before .count .result .next) S
 
-  first : headOf S .rest ≡ some T
+  first : readHead S .rest ≡ some T
   first = sym (ap (λ g. g .rest) (x .before .before .before .before .before .head .ensures)) ∙ ap (restAt S) (x .before .before .before .first .given .1)
 
   short : length S ≤ mostBytes
   short = x .before .before .before .before .before .before .if1 .left
 
   bound : x .before .count .result .count + x .count2 .result .count ≤ mostBytes
-  bound = omega (arith, short, x .before .count .ensures .0, ap length (x .before .count .ensures .1), x .count2 .ensures .0, run-length false T, run-length true M, length-drop (x .before .before .before .first .given .0 .0) S)
+  bound = omega (arith, short, x .before .count .ensures .0, ap length (x .before .count .ensures .1), x .count2 .ensures .0, line-run-length false T, line-run-length true M, length-drop (x .before .before .before .first .given .0 .0) S)
 
   whole : length S ≤ x .count2 .result .next → parsed S ≡ job (x .before .before .before .before .before .head .result .value) (runOf false T .records) (runOf true M .records)
   whole h =
@@ -104,8 +104,8 @@ returns-5 c =
     let a = h .before .before .before .before .before .args in
     (answer-line (now (a .text)) _ _ _ (h .before .if1 .left) (parsed-first (now (a .text)) (sym (ap (λ g. g .rest) (h .head .ensures)) ∙ ap (restAt (now (a .text))) (c .enum-told .given .1))), refl, refl)
 
-same-length : tie.Need-same-length
-same-length c = search needs
+repeated-length : tie.Need-same-length
+repeated-length c = search needs
 
 same-length-2 : tie.Need-same-length-2
 same-length-2 c = search needs
@@ -140,6 +140,6 @@ read-spec =
     fill-requires-2
     cast-t14
     returns-5
-    same-length
+    repeated-length
     same-length-2
     returns-6)

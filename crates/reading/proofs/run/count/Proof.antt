@@ -5,21 +5,21 @@ use native.Mathlib.Omega.{arith}
 use borrow.Author.Needs.{needs}
 use denote.Ref.{now}
 use lib.ListN.{length, drop, length-drop}
-use Rattle.reading.specs.Parsing.{oneOf}
+use Rattle.reading.specs.Parsing.{readOne}
 use Rattle.spots.specs.Places.{restAt}
 use Rattle.reading.proofs.Lines.{one-short}
-use Rattle.reading.proofs.Loops.{Counting, count-start, count-step, count-done}
+use Rattle.reading.proofs.Loops.{CountingLines, count-start, count-step, count-done}
 use Rattle.reading.proofs.run.count.Statement.{statement}
 use Rattle.reading.proofs.run.count.Tie as tie
 
 abbrev Inv-loop : tie.InvT-loop
-Inv-loop s from gates n₀ at₀ n at = Counting gates (drop from s) n (drop at s)
+Inv-loop s from gates n₀ at₀ n at = CountingLines gates (drop from s) n (drop at s)
 
 abbrev μ-loop : tie.MeasureT-loop
 μ-loop s from gates n₀ at₀ n at = length (drop at s)
 
 step : (c : tie.After-known-told Inv-loop μ-loop)
-    → oneOf (c .before .before .before .before .before .before .args .gates) (drop (c .before .before .before .before .loop .at) (now (c .before .before .before .before .before .before .args .text))) .rest
+    → readOne (c .before .before .before .before .before .before .args .gates) (drop (c .before .before .before .before .loop .at) (now (c .before .before .before .before .before .before .args .text))) .rest
     ≡ some (drop (c .before .next .given .0 .0) (now (c .before .before .before .before .before .before .args .text)))
 step c = sym (ap (λ g. g .rest) (c .before .before .before .one .ensures)) ∙ ap (restAt (now (c .before .before .before .before .before .before .args .text))) (c .before .next .given .1)
 

@@ -6,21 +6,21 @@ use Prim.Native.Nat.{_+_, _<_}
 use borrow.Author.Needs.{needs}
 use denote.Ref.{now}
 use lib.ListN.{length, drop, set}
-use Rattle.reading.specs.Parsing.{oneOf}
+use Rattle.reading.specs.Parsing.{readOne}
 use Rattle.spots.specs.Places.{restAt}
 use Rattle.reading.proofs.Lines.{one-short}
-use Rattle.reading.proofs.Loops.{Filling, fill-start, fill-step, fill-room, fill-done}
+use Rattle.reading.proofs.Loops.{FillingLines, fill-start, fill-step, fill-room, fill-done}
 use Rattle.reading.proofs.run.fill.Statement.{statement}
 use Rattle.reading.proofs.run.fill.Tie as tie
 
 abbrev Inv-loop : tie.InvT-loop
-Inv-loop s from gates out₀ n₀ at₀ out n at = Filling gates (drop from s) out₀ out n (drop at s)
+Inv-loop s from gates out₀ n₀ at₀ out n at = FillingLines gates (drop from s) out₀ out n (drop at s)
 
 abbrev μ-loop : tie.MeasureT-loop
 μ-loop s from gates out₀ n₀ at₀ out n at = length (drop at s)
 
 module _ (c : tie.After-known-told Inv-loop μ-loop) where
-  step : oneOf (c .before .before .before .before .before .before .before .args .gates) (drop (c .before .before .before .before .loop .at) (now (c .before .before .before .before .before .before .before .args .text))) .rest
+  step : readOne (c .before .before .before .before .before .before .before .args .gates) (drop (c .before .before .before .before .loop .at) (now (c .before .before .before .before .before .before .before .args .text))) .rest
       ≡ some (drop (c .before .next .given .0 .0) (now (c .before .before .before .before .before .before .before .args .text)))
   step = sym (ap (λ g. g .rest) (c .before .before .before .one .ensures)) ∙ ap (restAt (now (c .before .before .before .before .before .before .before .args .text))) (c .before .next .given .1)
 
@@ -42,8 +42,8 @@ one-requires c κs = search needs
 enum-told : tie.Need-enum-told Inv-loop μ-loop
 enum-told c = search needs
 
-same-length : tie.Need-same-length Inv-loop μ-loop
-same-length c = c .before .before .before .loop .inv .size
+repeated-length : tie.Need-same-length Inv-loop μ-loop
+repeated-length c = c .before .before .before .loop .inv .size
 
 returns : tie.Need-returns Inv-loop μ-loop
 returns c =
@@ -71,7 +71,7 @@ loop-again : tie.Need-loop-again Inv-loop μ-loop
 loop-again c =
     let l = c .before .before .before .before in
     let a = l .before .before .before .args in
-    subst (λ v. Filling (a .gates) (drop (a .from) (now (a .text))) (now (a .out)) (set (l .loop .out) (l .loop .n) v) (l .loop .n + 1) (drop (c .before .next .given .0 .0) (now (a .text))))
+    subst (λ v. FillingLines (a .gates) (drop (a .from) (now (a .text))) (now (a .out)) (set (l .loop .out) (l .loop .n) v) (l .loop .n + 1) (drop (c .before .next .given .0 .0) (now (a .text))))
     (sym (ap (λ g. g .value) (c .before .before .before .one .ensures)))
     (fill-step (a .gates) (drop (a .from) (now (a .text))) (now (a .out)) (l .loop .out) (l .loop .n) (drop (l .loop .at) (now (a .text))) (drop (c .before .next .given .0 .0) (now (a .text))) (l .loop .inv) (step c) (room c))
 
@@ -84,7 +84,7 @@ fill-spec =
     loop-holds
     one-requires
     enum-told
-    same-length
+    repeated-length
     returns
     enum-known-next
     mul-out

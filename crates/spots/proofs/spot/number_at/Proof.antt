@@ -6,13 +6,13 @@ use native.Mathlib.Omega.{arith}
 use borrow.Author.Needs.{needs}
 use denote.Ref.{now}
 use lib.ListN.{length, getD, drop}
-use Rattle.spots.specs.Numbers.{readNumber, moreOf}
+use Rattle.spots.specs.Numbers.{readNumber, moreDigits}
 use Rattle.spots.proofs.Steps.{digit-in, digit-le, digit-lt, number-zero, number-none, number-more, more-end, more-on, more-over}
 use Rattle.spots.proofs.spot.number_at.Statement.{statement}
 use Rattle.spots.proofs.spot.number_at.Tie as tie
 
 abbrev Inv-loop : tie.InvT-loop
-Inv-loop s from most first v₀ at₀ v at = (v ≤ most) × (readNumber most (some (drop from s)) ≡ moreOf most v (drop at s))
+Inv-loop s from most first v₀ at₀ v at = (v ≤ most) × (readNumber most (some (drop from s)) ≡ moreDigits most v (drop at s))
 
 abbrev μ-loop : tie.MeasureT-loop
 μ-loop s from most first v₀ at₀ v at = length s - at

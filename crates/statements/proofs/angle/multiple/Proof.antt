@@ -1,6 +1,6 @@
 -- `statements::angle::multiple` meets its contract. Assumes nothing.
 use denote.Ref.{now}
-use Rattle.words.specs.Places.{leftAt}
+use Rattle.words.specs.Places.{wordsAt}
 use Rattle.statements.proofs.Chains.{multiple-chain}
 use borrow.Author.Needs.{needs}
 use Rattle.statements.proofs.angle.multiple.Statement.{statement}
@@ -16,7 +16,7 @@ count-requires : tie.Need-count-requires
 count-requires c κs = search needs
 
 returns : tie.Need-returns
-returns c = multiple-chain (leftAt (now (c .before .before .before .before .args .text)) (c .before .before .before .before .args .from)) (c .before .before .before .before .args .scale) (c .before .before .before .before .args .minus) (c .before .before .times .ensures) (c .before .over .ensures) (c .count .ensures)
+returns c = multiple-chain (wordsAt (now (c .before .before .before .before .args .text)) (c .before .before .before .before .args .from)) (c .before .before .before .before .args .scale) (c .before .before .before .before .args .minus) (c .before .before .times .ensures) (c .before .over .ensures) (c .count .ensures)
 
 pub multiple-spec : {M : Type 1} → statement M
 multiple-spec = tie.close (tie.spec times-requires over-requires count-requires returns)

@@ -1,7 +1,7 @@
 -- `statements::angle::times` meets its contract. Assumes nothing.
 use mathlib.Core.Path.{ap}
 use denote.Ref.{now}
-use Rattle.words.specs.Places.{leftAt}
+use Rattle.words.specs.Places.{wordsAt}
 use Rattle.statements.proofs.Chains.{times-once, times-many, times-zero}
 use borrow.Author.Needs.{needs}
 use Rattle.statements.proofs.angle.times.Statement.{statement}
@@ -29,13 +29,13 @@ mark-requires : tie.Need-mark-requires
 mark-requires c κs = search needs
 
 returns : tie.Need-returns
-returns c = times-once (leftAt (now (c .before .before .before .before .args .text)) (c .before .before .before .before .args .from)) (c .before .before .before .before .args .scale) (c .before .before .pi .ensures) (ap (leftAt (now (c .before .before .before .before .args .text))) (c .enum-told .given .1))
+returns c = times-once (wordsAt (now (c .before .before .before .before .args .text)) (c .before .before .before .before .args .from)) (c .before .before .before .before .args .scale) (c .before .before .pi .ensures) (ap (wordsAt (now (c .before .before .before .before .args .text))) (c .enum-told .given .1))
 
 returns-2 : tie.Need-returns-2
-returns-2 c = times-many (leftAt (now (c .before .before .before .before .before .before .before .args .text)) (c .before .before .before .before .before .before .before .args .from)) (c .before .before .before .before .before .before .before .args .scale) (c .before .before .before .before .before .pi .ensures) (ap (leftAt (now (c .before .before .before .before .before .before .before .args .text))) (c .before .before .before .enum-told2 .given .1)) (c .before .before .many .ensures) (ap (leftAt (now (c .before .before .before .before .before .before .before .args .text))) (c .enum-told3 .given .1))
+returns-2 c = times-many (wordsAt (now (c .before .before .before .before .before .before .before .args .text)) (c .before .before .before .before .before .before .before .args .from)) (c .before .before .before .before .before .before .before .args .scale) (c .before .before .before .before .before .pi .ensures) (ap (wordsAt (now (c .before .before .before .before .before .before .before .args .text))) (c .before .before .before .enum-told2 .given .1)) (c .before .before .many .ensures) (ap (wordsAt (now (c .before .before .before .before .before .before .before .args .text))) (c .enum-told3 .given .1))
 
 returns-3 : tie.Need-returns-3
-returns-3 c = times-zero (leftAt (now (c .before .before .before .before .before .before .before .before .args .text)) (c .before .before .before .before .before .before .before .before .args .from)) (c .before .before .before .before .before .before .before .before .args .scale) (c .before .before .before .before .before .before .pi .ensures) (ap (leftAt (now (c .before .before .before .before .before .before .before .before .args .text))) (c .before .before .before .before .enum-told2 .given .1)) (c .before .before .before .many .ensures) (ap (leftAt (now (c .before .before .before .before .before .before .before .before .args .text))) (c .before .enum-told4 .given .1)) (c .mark .ensures)
+returns-3 c = times-zero (wordsAt (now (c .before .before .before .before .before .before .before .before .args .text)) (c .before .before .before .before .before .before .before .before .args .from)) (c .before .before .before .before .before .before .before .before .args .scale) (c .before .before .before .before .before .before .pi .ensures) (ap (wordsAt (now (c .before .before .before .before .before .before .before .before .args .text))) (c .before .before .before .before .enum-told2 .given .1)) (c .before .before .before .many .ensures) (ap (wordsAt (now (c .before .before .before .before .before .before .before .before .args .text))) (c .before .enum-told4 .given .1)) (c .mark .ensures)
 
 pub times-spec : {M : Type 1} → statement M
 times-spec =

@@ -4,7 +4,7 @@ use denote.Ref.{now}
 use lib.ListN.{drop}
 use mathlib.Core.Option.{some}
 use Rattle.words.specs.Words.{words}
-use Rattle.words.specs.Places.{leftAt}
+use Rattle.words.specs.Places.{wordsAt}
 use Rattle.statements.proofs.Ends.{bad-there, bad-not}
 use borrow.Author.Needs.{needs}
 use Rattle.statements.proofs.gate.bad_in.Statement.{statement}
@@ -23,10 +23,10 @@ enum-told : tie.Need-enum-told
 enum-told c = search needs
 
 returns : tie.Need-returns
-returns c = bad-there (now (c .before .before .before .before .before .before .before .before .args .name)) (c .before .before .before .before .before .before .before .before .args .alone) (now (c .before .before .before .before .before .before .before .before .args .word)) (some (words (drop (c .before .before .before .before .before .before .before .before .args .at) (now (c .before .before .before .before .before .before .before .before .args .text))))) (c .before .before .before .before .opening .ensures) (ap (leftAt (now (c .before .before .before .before .before .before .before .before .args .text))) (c .before .before .p .given .1)) (c .ends-in .ensures)
+returns c = bad-there (now (c .before .before .before .before .before .before .before .before .args .name)) (c .before .before .before .before .before .before .before .before .args .alone) (now (c .before .before .before .before .before .before .before .before .args .word)) (some (words (drop (c .before .before .before .before .before .before .before .before .args .at) (now (c .before .before .before .before .before .before .before .before .args .text))))) (c .before .before .before .before .opening .ensures) (ap (wordsAt (now (c .before .before .before .before .before .before .before .before .args .text))) (c .before .before .p .given .1)) (c .ends-in .ensures)
 
 returns-2 : tie.Need-returns-2
-returns-2 c = bad-not (now (c .before .before .before .before .before .before .args .name)) (c .before .before .before .before .before .before .args .alone) (now (c .before .before .before .before .before .before .args .word)) (some (words (drop (c .before .before .before .before .before .before .args .at) (now (c .before .before .before .before .before .before .args .text))))) (c .before .before .opening .ensures) (ap (leftAt (now (c .before .before .before .before .before .before .args .text))) (c .enum-told .given .1))
+returns-2 c = bad-not (now (c .before .before .before .before .before .before .args .name)) (c .before .before .before .before .before .before .args .alone) (now (c .before .before .before .before .before .before .args .word)) (some (words (drop (c .before .before .before .before .before .before .args .at) (now (c .before .before .before .before .before .before .args .text))))) (c .before .before .opening .ensures) (ap (wordsAt (now (c .before .before .before .before .before .before .args .text))) (c .enum-told .given .1))
 
 pub bad-in-spec : {M : Type 1} → statement M
 bad-in-spec =

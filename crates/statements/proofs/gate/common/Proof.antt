@@ -1,6 +1,6 @@
 -- `statements::gate::common` meets its contract. Assumes nothing.
 use denote.Ref.{now}
-use Rattle.words.specs.Places.{leftAt}
+use Rattle.words.specs.Places.{wordsAt}
 use Rattle.statements.proofs.Chains.{common-chain}
 use borrow.Author.Needs.{needs}
 use Rattle.statements.proofs.gate.common.Statement.{statement}
@@ -22,7 +22,7 @@ mark-requires-2 : tie.Need-mark-requires-2
 mark-requires-2 c κs = search needs
 
 returns : tie.Need-returns
-returns c = common-chain (leftAt (now (c .before .before .before .before .before .before .args .text)) (c .before .before .before .before .before .before .args .from)) (c .before .before .before .opening .ensures) (c .before .before .angle .ensures) (c .before .mark .ensures) (c .mark2 .ensures)
+returns c = common-chain (wordsAt (now (c .before .before .before .before .before .before .args .text)) (c .before .before .before .before .before .before .args .from)) (c .before .before .before .opening .ensures) (c .before .before .angle .ensures) (c .before .mark .ensures) (c .mark2 .ensures)
 
 pub common-spec : {M : Type 1} → statement M
 common-spec =

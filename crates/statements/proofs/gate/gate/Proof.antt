@@ -4,7 +4,7 @@ use denote.Ref.{now}
 use lib.ListN.{drop}
 use mathlib.Core.Option.{some}
 use Rattle.words.specs.Words.{words}
-use Rattle.words.specs.Places.{leftAt}
+use Rattle.words.specs.Places.{wordsAt}
 use Rattle.statements.proofs.Chains.{gate-plain, gate-rotation}
 use borrow.Author.Needs.{needs}
 use Rattle.statements.proofs.gate.gate.Statement.{statement}
@@ -23,10 +23,10 @@ rotation-requires : tie.Need-rotation-requires
 rotation-requires c κs = search needs
 
 returns : tie.Need-returns
-returns c = gate-plain (some (words (drop (c .before .before .before .before .before .args .at) (now (c .before .before .before .before .before .args .text))))) (now (c .before .before .before .before .before .args .name)) (c .before .before .before .before .before .args .version) (c .before .before .plain .ensures) (ap (leftAt (now (c .before .before .before .before .before .args .text))) (c .enum-told .given .1))
+returns c = gate-plain (some (words (drop (c .before .before .before .before .before .args .at) (now (c .before .before .before .before .before .args .text))))) (now (c .before .before .before .before .before .args .name)) (c .before .before .before .before .before .args .version) (c .before .before .plain .ensures) (ap (wordsAt (now (c .before .before .before .before .before .args .text))) (c .enum-told .given .1))
 
 returns-2 : tie.Need-returns-2
-returns-2 c = gate-rotation (some (words (drop (c .before .before .before .before .before .before .args .at) (now (c .before .before .before .before .before .before .args .text))))) (now (c .before .before .before .before .before .before .args .name)) (c .before .before .before .before .before .before .args .version) (c .before .before .before .plain .ensures) (ap (leftAt (now (c .before .before .before .before .before .before .args .text))) (c .before .enum-told2 .given .1)) (c .rotation .ensures)
+returns-2 c = gate-rotation (some (words (drop (c .before .before .before .before .before .before .args .at) (now (c .before .before .before .before .before .before .args .text))))) (now (c .before .before .before .before .before .before .args .name)) (c .before .before .before .before .before .before .args .version) (c .before .before .before .plain .ensures) (ap (wordsAt (now (c .before .before .before .before .before .before .args .text))) (c .before .enum-told2 .given .1)) (c .rotation .ensures)
 
 pub gate-spec : {M : Type 1} → statement M
 gate-spec =

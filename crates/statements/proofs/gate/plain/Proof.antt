@@ -1,7 +1,7 @@
 -- `statements::gate::plain` meets its contract. Assumes nothing.
 use mathlib.Core.Path.{ap}
 use denote.Ref.{now}
-use Rattle.words.specs.Places.{leftAt}
+use Rattle.words.specs.Places.{wordsAt}
 use Rattle.statements.proofs.Chains.{plain-cnot, plain-x, plain-hadamard}
 use borrow.Author.Needs.{needs}
 use Rattle.statements.proofs.gate.plain.Statement.{statement}
@@ -29,13 +29,13 @@ single-requires-2 : tie.Need-single-requires-2
 single-requires-2 c κs = search needs
 
 returns : tie.Need-returns
-returns c = plain-cnot (leftAt (now (c .before .before .before .before .before .args .text)) (c .before .before .before .before .before .args .from)) (now (c .before .before .before .before .before .args .name)) (c .before .before .cnot .ensures) (ap (leftAt (now (c .before .before .before .before .before .args .text))) (c .enum-told .given .1))
+returns c = plain-cnot (wordsAt (now (c .before .before .before .before .before .args .text)) (c .before .before .before .before .before .args .from)) (now (c .before .before .before .before .before .args .name)) (c .before .before .cnot .ensures) (ap (wordsAt (now (c .before .before .before .before .before .args .text))) (c .enum-told .given .1))
 
 returns-2 : tie.Need-returns-2
-returns-2 c = plain-x (leftAt (now (c .before .before .before .before .before .before .before .before .args .text)) (c .before .before .before .before .before .before .before .before .args .from)) (now (c .before .before .before .before .before .before .before .before .args .name)) (c .before .before .before .before .before .cnot .ensures) (ap (leftAt (now (c .before .before .before .before .before .before .before .before .args .text))) (c .before .before .before .enum-told2 .given .1)) (c .before .before .single .ensures) (ap (leftAt (now (c .before .before .before .before .before .before .before .before .args .text))) (c .enum-told3 .given .1))
+returns-2 c = plain-x (wordsAt (now (c .before .before .before .before .before .before .before .before .args .text)) (c .before .before .before .before .before .before .before .before .args .from)) (now (c .before .before .before .before .before .before .before .before .args .name)) (c .before .before .before .before .before .cnot .ensures) (ap (wordsAt (now (c .before .before .before .before .before .before .before .before .args .text))) (c .before .before .before .enum-told2 .given .1)) (c .before .before .single .ensures) (ap (wordsAt (now (c .before .before .before .before .before .before .before .before .args .text))) (c .enum-told3 .given .1))
 
 returns-3 : tie.Need-returns-3
-returns-3 c = plain-hadamard (leftAt (now (c .before .before .before .before .before .before .before .before .before .args .text)) (c .before .before .before .before .before .before .before .before .before .args .from)) (now (c .before .before .before .before .before .before .before .before .before .args .name)) (c .before .before .before .before .before .before .cnot .ensures) (ap (leftAt (now (c .before .before .before .before .before .before .before .before .before .args .text))) (c .before .before .before .before .enum-told2 .given .1)) (c .before .before .before .single .ensures) (ap (leftAt (now (c .before .before .before .before .before .before .before .before .before .args .text))) (c .before .enum-told4 .given .1)) (c .single2 .ensures)
+returns-3 c = plain-hadamard (wordsAt (now (c .before .before .before .before .before .before .before .before .before .args .text)) (c .before .before .before .before .before .before .before .before .before .args .from)) (now (c .before .before .before .before .before .before .before .before .before .args .name)) (c .before .before .before .before .before .before .cnot .ensures) (ap (wordsAt (now (c .before .before .before .before .before .before .before .before .before .args .text))) (c .before .before .before .before .enum-told2 .given .1)) (c .before .before .before .single .ensures) (ap (wordsAt (now (c .before .before .before .before .before .before .before .before .before .args .text))) (c .before .enum-told4 .given .1)) (c .single2 .ensures)
 
 pub plain-spec : {M : Type 1} → statement M
 plain-spec =

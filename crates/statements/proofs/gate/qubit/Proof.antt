@@ -1,6 +1,6 @@
 -- `statements::gate::qubit` meets its contract. Assumes nothing.
 use denote.Ref.{now}
-use Rattle.words.specs.Places.{leftAt}
+use Rattle.words.specs.Places.{wordsAt}
 use Rattle.statements.proofs.Chains.{qubit-chain}
 use borrow.Author.Needs.{needs}
 use Rattle.statements.proofs.gate.qubit.Statement.{statement}
@@ -22,7 +22,7 @@ mark-requires-2 : tie.Need-mark-requires-2
 mark-requires-2 c κs = search needs
 
 returns : tie.Need-returns
-returns c = qubit-chain (leftAt (now (c .before .before .before .before .before .before .args .text)) (c .before .before .before .before .before .before .args .from)) (now (c .before .before .before .before .before .before .args .name)) (c .before .before .before .take .ensures) (c .before .before .mark .ensures) (c .before .number .ensures) (c .mark2 .ensures)
+returns c = qubit-chain (wordsAt (now (c .before .before .before .before .before .before .args .text)) (c .before .before .before .before .before .before .args .from)) (now (c .before .before .before .before .before .before .args .name)) (c .before .before .before .take .ensures) (c .before .before .mark .ensures) (c .before .number .ensures) (c .mark2 .ensures)
 
 pub qubit-spec : {M : Type 1} → statement M
 qubit-spec =

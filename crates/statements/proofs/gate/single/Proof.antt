@@ -2,8 +2,9 @@
 use mathlib.Core.Path.{ap}
 use denote.Ref.{now}
 use native.Mathlib.Omega.{arith}
-use Rattle.words.specs.Places.{leftAt}
-use Rattle.words.specs.Taking.{Got}
+use Rattle.words.specs.Words.{Word}
+use Rattle.words.specs.Places.{wordsAt}
+use Rattle.spots.specs.Numbers.{Got}
 use Rattle.statements.proofs.Chains.{qubit-le, single-chain}
 use borrow.Author.Needs.{needs}
 use Rattle.statements.proofs.gate.single.Statement.{statement}
@@ -24,13 +25,13 @@ mul-t10 : tie.Need-mul-t10
 mul-t10 c = search needs
 
 mul-t11 : tie.Need-mul-t11
-mul-t11 c = omega (arith, qubit-le (leftAt (now (c .before .before .before .before .before .before .args .text)) (c .before .before .before .mark .result)) (now (c .before .before .before .before .before .before .args .name)), ap (λ (g : Got). g .value) (c .before .before .qubit .ensures))
+mul-t11 c = omega (arith, qubit-le (wordsAt (now (c .before .before .before .before .before .before .args .text)) (c .before .before .before .mark .result)) (now (c .before .before .before .before .before .before .args .name)), ap (λ (g : Got Word). g .value) (c .before .before .qubit .ensures))
 
 add-t12 : tie.Need-add-t12
-add-t12 c = omega (arith, qubit-le (leftAt (now (c .before .before .before .before .before .before .args .text)) (c .before .before .before .mark .result)) (now (c .before .before .before .before .before .before .args .name)), ap (λ (g : Got). g .value) (c .before .before .qubit .ensures))
+add-t12 c = omega (arith, qubit-le (wordsAt (now (c .before .before .before .before .before .before .args .text)) (c .before .before .before .mark .result)) (now (c .before .before .before .before .before .before .args .name)), ap (λ (g : Got Word). g .value) (c .before .before .qubit .ensures))
 
 returns : tie.Need-returns
-returns c = single-chain (leftAt (now (c .before .before .before .before .before .before .args .text)) (c .before .before .before .before .before .before .args .from)) (now (c .before .before .before .before .before .before .args .name)) (c .before .before .before .before .before .before .args .byte) (c .before .before .before .before .before .before .args .kind) (c .before .before .before .mark .ensures) (c .before .before .qubit .ensures) (c .before .mark2 .ensures)
+returns c = single-chain (wordsAt (now (c .before .before .before .before .before .before .args .text)) (c .before .before .before .before .before .before .args .from)) (now (c .before .before .before .before .before .before .args .name)) (c .before .before .before .before .before .before .args .byte) (c .before .before .before .before .before .before .args .kind) (c .before .before .before .mark .ensures) (c .before .before .qubit .ensures) (c .before .mark2 .ensures)
 
 pub single-spec : {M : Type 1} → statement M
 single-spec =

@@ -1,6 +1,6 @@
 -- `statements::gate::turn` meets its contract. Assumes nothing.
 use denote.Ref.{now}
-use Rattle.words.specs.Places.{leftAt}
+use Rattle.words.specs.Places.{wordsAt}
 use Rattle.statements.proofs.Chains.{turn-chain}
 use borrow.Author.Needs.{needs}
 use Rattle.statements.proofs.gate.turn.Statement.{statement}
@@ -16,7 +16,7 @@ tail-requires : tie.Need-tail-requires
 tail-requires c κs = search needs
 
 returns : tie.Need-returns
-returns c = turn-chain (leftAt (now (c .before .before .before .before .before .before .args .text)) (c .before .before .before .before .before .before .args .from)) (now (c .before .before .before .before .before .before .args .name)) (now (c .before .before .before .before .before .before .args .word)) (c .before .before .opening .ensures) (c .before .angle .ensures) (c .tail .ensures)
+returns c = turn-chain (wordsAt (now (c .before .before .before .before .before .before .args .text)) (c .before .before .before .before .before .before .args .from)) (now (c .before .before .before .before .before .before .args .name)) (now (c .before .before .before .before .before .before .args .word)) (c .before .before .opening .ensures) (c .before .angle .ensures) (c .tail .ensures)
 
 pub turn-spec : {M : Type 1} → statement M
 turn-spec = tie.close (tie.spec opening-requires angle-requires tail-requires returns)

@@ -2,7 +2,7 @@
 use mathlib.Core.Path.{_∙_}
 use denote.Ref.{now}
 use mathlib.Core.List.{_++_}
-use Rattle.words.specs.Places.{leftAt}
+use Rattle.words.specs.Places.{wordsAt}
 use Rattle.statements.proofs.Chains.{classic-chain, size-there, classic-name}
 use borrow.Author.Needs.{needs}
 use Rattle.statements.proofs.head.classic.Statement.{statement}
@@ -28,8 +28,8 @@ returns c =
     record {
       ordered = c .before .before .name .ensures .ordered;
       inside = c .before .before .name .ensures .inside;
-      got = classic-chain (leftAt (now (c .before .before .before .before .before .before .args .text)) (c .before .before .before .before .before .before .args .from)) (c .before .before .before .take .ensures) (c .before .before .name .ensures .rest) (c .before .size .ensures) (c .mark .ensures);
-      name = λ t e. let l = size-there (c .before .size .ensures) (c .mark .ensures) e in c .before .before .name .ensures .bytes (l .words ++ t) (l .same) ∙ classic-name (leftAt (now (c .before .before .before .before .before .before .args .text)) (c .before .before .before .before .before .before .args .from)) (c .before .before .before .take .ensures);
+      got = classic-chain (wordsAt (now (c .before .before .before .before .before .before .args .text)) (c .before .before .before .before .before .before .args .from)) (c .before .before .before .take .ensures) (c .before .before .name .ensures .rest) (c .before .size .ensures) (c .mark .ensures);
+      name = λ t e. let l = size-there (c .before .size .ensures) (c .mark .ensures) e in c .before .before .name .ensures .bytes (l .words ++ t) (l .same) ∙ classic-name (wordsAt (now (c .before .before .before .before .before .before .args .text)) (c .before .before .before .before .before .before .args .from)) (c .before .before .before .take .ensures);
     }
 
 pub classic-spec : {M : Type 1} → statement M

@@ -6,9 +6,9 @@ use lib.ListN.{length, drop}
 use Prim.Native.Nat.{_-_}
 use native.Mathlib.Omega.{arith}
 use Rattle.words.specs.Words.{words}
-use Rattle.words.specs.Places.{leftAt}
+use Rattle.words.specs.Places.{wordsAt}
 use Rattle.statements.specs.Statements.{hasEnd}
-use Rattle.statements.proofs.Ends.{end-none, end-here, end-on}
+use Rattle.statements.proofs.Ends.{end-none, end-mark-here, end-mark-on}
 use Rattle.statements.proofs.head.has_end.Statement.{statement}
 use Rattle.statements.proofs.head.has_end.Tie as tie
 use Rattle.statements.proofs.mark.mark.Reads as mark-reads
@@ -36,7 +36,7 @@ enum-told : tie.Need-enum-told Inv-loop μ-loop
 enum-told c = search needs
 
 returns-2 : tie.Need-returns-2 Inv-loop μ-loop
-returns-2 c = end-here _ _ _ (c .before .before .before .before .next .ensures .found (c .before .before .before .if1 .left)) (c .before .before .mark .ensures) (ap (leftAt (now (c .before .before .before .before .before .before .before .args .text))) (c .enum-told .given .1)) ∙ c .before .before .before .before .before .loop .inv
+returns-2 c = end-mark-here _ _ _ (c .before .before .before .before .next .ensures .found (c .before .before .before .if1 .left)) (c .before .before .mark .ensures) (ap (wordsAt (now (c .before .before .before .before .before .before .before .args .text))) (c .enum-told .given .1)) ∙ c .before .before .before .before .before .loop .inv
 
 enum-told-2 : tie.Need-enum-told-2 Inv-loop μ-loop
 enum-told-2 c = search needs
@@ -45,7 +45,7 @@ loop-less : tie.Need-loop-less Inv-loop μ-loop
 loop-less c = omega (arith, c .before .before .before .before .next .ensures .further (c .before .before .before .if1 .left), c .before .before .before .before .next .ensures .inside (c .before .before .before .if1 .left))
 
 loop-again : tie.Need-loop-again Inv-loop μ-loop
-loop-again c = end-on _ _ _ (c .before .before .before .before .next .ensures .found (c .before .before .before .if1 .left)) (c .before .before .mark .ensures) (ap (leftAt (now (c .before .before .before .before .before .before .before .args .text))) (c .enum-told2 .given .1)) ∙ c .before .before .before .before .before .loop .inv
+loop-again c = end-mark-on _ _ _ (c .before .before .before .before .next .ensures .found (c .before .before .before .if1 .left)) (c .before .before .mark .ensures) (ap (wordsAt (now (c .before .before .before .before .before .before .before .args .text))) (c .enum-told2 .given .1)) ∙ c .before .before .before .before .before .loop .inv
 
 pub has-end-spec : {M : Type 1} → statement M
 has-end-spec =

@@ -2,7 +2,7 @@
 use mathlib.Core.Path.{ap, _∙_}
 use mathlib.Core.Logic.{⊎-elim}
 use denote.Ref.{now}
-use Rattle.words.specs.Places.{leftAt}
+use Rattle.words.specs.Places.{wordsAt}
 use Rattle.statements.proofs.Chains.{include-chain}
 use borrow.Author.Needs.{needs}
 use Rattle.statements.proofs.head.include.Statement.{statement}
@@ -38,8 +38,8 @@ mark-requires c κs = search needs
 returns : tie.Need-returns
 returns c =
     ⊎-elim
-    (λ w. include-chain (leftAt (now (c .before .before .before .before .before .args .text)) (c .before .before .before .before .before .args .from)) (c .before .before .before .before .before .args .version) (w .1 .given .1) (c .before .before .take .ensures) (ap (leftAt (now (c .before .before .before .before .before .args .text))) (w .4) ∙ w .3 .ensures) (c .mark .ensures))
-    (λ w. include-chain (leftAt (now (c .before .before .before .before .before .args .text)) (c .before .before .before .before .before .args .from)) (c .before .before .before .before .before .args .version) (w .1 .given .1) (c .before .before .take .ensures) (ap (leftAt (now (c .before .before .before .before .before .args .text))) (w .4) ∙ w .3 .ensures) (c .mark .ensures))
+    (λ w. include-chain (wordsAt (now (c .before .before .before .before .before .args .text)) (c .before .before .before .before .before .args .from)) (c .before .before .before .before .before .args .version) (w .1 .given .1) (c .before .before .take .ensures) (ap (wordsAt (now (c .before .before .before .before .before .args .text))) (w .4) ∙ w .3 .ensures) (c .mark .ensures))
+    (λ w. include-chain (wordsAt (now (c .before .before .before .before .before .args .text)) (c .before .before .before .before .before .args .from)) (c .before .before .before .before .before .args .version) (w .1 .given .1) (c .before .before .take .ensures) (ap (wordsAt (now (c .before .before .before .before .before .args .text))) (w .4) ∙ w .3 .ensures) (c .mark .ensures))
     (c .before .match .came)
 
 pub include-spec : {M : Type 1} → statement M

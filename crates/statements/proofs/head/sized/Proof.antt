@@ -2,7 +2,7 @@
 use mathlib.Core.Path.{_∙_}
 use denote.Ref.{now}
 use mathlib.Core.List.{_++_}
-use Rattle.words.specs.Places.{leftAt}
+use Rattle.words.specs.Places.{wordsAt}
 use Rattle.statements.proofs.Chains.{sized-chain, name-there, sized-name}
 use borrow.Author.Needs.{needs}
 use Rattle.statements.proofs.head.sized.Statement.{statement}
@@ -28,8 +28,8 @@ returns c =
     record {
       ordered = c .before .name .ensures .ordered;
       inside = c .before .name .ensures .inside;
-      got = sized-chain (leftAt (now (c .before .before .before .before .before .before .args .text)) (c .before .before .before .before .before .before .args .from)) (c .before .before .before .take .ensures) (c .before .before .size .ensures) (c .before .name .ensures .rest) (c .mark .ensures);
-      name = λ t e. let l = name-there (c .mark .ensures) e in c .before .name .ensures .bytes (l .words ++ t) (l .same) ∙ sized-name (leftAt (now (c .before .before .before .before .before .before .args .text)) (c .before .before .before .before .before .before .args .from)) (c .before .before .before .take .ensures) (c .before .before .size .ensures);
+      got = sized-chain (wordsAt (now (c .before .before .before .before .before .before .args .text)) (c .before .before .before .before .before .before .args .from)) (c .before .before .before .take .ensures) (c .before .before .size .ensures) (c .before .name .ensures .rest) (c .mark .ensures);
+      name = λ t e. let l = name-there (c .mark .ensures) e in c .before .name .ensures .bytes (l .words ++ t) (l .same) ∙ sized-name (wordsAt (now (c .before .before .before .before .before .before .args .text)) (c .before .before .before .before .before .before .args .from)) (c .before .before .before .take .ensures) (c .before .before .size .ensures);
     }
 
 pub sized-spec : {M : Type 1} → statement M

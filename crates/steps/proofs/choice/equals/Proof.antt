@@ -3,9 +3,9 @@ use mathlib.Core.Path.{_≡_, _∙_}
 use Prim.Native.Nat.{_-_, _≤_, _<_}
 use native.Mathlib.Omega.{arith}
 use lib.ListN.{length, getD, length-set}
-use Rattle.columns.proofs.Tabling.{Filled, filled-next, filled-all}
+use Rattle.sets.proofs.Tabling.{Filled, filled-next, filled-all}
 use Rattle.steps.specs.Choice.{moreOf}
-use Rattle.columns.specs.Tables.{tab}
+use Rattle.sets.specs.Tables.{tab}
 use borrow.Author.Needs.{needs}
 use Rattle.steps.proofs.choice.equals.Statement.{statement}
 use Rattle.steps.proofs.choice.equals.Tie as tie

@@ -2,7 +2,7 @@
 use mathlib.Core.Path.{ap, _∙_}
 use native.Mathlib.Omega.{arith}
 use Rattle.sets.specs.Bit.{has}
-use Rattle.columns.specs.Tables.{tab}
+use Rattle.sets.specs.Tables.{tab}
 use Rattle.steps.specs.Choice.{partner}
 use Rattle.steps.proofs.Selecting.{count-few}
 use Rattle.steps.proofs.Choosing.{best-same}

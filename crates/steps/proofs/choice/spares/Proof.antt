@@ -4,9 +4,9 @@ use Prim.Native.Nat.{_-_, _≤_, _<_}
 use mathlib.Core.Bool.{false}
 use native.Mathlib.Omega.{arith}
 use lib.ListN.{length, length-set}
-use Rattle.columns.proofs.Tabling.{Filled, filled-next, filled-all}
+use Rattle.sets.proofs.Tabling.{Filled, filled-next, filled-all}
 use Rattle.spares.specs.Spare.{spareOf}
-use Rattle.columns.specs.Tables.{tab}
+use Rattle.sets.specs.Tables.{tab}
 use borrow.Author.Needs.{needs}
 use Rattle.steps.proofs.choice.spares.Statement.{statement}
 use Rattle.steps.proofs.choice.spares.Tie as tie

@@ -4,7 +4,7 @@ use mathlib.Core.Bool.{not}
 use Prim.Native.Nat.{_-_, _≤_, min}
 use lib.Dec.{eqb}
 use lib.ListN.{length, getD, length-set}
-use Rattle.columns.proofs.Tabling.{Marked, marked-none, marked-next}
+use Rattle.sets.proofs.Tabling.{Marked, marked-none, marked-next}
 use Rattle.steps.proofs.Selecting.{live-all}
 use borrow.Author.Needs.{needs}
 use Rattle.steps.proofs.selection.live.Statement.{statement}

@@ -3,10 +3,10 @@ use mathlib.Core.Path.{_≡_, _∙_}
 use Prim.Native.Nat.{_+_, _-_, _≤_, _<_}
 use native.Mathlib.Omega.{arith}
 use lib.ListN.{length, getD, length-set}
-use Rattle.columns.proofs.Tabling.{Filled, filled-next, filled-all}
+use Rattle.sets.proofs.Tabling.{Filled, filled-next, filled-all}
 use Rattle.sets.specs.Bit.{has}
 use Rattle.steps.specs.Selection.{talliedOf}
-use Rattle.columns.specs.Tables.{tab, one}
+use Rattle.sets.specs.Tables.{tab, one}
 use borrow.Author.Needs.{needs}
 use Rattle.steps.proofs.selection.tallied.Statement.{statement}
 use Rattle.steps.proofs.selection.tallied.Tie as tie

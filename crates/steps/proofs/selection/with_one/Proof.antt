@@ -3,7 +3,7 @@ use mathlib.Core.Path.{_≡_, _∙_}
 use mathlib.Core.Bool.{false}
 use Prim.Native.Nat.{_-_, _≤_, min}
 use lib.ListN.{length, getD, length-set}
-use Rattle.columns.proofs.Tabling.{Marked, marked-none, marked-next}
+use Rattle.sets.proofs.Tabling.{Marked, marked-none, marked-next}
 use Rattle.steps.specs.Selection.{oneAt}
 use Rattle.steps.proofs.Selecting.{ones-all}
 use borrow.Author.Needs.{needs}

@@ -7,8 +7,8 @@ use denote.Ref.{now}
 use lib.Dec.{leb}
 use lib.ListN.{length}
 use Rattle.lines.specs.Lines.{fieldsText, recordsText, textOf}
-use Rattle.lines.specs.Room.{roomAfter, isLeft}
-use Rattle.lines.specs.declared.room.Room.the-variants.{Left}
+use Rattle.lines.specs.Leeway.{roomAfter, isLeft}
+use Rattle.lines.specs.declared.room.Leeway.the-variants.{Left}
 use Rattle.lines.proofs.Rooms.{room-then, room-fits}
 use Rattle.lines.proofs.Writes.{line-length, text-length}
 use borrow.Author.Needs.{needs}

@@ -5,15 +5,16 @@ use lib.ListN.{length}
 use Rattle.sets.specs.Pick.{pick}
 use Rattle.verdicts.specs.declared.verdict.Verdict.the-variants.{Accepted, Room}
 use Rattle.lines.specs.Lines.{textOf}
-use Rattle.text.specs.Writings.{judgedRoom, judgedText}
+use Rattle.text.specs.Writings.{judgedText}
 use Rattle.verdicts.proofs.Judged.{passed, refused}
+use Rattle.reading.specs.Readings.{judgedPlaces}
 use Rattle.text.proofs.Judging.{judged-qubits, judged-couplers, judged-drawn, judged-room}
 use borrow.Author.Needs.{needs}
 use Rattle.text.proofs.write.judge.Statement.{statement}
 use Rattle.text.proofs.write.judge.Tie as tie
 
 roomed : (c : tie.Else3)
-    → judgedRoom (length (textOf (c .before .before .before .before .before .before .before .before .before .before .before .args .n) (now (c .before .before .before .before .before .before .before .before .before .before .before .args .couplers)) (now (c .before .before .before .before .before .before .before .before .before .before .before .args .gates)))) (c .before .before .before .before .before .before .before .before .before .before .before .args .room)
+    → judgedPlaces (length (textOf (c .before .before .before .before .before .before .before .before .before .before .before .args .n) (now (c .before .before .before .before .before .before .before .before .before .before .before .args .couplers)) (now (c .before .before .before .before .before .before .before .before .before .before .before .args .gates)))) (c .before .before .before .before .before .before .before .before .before .before .before .args .room)
     ≡ judgedText (c .before .before .before .before .before .before .before .before .before .before .before .args .n) (now (c .before .before .before .before .before .before .before .before .before .before .before .args .couplers)) (now (c .before .before .before .before .before .before .before .before .before .before .before .args .gates)) (c .before .before .before .before .before .before .before .before .before .before .before .args .room)
 roomed c =
     let a = c .before .before .before .before .before .before .before .before .before .before .before .args in

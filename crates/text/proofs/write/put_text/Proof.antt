@@ -4,9 +4,9 @@ use mathlib.Core.List.{List, [], _∷_, _++_}
 use Prim.Native.Nat.{ℕ, _+_, _≤_}
 use denote.Ref.{now}
 use lib.ListN.{length}
-use Rattle.lines.specs.Lines.{lineText, recordsText, textOf}
-use Rattle.lines.specs.Lent.{recordsEnd, recordsAt}
-use Rattle.lines.proofs.Writes.{Wrote, wrote-then, lined-wrote, text-length}
+use Rattle.lines.specs.Lines.{lineText, recordText, recordsText, textOf}
+use Rattle.lines.specs.Lent.{linesEnd, linesAt}
+use Rattle.lines.proofs.Writes.{Wrote, wrote-then, fitted-wrote, text-length}
 use Rattle.lines.proofs.Recorded.{records-fit}
 use borrow.Author.Needs.{needs}
 use native.Mathlib.Omega.{arith}
@@ -14,7 +14,7 @@ use Rattle.text.proofs.write.put_text.Statement.{statement}
 use Rattle.text.proofs.write.put_text.Tie as tie
 
 -- records that fit are written
-fitting : (xs : List ℕ) (from : ℕ) (l : List ℕ) {m : List ℕ} {e : ℕ} → from + length (recordsText xs) ≤ length l → (e ≡ recordsEnd xs from (length l)) × (m ≡ recordsAt xs from l) → Wrote l from (recordsText xs) m e
+fitting : (xs : List ℕ) (from : ℕ) (l : List ℕ) {m : List ℕ} {e : ℕ} → from + length (recordsText xs) ≤ length l → (e ≡ linesEnd recordText xs from (length l)) × (m ≡ linesAt recordText xs from l) → Wrote l from (recordsText xs) m e
 fitting xs from l h p = let f = records-fit xs from l h in (p .0 ∙ f .0, p .1 ∙ f .1)
 
 slice-aggregate-put-line : tie.Need-slice-aggregate-put-line
@@ -43,7 +43,7 @@ returns c =
     let es = now (a .couplers) in
     let gs = now (a .gates) in
     let all = text-length (a .n) es gs in
-    let first = lined-wrote (now (a .text)) 0 (lineText 113 (a .n ∷ [])) (omega (arith, h, all)) (p .ensures) in
+    let first = fitted-wrote (now (a .text)) 0 (lineText 113 (a .n ∷ [])) (omega (arith, h, all)) (p .ensures) in
     let second = fitting es (p .result) (p .last .0) (omega (arith, h, all, first .0, p .kept .0)) (q .ensures) in
     let third = fitting gs (q .result) (q .last .0) (omega (arith, h, all, first .0, second .0, p .kept .0, q .kept .0)) (r .ensures) in
     wrote-then (now (a .text)) 0 (lineText 113 (a .n ∷ [])) (recordsText es ++ recordsText gs) first (wrote-then (p .last .0) (p .result) (recordsText es) (recordsText gs) second third)

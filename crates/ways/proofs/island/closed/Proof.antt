@@ -1,6 +1,7 @@
 -- `ways::island::closed` meets its contract: the closing goes behind the gates. Assumes nothing.
 use mathlib.Core.Path.{refl}
-use Rattle.ways.specs.Memory.{closedBy}
+use Rattle.share.specs.OwnTable.{shareIn}
+use Rattle.ways.specs.Ways.{withClosing}
 use Rattle.ways.proofs.Owned.{closed-memory}
 use borrow.Author.Needs.{needs}
 use Rattle.ways.proofs.island.closed.Statement.{statement}
@@ -16,9 +17,9 @@ same-length : tie.Need-same-length
 same-length c = search needs
 
 returns : tie.Need-returns
-unfolding closedBy
+unfolding withClosing
 returns c =
-    closed-memory (c .before .before .before .before .before .before .before .before .before .before .before .before .before .args .own) _ _ _ _ _ _ (c .before .before .before .before .before .before .replay .ensures .0) (c .before .before .before .before .before .before .replay .ensures .1) _ refl (c .before .before .close .ensures .0) (c .before .before .close .ensures .1)
+    closed-memory (shareIn (c .before .before .before .before .before .before .before .before .before .before .before .before .before .args .own)) _ _ _ _ _ _ (c .before .before .before .before .before .before .replay .ensures .0) (c .before .before .before .before .before .before .replay .ensures .1) _ refl (c .before .before .close .ensures .0) (c .before .before .close .ensures .1)
 
 pub closed-spec : {M : Type 1} → statement M
 closed-spec = tie.close (tie.spec replay-requires close-requires same-length returns)

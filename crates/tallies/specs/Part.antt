@@ -1,9 +1,0 @@
--- A part of a list of gates.
-use mathlib.Core.List.{List, [], _∷_}
-use Rattle.gates.specs.declared.gate.Gate.{Gate}
-
--- some of the gates of a list, next to each other or not, in their order
-pub data Part : List Gate → List Gate → Type 0 where
-  none : Part [] []
-  with : {part gs : List Gate} (g : Gate) → Part part gs → Part (g ∷ part) (g ∷ gs)
-  without : {part gs : List Gate} (g : Gate) → Part part gs → Part part (g ∷ gs)
