@@ -136,5 +136,6 @@ joined-shrink near Q v sy j h l =
     let r = shrink (joined-grown near Q v j h) l in
     (r .0, r .1, r .2, grown-joined near (bitXor Q (2 ^ (r .0))) v sy (r .3))
 
+-- every member has a neighbour among the others
 pub joined-neighbour : (near : List ℕ) (Q m : ℕ) → Symm near → Joined near Q → In m Q → 2 ≤ ones Q → (n : ℕ) × (n ≢ m) × In n Q × Near near m n
 joined-neighbour near Q m sy j h l = neighbour-of sy (joined-grown near Q m j h) l m h

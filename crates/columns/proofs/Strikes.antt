@@ -3,7 +3,6 @@ use mathlib.Core.Path.{_≡_, refl, sym, ap, _∙_}
 use mathlib.Core.Bool.{Bool, true, false}
 use mathlib.Core.List.{List, [], _∷_}
 use Prim.Native.Nat.{ℕ, suc, _+_, _-_, _≤_, _<_}
-use native.Mathlib.Omega.{arith}
 use lib.Dec.{eqb}
 use lib.ListN.{length, getD, set, List·getD-eq-default}
 use borrow.Author.Tests.{eq-eqb, ne-eqb}
@@ -15,7 +14,7 @@ use Rattle.emitting.specs.Emit.{emit, emitAt}
 use Rattle.columns.specs.Pieces.{piece, idle, followedBy, held, wrote}
 use Rattle.columns.specs.Striking.{loneAt, strikeOne, strikeRow, strikeFrom}
 use Rattle.columns.proofs.Piecing.{wrote-none, wrote-on, held-is}
-use Rattle.sets.proofs.Finding.{sub-suc}
+use Rattle.sets.proofs.Finding.{sub-suc, sub-none}
 
 pub single-zero : singleOf 0 ≡ false
 unfolding singleOf
@@ -64,9 +63,6 @@ module _ (q : ℕ) (angles : List ℕ) (k : ℕ) (xs out : List ℕ) (at : ℕ) 
 
 -- ---- the loops
 
-nsub-suc : (n i : ℕ) → n ≤ i → n - i ≡ 0
-nsub-suc n i h = omega arith
-
 module _ (q : ℕ) (angles : List ℕ) where
   row-step : (d k : ℕ) (xs : List ℕ) → strikeRow (suc d) k q angles xs ≡ followedBy (strikeOne q angles k xs) (λ ys. strikeRow d (k + 1) q angles ys)
   unfolding strikeRow
@@ -80,7 +76,7 @@ module _ (q : ℕ) (angles : List ℕ) where
 
   pub row-end : (n k : ℕ) (xs out : List ℕ) (at : ℕ) → n ≤ k → held xs out at ≡ wrote out at (strikeRow (n - k) k q angles xs)
   unfolding strikeRow
-  row-end n k xs out at h = wrote-none out at xs ∙ ap (λ (d : ℕ). wrote out at (strikeRow d k q angles xs)) (sym (nsub-suc n k h))
+  row-end n k xs out at h = wrote-none out at xs ∙ ap (λ (d : ℕ). wrote out at (strikeRow d k q angles xs)) (sym (sub-none n k h))
 
 module _ (angles : List ℕ) where
   pub from-step : (d q : ℕ) (xs : List ℕ) → strikeFrom (suc d) q angles xs ≡ followedBy (strikeRow (length xs) 0 q angles xs) (λ ys. strikeFrom d (q + 1) angles ys)
@@ -95,4 +91,4 @@ module _ (angles : List ℕ) where
 
   pub from-end : (n q : ℕ) (xs out : List ℕ) (at : ℕ) → n ≤ q → held xs out at ≡ wrote out at (strikeFrom (n - q) q angles xs)
   unfolding strikeFrom
-  from-end n q xs out at h = wrote-none out at xs ∙ ap (λ (d : ℕ). wrote out at (strikeFrom d q angles xs)) (sym (nsub-suc n q h))
+  from-end n q xs out at h = wrote-none out at xs ∙ ap (λ (d : ℕ). wrote out at (strikeFrom d q angles xs)) (sym (sub-none n q h))

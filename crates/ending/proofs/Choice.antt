@@ -20,7 +20,7 @@ use Rattle.chip.specs.Graph.{Symm, Joined}
 use Rattle.spares.specs.Spare.{spareOf}
 use Rattle.spares.proofs.Spares.{spare-in, spare-joined, spare-other}
 use Rattle.gates.specs.declared.gate.Gate.{Gate}
-use Rattle.gathering.specs.Gather.{turns, exchanged}
+use Rattle.gathering.specs.Gather.{turns, exchanged, mostMoves}
 use Rattle.gathering.proofs.GatherWorks.{gather-few}
 use Rattle.ending.specs.declared.clearing.Clearing.{Clearing}
 use Rattle.ending.specs.declared.clearing.Best.{Best}
@@ -121,11 +121,11 @@ module _ (near : List ℕ) (Q : ℕ) (N C : List ℕ) (ch : Clearing) where
       let S : List Gate = secondMoves near Q N C ch in
       seen-length (ch .mirrored) (F ++ exchanged S) ∙ length-append F (exchanged S) ∙ ap (λ (n : ℕ). length F + n) (exchanged-length S)
 
-  pub first-few : length (firstMoves near Q N C ch) ≤ 38
+  pub first-few : length (firstMoves near Q N C ch) ≤ mostMoves
   unfolding firstMoves
   first-few = gather-few near Q (ch .qubit) (rowAt N C (ch .qubit) (ch .mirrored))
 
-  pub second-few : length (secondMoves near Q N C ch) ≤ 38
+  pub second-few : length (secondMoves near Q N C ch) ≤ mostMoves
   unfolding secondMoves
   second-few = gather-few near Q (ch .qubit) (turns (exchanged (firstMoves near Q N C ch)) (rowAt N C (ch .qubit) (not (ch .mirrored))))
 

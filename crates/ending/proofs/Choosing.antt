@@ -13,9 +13,8 @@ use Rattle.gates.specs.declared.gate.Gate.the-variants.{Cnot, Rotation, X, Bad}
 use Rattle.gathering.specs.declared.gather.Moves.{Moves}
 use Rattle.gathering.specs.declared.gather.Order.{Order}
 use Rattle.gathering.specs.Order.{orderOf, orderIn}
-use Rattle.gathering.specs.Gather.{exchanged, gatherOf, alongOf, controlOf, targetOf, movesIn, cnotsFrom, turns}
-use Rattle.gathering.proofs.GatherWorks.{gather-few}
-use Rattle.gathering.proofs.GatherCode.{Plain, same-moves, cnots-flip, moves-back, along-order, gather-plain, moves-len}
+use Rattle.gathering.specs.Gather.{exchanged, gatherOf, alongOf, mostMoves, controlOf, targetOf, movesIn, cnotsFrom, turns}
+use Rattle.gathering.proofs.GatherCode.{Plain, same-moves, cnots-flip, moves-back, along-order, gather-plain, held-len}
 use Rattle.ending.specs.declared.clearing.Clearing.{Clearing}
 use Rattle.ending.specs.declared.clearing.Best.{Best}
 use Rattle.ending.specs.declared.clearing.Best.the-variants.{Nothing, Take}
@@ -46,7 +45,7 @@ exchanged-targets (Bad ∷ gs) = ap (λ (l : List ℕ). 0 ∷ l) (exchanged-targ
 seen-moves : (b : Bool) (gs : List Gate) → seenOf b (movesIn gs) ≡ movesIn (seen b gs)
 unfolding seenOf movesIn
 seen-moves true gs =
-    same-moves (ap (sets (replicate 38 0) 0) (sym (exchanged-controls gs))) (ap (sets (replicate 38 0) 0) (sym (exchanged-targets gs))) (sym (exchanged-length gs))
+    same-moves (ap (sets (replicate mostMoves 0) 0) (sym (exchanged-controls gs))) (ap (sets (replicate mostMoves 0) 0) (sym (exchanged-targets gs))) (sym (exchanged-length gs))
 seen-moves false gs = refl
 
 exchanged-plain : (gs : List Gate) → Plain gs → Plain (exchanged gs)
@@ -63,18 +62,12 @@ seen-plain false gs p = p
 -- ---- moves that are held
 
 module _ (gs : List Gate) (m : Moves) (e : m ≡ movesIn gs) where
-  pub held-len : m .len ≡ length gs
-  held-len = ap (λ (w : Moves). w .len) e ∙ moves-len gs
-
-  module _ (p : Plain gs) (l : length gs ≤ 38) where
+  module _ (p : Plain gs) (l : length gs ≤ mostMoves) where
     pub held-back : cnotsFrom (m .to) (m .by) 0 (m .len) ≡ gs
     held-back = ap (λ (w : Moves). cnotsFrom (w .to) (w .by) 0 (w .len)) e ∙ moves-back gs p l
 
     pub held-flip : cnotsFrom (m .by) (m .to) 0 (m .len) ≡ exchanged gs
     held-flip = cnots-flip (m .to) (m .by) 0 (m .len) ∙ ap exchanged held-back
-
-pub gathered-few : (near : List ℕ) (Q v x : ℕ) (m : Moves) → m ≡ movesIn (gatherOf near Q v x) → m .len ≤ 38
-gathered-few near Q v x m e = omega (arith, held-len (gatherOf near Q v x) m e, gather-few near Q v x)
 
 -- gathering along the order from v
 pub along-held : (near : List ℕ) (Q v : ℕ) (o : Order) → o ≡ orderIn (orderOf near Q v) → (x : ℕ) (m : Moves) → m ≡ movesIn (alongOf near Q o x) → m ≡ movesIn (gatherOf near Q v x)
@@ -136,19 +129,19 @@ module _ (near : List ℕ) (Q : ℕ) (N C : List ℕ) (ch : Clearing) where
   lead-plain : Plain L
   lead-plain = seen-plain (ch .mirrored) F first-plain
 
-  lead-few : length L ≤ 38
+  lead-few : length L ≤ mostMoves
   lead-few = omega (arith, seen-length (ch .mirrored) F, first-few near Q N C ch)
 
   trail-plain : Plain T
   trail-plain = seen-plain (not (ch .mirrored)) S second-plain
 
-  trail-few : length T ≤ 38
+  trail-few : length T ≤ mostMoves
   trail-few = omega (arith, seen-length (not (ch .mirrored)) S, second-few near Q N C ch)
 
-  pub lead-len : (a : Moves) → a ≡ movesIn L → a .len ≤ 38
+  pub lead-len : (a : Moves) → a ≡ movesIn L → a .len ≤ mostMoves
   lead-len a e = omega (arith, held-len L a e, lead-few)
 
-  pub trail-len : (b : Moves) → b ≡ movesIn T → b .len ≤ 38
+  pub trail-len : (b : Moves) → b ≡ movesIn T → b .len ≤ mostMoves
   trail-len b e = omega (arith, held-len T b e, trail-few)
 
   module _ (a b : Moves) (ea : a ≡ movesIn L) (eb : b ≡ movesIn T) where

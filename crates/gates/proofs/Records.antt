@@ -9,7 +9,7 @@ use borrow.Author.Tests.{lt-ltb, ne-eqb, ltb-true, eqb-true, eqb-false}
 use Rattle.sets.specs.Pick.{pick}
 use Rattle.gates.specs.declared.gate.Gate.{Gate}
 use Rattle.gates.specs.declared.gate.Gate.the-variants.{Cnot, Rotation, X, Bad}
-use Rattle.gates.specs.Layout.{packed, kindIn, aIn, bIn, gateOf, cnotOf, rotationOf, xOf, recordOf, Good}
+use Rattle.gates.specs.Layout.{packed, kindIn, aIn, bIn, gateOf, cnotOf, rotationOf, xOf, recordOf, Good, isBad}
 
 -- ---- the three numbers of a record
 
@@ -78,3 +78,10 @@ gate-back n x = go (eqb (x / 16777216) 1) (eqb (x / 16777216) 2) (eqb (x / 16777
     go false false true true t u false k l m p q r o = inl refl
     go false false true false t u z k l m p q r o = inl refl
     go false false false s t u z k l m p q r o = inl refl
+
+pub good-not-bad : (n : ℕ) (g : Gate) → Good n g → isBad g ≡ false
+unfolding Good
+good-not-bad n (Cnot c t) h = refl
+good-not-bad n (Rotation q a) h = refl
+good-not-bad n (X q) h = refl
+good-not-bad n Bad h = absurd h

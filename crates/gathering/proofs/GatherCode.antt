@@ -20,7 +20,7 @@ use Rattle.gathering.specs.declared.gather.Order.{Order}
 use Rattle.gathering.specs.declared.gather.Moves.{Moves}
 use Rattle.gathering.specs.declared.gather.Gathering.{Gathering}
 use Rattle.gathering.specs.Order.{orderOf, orderIn}
-use Rattle.gathering.specs.Gather.{exchanged, movesAt, leftAt, gatherFrom, gatherOf, alongOf, controlOf, targetOf, movesIn, Stepped, cnotsFrom}
+use Rattle.gathering.specs.Gather.{exchanged, movesAt, leftAt, gatherFrom, gatherOf, alongOf, mostMoves, controlOf, targetOf, movesIn, Stepped, cnotsFrom}
 use Rattle.gathering.proofs.OrderGrows.{order-few}
 use Rattle.gathering.proofs.GatherWorks.{gather-step, gather-none, moves-few, gather-few}
 use Rattle.sets.proofs.Storing.{sets-append, map-append}
@@ -93,13 +93,13 @@ gather-same near os qs (suc k) S x h =
 
 -- len moves stand in `to` and `by`; those of the first k members are still to come
 pub record Gathered (near qs to by : List ℕ) (len k E x : ℕ) (all : List Gate) : Type 0 where
-  pub room : len + 2 * k ≤ 38
+  pub room : len + 2 * k ≤ mostMoves
   pub wide : length qs ≡ 20
   pub few : k < 20
-  pub long-to : length to ≡ 38
-  pub long-by : length by ≡ 38
-  pub tos : sets to len (map controlOf (gatherFrom near qs k E x)) ≡ sets (replicate 38 0) 0 (map controlOf all)
-  pub bys : sets by len (map targetOf (gatherFrom near qs k E x)) ≡ sets (replicate 38 0) 0 (map targetOf all)
+  pub long-to : length to ≡ mostMoves
+  pub long-by : length by ≡ mostMoves
+  pub tos : sets to len (map controlOf (gatherFrom near qs k E x)) ≡ sets (replicate mostMoves 0) 0 (map controlOf all)
+  pub bys : sets by len (map targetOf (gatherFrom near qs k E x)) ≡ sets (replicate mostMoves 0) 0 (map targetOf all)
   pub count : len + length (gatherFrom near qs k E x) ≡ length all
 
 module _ (near : List ℕ) (Q v x : ℕ) where
@@ -122,14 +122,14 @@ module _ (near : List ℕ) (Q v x : ℕ) where
       few : min (length os) 20 - 1 ≡ length os - 1
       few = omega (arith, order-few near Q v)
 
-pub gathered-start : (near qs : List ℕ) (Q x k : ℕ) → length qs ≡ 20 → k ≤ 20 → Gathered near qs (replicate 38 0) (replicate 38 0) 0 (k - 1) Q x (gatherFrom near qs (k - 1) Q x)
+pub gathered-start : (near qs : List ℕ) (Q x k : ℕ) → length qs ≡ 20 → k ≤ 20 → Gathered near qs (replicate mostMoves 0) (replicate mostMoves 0) 0 (k - 1) Q x (gatherFrom near qs (k - 1) Q x)
 gathered-start near qs Q x k l h =
     record {
       room = omega arith;
       wide = l;
       few = omega arith;
-      long-to = length-replicate {A = ℕ} 38 0;
-      long-by = length-replicate {A = ℕ} 38 0;
+      long-to = length-replicate {A = ℕ} mostMoves 0;
+      long-by = length-replicate {A = ℕ} mostMoves 0;
       tos = refl;
       bys = refl;
       count = omega arith;
@@ -232,12 +232,12 @@ cnots-from-back (Rotation q a ∷ gs) to by k p f g = absurd p
 cnots-from-back (X q ∷ gs) to by k p f g = absurd p
 cnots-from-back (Bad ∷ gs) to by k p f g = absurd p
 
-pub moves-back : (gs : List Gate) → Plain gs → length gs ≤ 38 → cnotsFrom (movesIn gs .to) (movesIn gs .by) 0 (movesIn gs .len) ≡ gs
+pub moves-back : (gs : List Gate) → Plain gs → length gs ≤ mostMoves → cnotsFrom (movesIn gs .to) (movesIn gs .by) 0 (movesIn gs .len) ≡ gs
 unfolding movesIn
-moves-back gs p l = cnots-from-back gs (sets (replicate 38 0) 0 (map controlOf gs)) (sets (replicate 38 0) 0 (map targetOf gs)) 0 p (at controlOf) (at targetOf)
+moves-back gs p l = cnots-from-back gs (sets (replicate mostMoves 0) 0 (map controlOf gs)) (sets (replicate mostMoves 0) 0 (map targetOf gs)) 0 p (at controlOf) (at targetOf)
   where
-    at : (f : Gate → ℕ) (j : ℕ) → j < length gs → getD (sets (replicate 38 0) 0 (map f gs)) (0 + j) 0 ≡ getD (map f gs) j 0
-    at f j h = sets-at (replicate 38 0) 0 (map f gs) j (omega (arith, length-map gs f)) (omega (arith, length-map gs f, length-replicate {A = ℕ} 38 0))
+    at : (f : Gate → ℕ) (j : ℕ) → j < length gs → getD (sets (replicate mostMoves 0) 0 (map f gs)) (0 + j) 0 ≡ getD (map f gs) j 0
+    at f j h = sets-at (replicate mostMoves 0) 0 (map f gs) j (omega (arith, length-map gs f)) (omega (arith, length-map gs f, length-replicate {A = ℕ} mostMoves 0))
 
 plain-append : (g h : List Gate) → Plain g → Plain h → Plain (g ++ h)
 plain-append [] h p q = q
@@ -275,3 +275,10 @@ gather-back near Q v x = moves-back (gatherOf near Q v x) (gather-plain near Q v
 pub moves-len : (gs : List Gate) → movesIn gs .len ≡ length gs
 unfolding movesIn
 moves-len gs = refl
+
+-- moves that are held are as many as they are, and those of a gathering fit their memory
+pub held-len : (gs : List Gate) (m : Moves) → m ≡ movesIn gs → m .len ≡ length gs
+held-len gs m e = ap (λ (w : Moves). w .len) e ∙ moves-len gs
+
+pub gathered-few : (near : List ℕ) (Q v x : ℕ) (m : Moves) → m ≡ movesIn (gatherOf near Q v x) → m .len ≤ mostMoves
+gathered-few near Q v x m e = omega (arith, held-len (gatherOf near Q v x) m e, gather-few near Q v x)

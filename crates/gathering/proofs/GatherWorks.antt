@@ -31,7 +31,7 @@ use Rattle.sets.proofs.Lists.{all-none, all-append}
 use Rattle.chip.specs.Inside.{Coupled}
 use Rattle.chip.proofs.Insides.{coupled-up}
 use Rattle.gathering.specs.Order.{orderOf, Along, root, then}
-use Rattle.gathering.specs.Gather.{turns, Spares, movesAt, leftAt, gatherFrom, gatherOf, Gathers}
+use Rattle.gathering.specs.Gather.{turns, Spares, movesAt, leftAt, gatherFrom, gatherOf, Gathers, mostMoves}
 use Rattle.gathering.proofs.OrderParts.{sub-lt}
 use Rattle.gathering.proofs.OrderGrows.{order-along, order-first, order-few, along-in, along-once}
 
@@ -291,6 +291,6 @@ gather-from-few near os (suc k) S x =
     let a : ℕ = bitAnd (getD near u 0) E in
     omega (arith, ap length (gather-step near os k S x), length-append (movesAt a u x) (gatherFrom near os k E (leftAt a u x)), moves-few a u x, gather-from-few near os k E (leftAt a u x))
 
-pub gather-few : (near : List ℕ) (Q v x : ℕ) → length (gatherOf near Q v x) ≤ 38
+pub gather-few : (near : List ℕ) (Q v x : ℕ) → length (gatherOf near Q v x) ≤ mostMoves
 unfolding gatherOf
 gather-few near Q v x = omega (arith, gather-from-few near (orderOf near Q v) (length (orderOf near Q v) - 1) Q x, order-few near Q v)

@@ -9,12 +9,13 @@ use native.Mathlib.Omega.{arith}
 use lib.Dec.{ltb}
 use lib.ListN.{length, getD}
 use lib.Pow.{pow-mono}
-use borrow.Author.Tests.{ltb-true, ltb-false}
+use borrow.Author.Tests.{ltb-true, ltb-false, not-false}
 use Rattle.sets.specs.Pick.{pick}
 use Rattle.sets.specs.Bit.{Sub}
 use Rattle.sets.specs.Size.{lowestOf}
 use Rattle.sets.specs.Search.{firstOf, someOf}
 use Rattle.sets.proofs.Finding.{first-true, first-before, first-is, some-no}
+use Rattle.sets.proofs.Deciding.{never}
 use Rattle.sets.proofs.Words.{lowest-in, lowest-below}
 use Rattle.gates.specs.declared.gate.Gate.{Gate}
 use Rattle.verdicts.specs.declared.verdict.Verdict.the-variants.{Accepted, ManyParities, Unreachable, Room}
@@ -39,13 +40,6 @@ use Rattle.judging.specs.Tests.{judgedCount, judgedParities, leavesAt, strayAt,
 use Rattle.laying.proofs.Parting.{inside-sub, sub-inside}
 use Rattle.laying.proofs.Job.{parts}
 use Rattle.judging.proofs.Judging.{over-le, over-few, reach-pass, qubits-few}
-
-not-false : (b : Bool) → not b ≡ false → b ≡ true
-not-false true e = refl
-not-false false e = sym e
-
-not-true : (b : Bool) → b ≡ true → not b ≡ false
-not-true b e = ap not e
 
 -- ---- 7
 
@@ -86,15 +80,12 @@ module _ (n : ℕ) (xs : List ℕ) (gs : List Gate) (few : n ≤ 20) (good : All
   stays-back : (i : ℕ) → i < n → Sub (finalOf gs i) (isl i) → leavesAt isls (run gs start) i ≡ false
   unfolding leavesAt
   stays-back i h s =
-      not-true (insideOf (getD isls i 0) (getD (run gs start) i 0))
+      ap not
       (sub-inside (getD isls i 0) (getD (run gs start) i 0) (subst (Sub (getD (run gs start) i 0)) (sym (isle i h)) (subst (λ (m : ℕ). Sub m (isl i)) (final-is gs i) s)))
 
   pub stray-leaves : stray < n → Sub (finalOf gs stray) (isl stray) → ⊥
   unfolding strayAt
-  stray-leaves l s = different (sym (first-true (leavesAt isls (run gs start)) n 0 (omega arith)) ∙ stays-back stray l s)
-    where
-      different : true ≡ false → ⊥
-      different e = let z : _≡_ {A = ℕ} 1 0 = ap (λ (b : Bool). pick b 1 0) e in omega arith
+  stray-leaves l s = never (first-true (leavesAt isls (run gs start)) n 0 (omega arith)) (stays-back stray l s)
 
   module _ (p : ℕ) (a : Among p (terms gs)) where
     not-empty : p ≢ 0
@@ -117,7 +108,7 @@ module _ (n : ℕ) (xs : List ℕ) (gs : List Gate) (few : n ≤ 20) (good : All
     unfolding scatters
     gathered-back i h s =
         let e : isl i ≡ isl (lowestOf p) = parts n xs few .same i (lowestOf p) h (s (lowestOf p) (lowest-in p word not-empty)) in
-        not-true (insideOf (getD isls (lowestOf p) 0) p) (sub-inside (getD isls (lowestOf p) 0) p (subst (Sub p) (e ∙ sym (isle (lowestOf p) first)) s))
+        ap not (sub-inside (getD isls (lowestOf p) 0) p (subst (Sub p) (e ∙ sym (isle (lowestOf p) first)) s))
 
   none-scattered : scattered isls (terms gs) ≡ false → (k : ℕ) → k < length (terms gs) → scatters isls (getD (terms gs) k 0) ≡ false
   unfolding scattered someOf

@@ -38,10 +38,10 @@ unfolding sumTo
 sum-swap zero m f = sym (sum-none m (λ i. sumTo 0 (λ q. f q i)) (λ i l. refl))
 sum-swap (suc n) m f = ap (λ (a : ℕ). a + sumTo m (λ i. f n i)) (sum-swap n m f) ∙ sym (sum-plus m (λ i. sumTo n (λ q. f q i)) (λ i. f n i))
 
-sum-front : (n : ℕ) (f : ℕ → ℕ) → sumTo (suc n) f ≡ f 0 + sumTo n (λ k. f (suc k))
+sum-first : (n : ℕ) (f : ℕ → ℕ) → sumTo (suc n) f ≡ f 0 + sumTo n (λ k. f (suc k))
 unfolding sumTo
-sum-front zero f = omega arith
-sum-front (suc n) f = omega (arith, sum-front n f)
+sum-first zero f = omega arith
+sum-first (suc n) f = omega (arith, sum-first n f)
 
 -- a set has as many members as it has bits
 pub ones-bits : (n x : ℕ) → x < 2 ^ n → ones x ≡ sumTo n (bit x)
@@ -49,4 +49,4 @@ unfolding sumTo
 ones-bits zero x l = ap ones (lt-one l) ∙ ones-of-zero
 ones-bits (suc n) x l =
     let l2 : x < 2 ^ n * 2 = rw pow-suc at l in
-    omega (arith, ones-step x, ones-bits n (x / 2) (omega arith), sum-front n (bit x), bit-zero x, sum-ext n (bit (x / 2)) (λ k. bit x (suc k)) (λ k b. sym (bit-suc x k)))
+    omega (arith, ones-step x, ones-bits n (x / 2) (omega arith), sum-first n (bit x), bit-zero x, sum-ext n (bit (x / 2)) (λ k. bit x (suc k)) (λ k b. sym (bit-suc x k)))

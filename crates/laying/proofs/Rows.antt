@@ -38,7 +38,7 @@ pub tests-4 : (gates : List ℕ) → Tests (judgedCount gates) 4 (Passes4 gates)
 unfolding judgedCount
 tests-4 gates = limit-tests mostGates (length gates) ManyGates (omega arith) refl
 
-tests-8 : (n : ℕ) (drawn : List Gate) (room : ℕ) → Tests (judgedRoom n drawn room) 8 (Passes8 n drawn room) (room < boundOf n (length (terms drawn))) Nowhere
+pub tests-8 : (n : ℕ) (drawn : List Gate) (room : ℕ) → Tests (judgedRoom n drawn room) 8 (Passes8 n drawn room) (room < boundOf n (length (terms drawn))) Nowhere
 unfolding judgedRoom
 tests-8 n drawn room = limit-tests room (boundOf n (length (terms drawn))) Room (omega arith) refl
 

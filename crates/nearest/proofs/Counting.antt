@@ -16,7 +16,7 @@ use Rattle.sets.specs.Size.{lowestOf, onlyOf}
 use Rattle.sets.proofs.Bits.{bit-pow-same, bit-cases, bit-of-zero}
 use Rattle.sets.proofs.Members.{in-and, and-in, single-sub}
 use Rattle.sets.proofs.Words.{in-has, out-has, has-past, only-is}
-use Rattle.gathering.specs.Gather.{movesAt, leftAt, gatherFrom}
+use Rattle.gathering.specs.Gather.{movesAt, leftAt, gatherFrom, mostMoves}
 use Rattle.gathering.proofs.GatherWorks.{gather-step, gather-none, moves-few}
 use Rattle.nearest.specs.Choice.{outAt}
 use Rattle.nearest.specs.declared.choice.Out.{Out}
@@ -70,7 +70,7 @@ module _ (a u x : ℕ) where
 
 -- n moves are counted; those of the first k members are still to come
 pub record Counting (near order : List ℕ) (from k E x n total : ℕ) : Type 0 where
-  pub few : n + 2 * k ≤ 38
+  pub few : n + 2 * k ≤ mostMoves
   pub count : n + length (gatherFrom near (drop from order) k E x) ≡ total
 
 module _ (near order : List ℕ) (from : ℕ) where

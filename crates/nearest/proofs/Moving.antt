@@ -1,5 +1,5 @@
 -- Moves laid one after another. Assumes nothing.
-use mathlib.Core.Path.{_≡_, refl, sym, ap, _∙_, subst}
+use mathlib.Core.Path.{_≡_, refl, sym, ap, _∙_}
 use mathlib.Core.List.{List, [], _∷_}
 use Prim.Native.Nat.{ℕ, suc, _+_, _-_, _≤_, _<_}
 use native.Mathlib.Omega.{arith}
@@ -12,8 +12,7 @@ use Rattle.columns.specs.Striking.{strikeOff}
 use Rattle.gathering.specs.Gather.{gatherOf, movesIn, cnotsFrom}
 use Rattle.gathering.specs.declared.gather.Moves.{Moves}
 use Rattle.columns.proofs.Piecing.{wrote-none, wrote-on}
-use Rattle.gathering.proofs.GatherWorks.{gather-few}
-use Rattle.gathering.proofs.GatherCode.{cnots-from-step, cnots-from-none, gather-back, moves-len}
+use Rattle.gathering.proofs.GatherCode.{cnots-from-step, cnots-from-none, gather-back}
 use Rattle.nearest.specs.Moves.{layMove, layMoves}
 use Rattle.nearest.specs.Nearest.{gatherNext}
 
@@ -48,9 +47,6 @@ module _ (angles to by : List ℕ) where
       wrote-none out at xs ∙ ap (wrote out at) (sym (moves-none angles xs) ∙ ap (λ (g : List Gate). layMoves angles g xs) (sym (cnots-from-none to by i) ∙ ap (cnotsFrom to by i) z))
 
 -- ---- a gathering is laid
-
-pub gather-fits : (near : List ℕ) (Q v x : ℕ) (m : Moves) → m ≡ movesIn (gatherOf near Q v x) → m .len ≤ 38
-gather-fits near Q v x m e = subst (λ (m : Moves). m .len ≤ 38) (sym e) (omega (arith, moves-len (gatherOf near Q v x), gather-few near Q v x))
 
 pub next-wrote : (near angles : List ℕ) (Q k v : ℕ) (xs out : List ℕ) (at x : ℕ) (m : Moves) {w : Memory} → x ≡ getD xs k 0 → m ≡ movesIn (gatherOf near Q v x)
     → w ≡ wrote out at (layMoves angles (cnotsFrom (m .to) (m .by) 0 (m .len)) xs) → w ≡ wrote out at (gatherNext near angles Q k v xs)

@@ -129,7 +129,7 @@ module _ (near : List ℕ) (Q : ℕ) where
   pub chosen-sound : (xs : List ℕ) → chosen near Q xs .moves < far
       → In (chosen near Q xs .qubit) (getD xs (chosen near Q xs .column) 0) × (chosen near Q xs .moves ≡ length (gatherOf near Q (chosen near Q xs .qubit) (getD xs (chosen near Q xs .column) 0)))
   unfolding chosen
-  chosen-sound xs = columns-sound xs (length xs) 0 (choice 0 0 far) (λ (m : 39 < 39). absurd (omega arith))
+  chosen-sound xs = columns-sound xs (length xs) 0 (choice 0 0 far) (λ (m : far < far). absurd (omega arith))
 
   -- where it is far, no column is left
   pub chosen-over : (xs : List ℕ) → ((k : ℕ) → getD xs k 0 < 2 ^ 20) → far ≤ chosen near Q xs .moves → (k : ℕ) → getD xs k 0 ≡ 0

@@ -1,7 +1,7 @@
 -- Where every gathering works, each takes a move for every qubit of its column but one. Assumes nothing.
 use mathlib.Core.Path.{_≡_, refl, sym, ap, _∙_, subst}
 use mathlib.Core.Logic.{_≢_, _⊎_, inl, inr}
-use mathlib.Core.Bool.{Bool, true, false, not}
+use mathlib.Core.Bool.{Bool, true, false}
 use mathlib.Core.List.{List, [], _∷_}
 use Prim.Native.Nat.{ℕ, zero, suc, _+_, _^_, _≤_, _<_}
 use native.Mathlib.Omega.{arith}
@@ -81,10 +81,6 @@ unfolding sizeOf
 over-same near Q k x b n s e en h = qubits-same near Q s x (λ i m. in-and x Q i (subst (In i) (sym e) m) .1) k b (omega arith) 20 0
 
 -- ---- the test
-
-pub not-not : (b : Bool) → not b ≡ false → b ≡ true
-not-not true e = refl
-not-not false e = sym e
 
 pub told-not : (P : Type 0) → Whenever false P
 told-not P t = let z : _≡_ {A = ℕ} 0 1 = ap (λ (b : Bool). pick b 1 0) t in absurd (omega arith)

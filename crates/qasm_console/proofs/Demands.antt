@@ -1,18 +1,17 @@
 -- Demands 2 and 3 from OpenQASM to OpenQASM, as theorems about texts. Assumes nothing.
 use mathlib.Core.Path.{_≡_, refl, sym, ap, ap₂, _∙_, subst}
-use mathlib.Core.Bool.{Bool, true, false}
+use mathlib.Core.Bool.{true, false}
 use mathlib.Core.List.{List, [], _∷_, _++_, append-assoc, map}
 use Prim.Native.Nat.{ℕ, _≤_}
 use native.Mathlib.Omega.{arith}
 use lib.ListN.{length}
 use borrow.Author.Tests.{le-ltb}
-use Rattle.sets.specs.Pick.{both}
 use Rattle.gates.specs.declared.gate.Gate.{Gate}
-use Rattle.gates.specs.declared.gate.Gate.the-variants.{Cnot, Rotation, X, Bad}
 use Rattle.gates.specs.Layout.{gateOf, isBad, recordOf, Good}
 use Rattle.gates.specs.Hadamards.{isHadamard}
 use Rattle.sets.specs.Lists.{All}
-use Rattle.gates.proofs.Records.{gate-record}
+use Rattle.sets.proofs.Deciding.{both-no}
+use Rattle.gates.proofs.Records.{gate-record, good-not-bad}
 use Rattle.verdicts.specs.Verdicts.{numberOf, isNeither}
 use Rattle.verdicts.proofs.Judged.{then-on}
 use Rattle.verdicts.proofs.Passing.{drawn-accepted}
@@ -60,24 +59,13 @@ use Rattle.qasm_console.specs.Demands.{Drawn, Kept}
 abbrev Writable : ℕ → ℕ → Type 0
 Writable n x = isNeither n x ≡ false
 
-good-not-bad : (n : ℕ) (g : Gate) → Good n g → isBad g ≡ false
-unfolding Good
-good-not-bad n (Cnot c t) h = refl
-good-not-bad n (Rotation q a) h = refl
-good-not-bad n (X q) h = refl
-good-not-bad n Bad h = absurd h
-
 gate-fine : (n : ℕ) (g : Gate) → n ≤ 256 → Good n g → Writable n (recordOf g)
 unfolding isNeither
 gate-fine n g few good = rw (gate-record n g few good, good-not-bad n g good)
 
 hadamard-fine : (n x : ℕ) → isHadamard n x ≡ true → Writable n x
 unfolding isNeither
-hadamard-fine n x e = rw e (go (isBad (gateOf n x)))
-  where
-    go : (t : Bool) → both t false ≡ false
-    go true = refl
-    go false = refl
+hadamard-fine n x e = rw e (both-no (isBad (gateOf n x)) false refl)
 
 woven-all : (P : ℕ → Type 0) (ss : List (List ℕ)) (hs : List ℕ) → All (All P) ss → All P hs → All P (weave ss hs)
 unfolding weave All
@@ -86,9 +74,7 @@ woven-all P (s ∷ ss) [] a b = a .0
 woven-all P (s ∷ ss) (h ∷ hs) a b = all-append P s (h ∷ weave ss hs) (a .0) (b .0, woven-all P ss hs (a .1) (b .1))
 
 gates-fine : (n : ℕ) (gs : List Gate) → n ≤ 256 → All (Good n) gs → All (Writable n) (map recordOf gs)
-unfolding All
-gates-fine n [] few a = tt
-gates-fine n (g ∷ gs) few a = (gate-fine n g few (a .0), gates-fine n gs few (a .1))
+gates-fine n gs few a = all-mapped (Good n) (Writable n) recordOf (λ g good. gate-fine n g few good) gs a
 
 module _ (n : ℕ) (couplers gates : List ℕ) (p : Passed n couplers gates) where
   laid-fine : All (Writable n) (jobRecords n couplers gates)

@@ -16,7 +16,7 @@ use Rattle.verdicts.specs.InOrder.{andThen}
 use Rattle.stretches.specs.Tests.{judgedStretches}
 use Rattle.lines.specs.Pattern.{filled}
 use Rattle.reading.specs.Limits.{mostBytes}
-use Rattle.reading.specs.Readings.{couplersIn, judgedPlaces}
+use Rattle.reading.specs.Readings.{couplersIn}
 use Rattle.reading.specs.Listing.{parsedCouplers, judgedCouplersText}
 use Rattle.reading.proofs.ListingEnough.{listing-never-8}
 use Rattle.versions.specs.declared.Version.{Version}
@@ -24,7 +24,7 @@ use Rattle.versions.specs.declared.Version.the-variants.{Two, Three}
 use Rattle.qasm_lines.specs.Spelling.{headText, circuitText}
 use Rattle.qasm_reading.specs.Parsing.{ParsedCircuit, circuit, angle, statement, early, unversioned, parsedCircuit}
 use Rattle.qasm_reading.specs.declared.read.Circuit.{Circuit}
-use Rattle.qasm_reading.specs.Readings.{circuitGates, circuitIn, judgedStatements, judgedCircuitText}
+use Rattle.qasm_reading.specs.Readings.{circuitGates, circuitIn, judgedFound, judgedCircuitText}
 use Rattle.qasm_reading.proofs.Enough.{gates-few}
 use Rattle.console.specs.Printed.{mostCouplerLines, mostGateLines, refusalOf, unless}
 use Rattle.console.proofs.Choosing.{unless-refused}
@@ -37,7 +37,7 @@ pub couplers-never-8 : (s : List ℕ) → numberOf (judgedCouplersText s mostCou
 couplers-never-8 s = listing-never-8 s mostCouplerLines (omega arith)
 
 module _ (t : List ℕ) where
-  within : length t ≤ mostBytes → (p : ParsedCircuit) → parsedCircuit t ≡ p → numberOf (andThen (judgedStatements t p) (judgedPlaces (length (circuitGates p)) mostGateLines)) ≢ 8
+  within : length t ≤ mostBytes → (p : ParsedCircuit) → parsedCircuit t ≡ p → numberOf (judgedFound t mostGateLines p) ≢ 8
   within h (circuit v n gates phase) e z =
       let few : length gates ≤ mostGateLines = omega (arith, gates-few t h, ap (λ (p : ParsedCircuit). length (circuitGates p)) e) in
       let y : _≡_ {A = ℕ} 0 8 = sym (ap (λ (b : Bool). numberOf (pick b Accepted Room)) (le-leb (length gates) mostGateLines few)) ∙ z in
@@ -51,7 +51,7 @@ module _ (t : List ℕ) where
   unfolding judgedCircuitText
   drawing-never-8 z = go (leb (length t) mostBytes) refl z
     where
-      go : (b : Bool) → leb (length t) mostBytes ≡ b → numberOf (andThen (pick b Accepted LongText) (andThen (judgedStatements t (parsedCircuit t)) (judgedPlaces (length (circuitGates (parsedCircuit t))) mostGateLines))) ≢ 8
+      go : (b : Bool) → leb (length t) mostBytes ≡ b → numberOf (andThen (pick b Accepted LongText) (judgedFound t mostGateLines (parsedCircuit t))) ≢ 8
       go true e z = within (leb-true (length t) mostBytes e) (parsedCircuit t) refl z
       go false e z = let y : _≡_ {A = ℕ} 11 8 = z in omega arith
 

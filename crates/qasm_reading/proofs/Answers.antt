@@ -5,25 +5,22 @@ use mathlib.Core.List.{List, [], _∷_}
 use mathlib.Core.Option.{Option, none, some}
 use Prim.Native.Nat.{ℕ, _-_, _≤_, _<_}
 use native.Mathlib.Omega.{arith}
-use lib.Dec.{leb, eqb}
 use lib.ListN.{length, take}
 use borrow.Author.Tests.{le-leb, lt-leb}
 use Rattle.sets.specs.Pick.{pick}
-use Rattle.verdicts.specs.declared.verdict.Verdict.the-variants.{Accepted, Room, LongText, Angle, Statement}
-use Rattle.verdicts.specs.Verdicts.{numberOf}
-use Rattle.verdicts.specs.InOrder.{andThen}
+use Rattle.verdicts.specs.declared.verdict.Verdict.the-variants.{Room, LongText, Angle, Statement}
 use Rattle.reading.specs.Limits.{mostBytes}
 use Rattle.words.specs.Bytes.{lineAt, lineBehind}
 use Rattle.words.specs.Words.{Word}
 use Rattle.spots.specs.Numbers.{Got}
-use Rattle.reading.specs.Readings.{judgedPlaces, lentAfter}
+use Rattle.reading.specs.Readings.{lentAfter}
 use Rattle.versions.specs.declared.Version.{Version}
 use Rattle.versions.specs.declared.Version.the-variants.{Two, Three}
 use Rattle.statements.specs.Statements.{readVersion, readInclude, readName, readRegister, hasEnd, badAngle}
-use Rattle.qasm_reading.specs.Parsing.{ParsedCircuit, circuit, angle, statement, early, unversioned, leftOf, headFault, endCircuit, registered, included, versioned, parsedWords, parsedCircuit}
+use Rattle.qasm_reading.specs.Parsing.{circuit, statement, early, unversioned, leftOf, headFault, endCircuit, registered, included, versioned, parsedWords, parsedCircuit}
 use Rattle.qasm_reading.specs.declared.read.CircuitReading.{CircuitReading}
 use Rattle.qasm_reading.specs.declared.read.CircuitReading.the-variants.{Read, Refused}
-use Rattle.qasm_reading.specs.Readings.{circuitIn, circuitVerdict, judgedStatements, judgedCircuitText, circuitReading, answerOf, lineOf, circuitGates}
+use Rattle.qasm_reading.specs.Readings.{circuitVerdict, judgedCircuitText, circuitReading, foundAnswer, lineOf}
 
 -- ---- the line of a word
 
@@ -39,7 +36,7 @@ line-end s ws e = rw e
 -- ---- the include line and the register
 
 module _ (s : List ℕ) (ws : List Word) where
-  pub head-has : {p : ℕ} → hasEnd ws ≡ true → p ≡ lineOf s ws → Refused (Statement p) ≡ answerOf s 0 (headFault ws)
+  pub head-has : {p : ℕ} → hasEnd ws ≡ true → p ≡ lineOf s ws → Refused (Statement p) ≡ foundAnswer s 0 (headFault ws)
   unfolding headFault hasEnd
   head-has {p} e q = rw e (go ws e q)
     where
@@ -47,42 +44,42 @@ module _ (s : List ℕ) (ws : List Word) where
       go [] e q = let z : _≡_ {A = ℕ} 0 1 = cc e in absurd (omega arith)
       go (w ∷ ws) e q = ap (λ k. Refused (Statement k)) q
 
-  pub head-not : hasEnd ws ≡ false → Refused (Statement 0) ≡ answerOf s 0 (headFault ws)
+  pub head-not : hasEnd ws ≡ false → Refused (Statement 0) ≡ foundAnswer s 0 (headFault ws)
   unfolding headFault
   head-not e = rw e
 
-  pub head-room : (room : ℕ) → answerOf s 0 (headFault ws) ≡ answerOf s room (headFault ws)
+  pub head-room : (room : ℕ) → foundAnswer s 0 (headFault ws) ≡ foundAnswer s room (headFault ws)
   unfolding headFault
   head-room room = go (hasEnd ws)
     where
-      go : (t : Bool) → answerOf s 0 (pick t (statement (leftOf ws)) early) ≡ answerOf s room (pick t (statement (leftOf ws)) early)
+      go : (t : Bool) → foundAnswer s 0 (pick t (statement (leftOf ws)) early) ≡ foundAnswer s room (pick t (statement (leftOf ws)) early)
       go true = refl
       go false = refl
 
-  pub head-list : (new old : List ℕ) {r : CircuitReading} → r ≡ answerOf s 0 (headFault ws) → old ≡ lentAfter (circuitVerdict r) new old
+  pub head-list : (new old : List ℕ) {r : CircuitReading} → r ≡ foundAnswer s 0 (headFault ws) → old ≡ lentAfter (circuitVerdict r) new old
   unfolding headFault
   head-list new old e = rw e (go (hasEnd ws))
     where
-      go : (t : Bool) → old ≡ lentAfter (circuitVerdict (answerOf s 0 (pick t (statement (leftOf ws)) early))) new old
+      go : (t : Bool) → old ≡ lentAfter (circuitVerdict (foundAnswer s 0 (pick t (statement (leftOf ws)) early))) new old
       go true = refl
       go false = refl
 
 -- ---- behind the register
 
 module _ (s : List ℕ) (room : ℕ) (v : Version) (name : List ℕ) (n : ℕ) (gs : List ℕ) (h : ℕ) (l : List Word) {p : ℕ} (q : p ≡ lineOf s l) where
-  pub end-angle : 0 < p → badAngle v name (some l) ≡ true → Refused (Angle p) ≡ answerOf s room (endCircuit v name n gs h l)
+  pub end-angle : 0 < p → badAngle v name (some l) ≡ true → Refused (Angle p) ≡ foundAnswer s room (endCircuit v name n gs h l)
   unfolding endCircuit
   end-angle i b = go l q b
     where
-      go : (l : List Word) → p ≡ lineOf s l → badAngle v name (some l) ≡ true → Refused (Angle p) ≡ answerOf s room (endCircuit v name n gs h l)
+      go : (l : List Word) → p ≡ lineOf s l → badAngle v name (some l) ≡ true → Refused (Angle p) ≡ foundAnswer s room (endCircuit v name n gs h l)
       go [] q b = absurd (omega arith)
       go (w ∷ ws) q b = rw b (ap (λ k. Refused (Angle k)) q)
 
-  pub end-statement : 0 < p → badAngle v name (some l) ≡ false → Refused (Statement p) ≡ answerOf s room (endCircuit v name n gs h l)
+  pub end-statement : 0 < p → badAngle v name (some l) ≡ false → Refused (Statement p) ≡ foundAnswer s room (endCircuit v name n gs h l)
   unfolding endCircuit
   end-statement i b = go l q b
     where
-      go : (l : List Word) → p ≡ lineOf s l → badAngle v name (some l) ≡ false → Refused (Statement p) ≡ answerOf s room (endCircuit v name n gs h l)
+      go : (l : List Word) → p ≡ lineOf s l → badAngle v name (some l) ≡ false → Refused (Statement p) ≡ foundAnswer s room (endCircuit v name n gs h l)
       go [] q b = absurd (omega arith)
       go (w ∷ ws) q b = rw b (ap (λ k. Refused (Statement k)) q)
 
@@ -95,10 +92,10 @@ module _ (s : List ℕ) (room : ℕ) (v : Version) (name : List ℕ) (n : ℕ) (
       go (w ∷ ws) q = absurd (omega arith)
 
 module _ (s : List ℕ) (room : ℕ) (v : Version) (n : ℕ) (gs : List ℕ) (g : ℕ) where
-  pub room-short : room < length gs → Refused Room ≡ answerOf s room (circuit v n gs g)
+  pub room-short : room < length gs → Refused Room ≡ foundAnswer s room (circuit v n gs g)
   room-short h = rw (lt-leb (length gs) room h)
 
-  pub room-long : {k p : ℕ} → k ≡ length gs → p ≡ g → k ≤ room → Read (record { version = v; qubits = n; gates = k; phase = p }) ≡ answerOf s room (circuit v n gs g)
+  pub room-long : {k p : ℕ} → k ≡ length gs → p ≡ g → k ≤ room → Read (record { version = v; qubits = n; gates = k; phase = p }) ≡ foundAnswer s room (circuit v n gs g)
   room-long {k} e d h = let j : length gs ≤ room = omega arith in rw (e, d, le-leb (length gs) room j)
 
 -- ---- the whole text
@@ -107,22 +104,9 @@ pub reading-long : (s : List ℕ) (room : ℕ) → mostBytes < length s → Refu
 unfolding circuitReading judgedCircuitText
 reading-long s room h = rw (lt-leb (length s) mostBytes h)
 
--- the answer by the tests: what was found, and whether the list is long enough
-answer-by : (s : List ℕ) (room : ℕ) (p : ParsedCircuit)
-    → pick (eqb (numberOf (andThen (judgedStatements s p) (judgedPlaces (length (circuitGates p)) room))) 0) (Read (circuitIn p)) (Refused (andThen (judgedStatements s p) (judgedPlaces (length (circuitGates p)) room))) ≡ answerOf s room p
-answer-by s room (circuit v n gs g) = go (leb (length gs) room)
-  where
-    go : (t : Bool) → pick (eqb (numberOf (pick t Accepted Room)) 0) (Read (circuitIn (circuit v n gs g))) (Refused (pick t Accepted Room)) ≡ pick t (Read (circuitIn (circuit v n gs g))) (Refused Room)
-    go true = refl
-    go false = refl
-answer-by s room (angle l) = refl
-answer-by s room (statement l) = refl
-answer-by s room early = refl
-answer-by s room unversioned = refl
-
-pub reading-is : (s : List ℕ) (room : ℕ) → length s ≤ mostBytes → circuitReading s room ≡ answerOf s room (parsedCircuit s)
+pub reading-is : (s : List ℕ) (room : ℕ) → length s ≤ mostBytes → circuitReading s room ≡ foundAnswer s room (parsedCircuit s)
 unfolding circuitReading judgedCircuitText
-reading-is s room h = rw (le-leb (length s) mostBytes h) (answer-by s room (parsedCircuit s))
+reading-is s room h = rw (le-leb (length s) mostBytes h)
 
 -- ---- what stands in front of the gates
 

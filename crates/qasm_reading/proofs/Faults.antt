@@ -71,7 +71,7 @@ module _ (s : List ℕ) (f : Fault s) where
 
 -- ---- a text that ends before the register
 
-register-long : (v : Version) (name : List ℕ) (n : ℕ) → length (registerWords v name n) ≡ 6
+pub register-long : (v : Version) (name : List ℕ) (n : ℕ) → length (registerWords v name n) ≡ 6
 unfolding registerWords
 register-long Two name n = refl
 register-long Three name n = refl

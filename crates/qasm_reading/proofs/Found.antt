@@ -23,7 +23,7 @@ use Rattle.qasm_reading.specs.Parsing.{ParsedCircuit, circuit, angle, st
 use Rattle.words.specs.Bytes.{lineAt}
 use Rattle.qasm_reading.specs.Texts.{CircuitText, Unversioned, Seen, Early, versionLine, bothLines, second, third, gate, Fault, WrongAngle, WrongStatement, here, cut, short}
 use Rattle.qasm_reading.proofs.Runs.{statement-run-whole}
-use Rattle.qasm_reading.proofs.Faults.{Stuck, angle-parsed}
+use Rattle.qasm_reading.proofs.Faults.{Stuck, angle-parsed, register-long}
 
 -- ---- how long a beginning is tells how far it goes, and its second word its version
 
@@ -34,11 +34,6 @@ version-long v = refl
 both-long : (v : Version) → length (versionWords v ++ includeWords v) ≡ 6
 unfolding versionWords includeWords
 both-long v = refl
-
-register-long : (v : Version) (name : List ℕ) (n : ℕ) → length (registerWords v name n) ≡ 6
-unfolding registerWords
-register-long Two name n = refl
-register-long Three name n = refl
 
 seen-long : (v : Version) (name : List ℕ) (bs : List (List ℕ)) → Seen v name bs → 12 ≤ length bs
 unfolding headWords versionWords includeWords

@@ -4,6 +4,7 @@ use mathlib.Core.Bool.{true}
 use mathlib.Core.List.{List, [], _∷_, _++_, append-assoc, append-nil}
 use mathlib.Core.Option.{none, some}
 use Prim.Native.Nat.{ℕ, _≤_}
+use Rattle.sets.specs.Lists.{All}
 use Rattle.words.specs.Words.{Word, words, bodies}
 use Rattle.spots.specs.Numbers.{Got}
 use Rattle.words.specs.Taking.{isName}
@@ -12,7 +13,7 @@ use Rattle.circuit.proofs.Phases.{phases-again}
 use Rattle.versions.specs.declared.Version.{Version}
 use Rattle.versions.specs.declared.Version.the-variants.{Two, Three}
 use Rattle.statements.specs.Statements.{readVersion, readInclude, readName, readRegister, readGate}
-use Rattle.statements.specs.Forms.{Form, AllGood, formsWords, versionWords, includeWords, registerWords, headWords, formRecords, formPhase, phaseOfForms}
+use Rattle.statements.specs.Forms.{Form, GoodForm, formsWords, versionWords, includeWords, registerWords, headWords, formRecords, formPhase, phaseOfForms}
 use Rattle.statements.proofs.Words.{before}
 use Rattle.statements.proofs.Heads.{version-on, version-apart-back, include-on, name-on, register-on}
 use Rattle.qasm_reading.specs.Parsing.{circuit, endCircuit, statementRun, registered, included, versioned, parsedWords, parsedCircuit}
@@ -53,7 +54,7 @@ after-register v name n ws t h k e =
     ∙ ap (λ m. endCircuit v m n (statementRun v m t .records) (statementRun v m t .phase) (statementRun v m t .left)) (name-on (b .back) t v name n h k (b .back-spelt))
 
 -- .. and behind gates
-after-gates : (v : Version) (name : List ℕ) (n : ℕ) (fs : List Form) (ws t : List Word) → isName name ≡ true → n ≤ 255 → AllGood v fs → bodies ws ≡ headWords v name n ++ formsWords name fs
+after-gates : (v : Version) (name : List ℕ) (n : ℕ) (fs : List Form) (ws t : List Word) → isName name ≡ true → n ≤ 255 → All (GoodForm v) fs → bodies ws ≡ headWords v name n ++ formsWords name fs
     → parsedWords (ws ++ t) ≡ endCircuit v name n (formRecords fs ++ statementRun v name t .records) (phases (phaseOfForms v fs) (statementRun v name t .phase)) (statementRun v name t .left)
 after-gates v name n fs ws t h k g e =
     let b = before (headWords v name n) (formsWords name fs) ws e in

@@ -12,14 +12,12 @@ use Rattle.verdicts.specs.declared.verdict.Verdict.{Verdict}
 use Rattle.verdicts.specs.declared.verdict.Verdict.the-variants as verdicts
 use Rattle.verdicts.specs.declared.verdict.Verdict.the-variants.{Accepted, Room, LongText, Angle, Statement}
 use Rattle.verdicts.specs.Verdicts.{numberOf, placeOf}
-use Rattle.verdicts.specs.InOrder.{andThen}
 use Rattle.verdicts.specs.Rows.{Nowhere}
-use Rattle.reading.specs.Readings.{judgedPlaces}
 use Rattle.reading.specs.Limits.{mostBytes}
 use Rattle.versions.specs.declared.Version.{Version}
 use Rattle.qasm_reading.specs.Parsing.{ParsedCircuit, circuit, angle, statement, early, unversioned, parsedCircuit}
 use Rattle.words.specs.Bytes.{lineAt}
-use Rattle.qasm_reading.specs.Readings.{judgedStatements, judgedCircuitText, circuitGates}
+use Rattle.qasm_reading.specs.Readings.{judgedFound, judgedCircuitText}
 use Rattle.qasm_reading.specs.Texts.{CircuitText, Unversioned, WrongAngle, WrongStatement}
 use Rattle.qasm_reading.specs.Rows.{Short, CircuitReadingRows}
 use Rattle.qasm_reading.proofs.Parsed.{circuit-parsed}
@@ -34,12 +32,12 @@ module _ (s : List ℕ) (room : ℕ) where
   judged-long h = rw (lt-leb (length s) mostBytes h)
 
   module _ (h : Short s) where
-    judged-short : judgedCircuitText s room ≡ andThen (judgedStatements s (parsedCircuit s)) (judgedPlaces (length (circuitGates (parsedCircuit s))) room)
+    judged-short : judgedCircuitText s room ≡ judgedFound s room (parsedCircuit s)
     unfolding judgedCircuitText
     judged-short = rw (le-leb (length s) mostBytes h)
 
-    pub judged-as : (p : ParsedCircuit) → parsedCircuit s ≡ p → judgedCircuitText s room ≡ andThen (judgedStatements s p) (judgedPlaces (length (circuitGates p)) room)
-    judged-as p e = judged-short ∙ ap (λ p. andThen (judgedStatements s p) (judgedPlaces (length (circuitGates p)) room)) e
+    pub judged-as : (p : ParsedCircuit) → parsedCircuit s ≡ p → judgedCircuitText s room ≡ judgedFound s room p
+    judged-as p e = judged-short ∙ ap (judgedFound s room) e
 
     pub judged-good : (v : Version) (n : ℕ) (gates : List ℕ) (g : ℕ) → CircuitText s v n gates g → length gates ≤ room → judgedCircuitText s room ≡ Accepted
     judged-good v n gates g c l = judged-as (circuit v n gates g) (circuit-parsed s v n gates g c) ∙ rw (le-leb (length gates) room l)

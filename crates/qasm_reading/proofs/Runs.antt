@@ -5,12 +5,13 @@ use mathlib.Core.Option.{Option, none, some}
 use Prim.Native.Nat.{ℕ, zero, suc, _≤_, _<_}
 use native.Mathlib.Omega.{arith}
 use lib.ListN.{length, length-append}
+use Rattle.sets.specs.Lists.{All}
 use Rattle.words.specs.Words.{Word, bodies}
 use Rattle.circuit.specs.Phase.{phases}
 use Rattle.circuit.proofs.Phases.{phases-lt, phases-none, phases-over}
 use Rattle.versions.specs.declared.Version.{Version}
 use Rattle.statements.specs.Statements.{Said, readGate}
-use Rattle.statements.specs.Forms.{Form, cnot, turn, xgate, hadamard, common, GoodForm, AllGood, formWords, formsWords, formRecord, formRecords, formPhase, phaseOfForms}
+use Rattle.statements.specs.Forms.{Form, cnot, turn, xgate, hadamard, common, GoodForm, formWords, formsWords, formRecord, formRecords, formPhase, phaseOfForms}
 use Rattle.statements.proofs.Back.{gate-said-back}
 use Rattle.statements.proofs.Words.{bodies-length, bodies-append, before, gate-on}
 use Rattle.qasm_reading.specs.Parsing.{StatementRun, statementRunOn, statementRunIn, statementRun}
@@ -105,7 +106,7 @@ statement-run-some v name (w ∷ ws) t e =
 -- a run is spelt by forms of its records, and behind it no gate stands
 pub record WholeStatements (v : Version) (name : List ℕ) (ws : List Word) (r : StatementRun) : Type 0 where
   pub forms : List Form
-  pub good : AllGood v forms
+  pub good : All (GoodForm v) forms
   pub meant : formRecords forms ≡ r .records
   pub shifted : phaseOfForms v forms ≡ r .phase
   pub words : List Word
@@ -114,7 +115,7 @@ pub record WholeStatements (v : Version) (name : List ℕ) (ws : List Word) (r :
   pub stops : readGate v name (some (r .left)) .rest ≡ none
 
 whole-in : (f : ℕ) (v : Version) (name : List ℕ) (ws : List Word) → length ws ≤ f → WholeStatements v name ws (statementRunIn f v name ws)
-unfolding statementRunIn AllGood formRecords phaseOfForms formsWords
+unfolding statementRunIn All formRecords phaseOfForms formsWords
 whole-in zero v name [] h = record { forms = []; good = tt; meant = refl; shifted = refl; words = []; same = refl; spelt = refl; stops = gate-nil v name }
 whole-in zero v name (w ∷ ws) h = absurd (omega arith)
 whole-in (suc f) v name ws h = go (readGate v name (some ws) .rest) refl (whole-in f v name)
@@ -154,9 +155,9 @@ unfolding statementRun
 run-small v name ws = small-in (length ws) v name ws
 
 -- words that are spelt by forms are read as these, and then what stands behind them
-pub statement-run-on : (v : Version) (name : List ℕ) (fs : List Form) (ws t : List Word) → AllGood v fs → bodies ws ≡ formsWords name fs
+pub statement-run-on : (v : Version) (name : List ℕ) (fs : List Form) (ws t : List Word) → All (GoodForm v) fs → bodies ws ≡ formsWords name fs
     → statementRun v name (ws ++ t) ≡ record { records = formRecords fs ++ statementRun v name t .records; phase = phases (phaseOfForms v fs) (statementRun v name t .phase); left = statementRun v name t .left }
-unfolding AllGood formRecords phaseOfForms formsWords
+unfolding All formRecords phaseOfForms formsWords
 statement-run-on v name [] [] t h e = rw (phases-none (statementRun v name t .phase) (run-small v name t))
 statement-run-on v name [] (w ∷ ws) t h e = let z : _≡_ {A = ℕ} (suc (length (bodies ws))) 0 = ap length e in absurd (omega arith)
 statement-run-on v name (f ∷ fs) ws t h e =

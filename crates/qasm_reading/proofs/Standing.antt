@@ -6,6 +6,7 @@ use Prim.Native.Nat.{ℕ, _<_}
 use native.Mathlib.Omega.{arith}
 use lib.Dec.{eqb}
 use borrow.Author.Tests.{eqb-true, eqb-false, ne-eqb}
+use Rattle.sets.specs.Lists.{All}
 use Rattle.reading.specs.Misfit.{NoLf}
 use Rattle.words.specs.Bytes.{blank, small, inName, inWord, goesOn, slashes, AllOn}
 use Rattle.words.specs.Words.{gap, note, run, after, ended, lex, words, bodies}
@@ -17,6 +18,7 @@ use Rattle.words.proofs.Forth.{word-forth}
 -- ---- what stands there is found
 
 note-past : (c r : List ℕ) → NoLf c → lex note (c ++ r) ≡ lex note r
+unfolding All
 note-past [] r h = refl
 note-past (x ∷ c) r h = rw (note-is, ne-eqb x 10 (h .0)) (note-past c r (h .1))
 
@@ -87,6 +89,7 @@ gap-next x s ih = go (blank x) refl (ih .in-run x (x ∷ []))
         rw (gap-is, b, q) (subst (λ l. Stands l bs) (sym (ap (λ y. y ∷ s) f ∙ ap (λ l. 47 ∷ l) e)) (note-stands r n))
 
 note-next : (x : ℕ) (s : List ℕ) → InEach s → InNote (x ∷ s) (bodies (lex note (x ∷ s)))
+unfolding All
 note-next x s ih = go (eqb x 10) refl (ih .in-note)
   where
     put : {bs : List (List ℕ)} → (x ≡ 10 → ⊥) → InNote s bs → InNote (x ∷ s) bs
@@ -104,7 +107,7 @@ never-slash f x e p =
     let z : _≡_ {A = ℕ} 0 1 = cc q in absurd (omega arith)
 
 run-next : (x : ℕ) (s : List ℕ) → InEach s → (f : ℕ) (w : List ℕ) → InRun f w (x ∷ s)
-unfolding slashes
+unfolding slashes All
 run-next x s ih f w = go (goesOn f x) (slashes f x) refl refl (ih .in-run f (w ++ (x ∷ [])))
   where
     go : (t u : Bool) → goesOn f x ≡ t → slashes f x ≡ u → InRun f (w ++ (x ∷ [])) s → InRun f w (x ∷ s)
@@ -119,7 +122,7 @@ run-next x s ih f w = go (goesOn f x) (slashes f x) refl refl (ih .in-run f (w +
         (ap (λ l. bodies l) (run-stop f w (x ∷ s) (record { stop = λ _. p; clear = λ _. q })) ∙ ap (λ l. l ∷ bodies (lex gap (x ∷ s))) (sym (append-nil w)))
 
 all : (s : List ℕ) → InEach s
-unfolding lex
+unfolding lex All
 all [] = record {
   in-gap = last empty;
   in-note = to-end tt;

@@ -3,11 +3,12 @@ use mathlib.Core.Path.{_≡_, refl, sym}
 use mathlib.Core.Bool.{true}
 use mathlib.Core.List.{List, _++_}
 use Prim.Native.Nat.{ℕ, _≤_}
+use Rattle.sets.specs.Lists.{All}
 use Rattle.circuit.specs.Phase.{phases}
 use Rattle.words.specs.Words.{words, bodies}
 use Rattle.words.specs.Taking.{isName}
 use Rattle.versions.specs.declared.Version.the-variants.{Two, Three}
-use Rattle.statements.specs.Forms.{Form, AllGood, formsWords, headWords, formRecords, rzAngles, phaseOfForms}
+use Rattle.statements.specs.Forms.{Form, GoodForm, formsWords, headWords, formRecords, rzAngles, phaseOfForms}
 use Rattle.statements.proofs.TwoReadings.{two-readings}
 use Rattle.qasm_reading.specs.Texts.{CircuitText}
 
@@ -16,7 +17,7 @@ pub record SameForms (s t : List ℕ) : Type 0 where
   pub qubits : ℕ
   pub forms : List Form
   pub few : qubits ≤ 255
-  pub good : AllGood Two forms
+  pub good : All (GoodForm Two) forms
   pub name : List ℕ
   pub named : isName name ≡ true
   pub spelt : bodies (words s) ≡ headWords Two name qubits ++ formsWords name forms

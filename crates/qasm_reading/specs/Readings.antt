@@ -2,11 +2,11 @@
 use mathlib.Core.Path.{_≡_}
 use mathlib.Core.List.{List, [], _∷_}
 use Prim.Native.Nat.{ℕ}
-use lib.Dec.{leb, eqb}
+use lib.Dec.{eqb}
 use lib.ListN.{length}
 use Rattle.sets.specs.Pick.{pick}
 use Rattle.verdicts.specs.declared.verdict.Verdict.{Verdict}
-use Rattle.verdicts.specs.declared.verdict.Verdict.the-variants.{Accepted, Room, Angle, Statement, Unversioned}
+use Rattle.verdicts.specs.declared.verdict.Verdict.the-variants.{Accepted, Angle, Statement, Unversioned}
 use Rattle.verdicts.specs.Verdicts.{numberOf}
 use Rattle.verdicts.specs.InOrder.{andThen}
 use Rattle.reading.specs.Readings.{judgedBytes, judgedPlaces, lentAfter}
@@ -57,9 +57,13 @@ judgedStatements s (statement l) = Statement (lineAt s l)
 judgedStatements s early = Statement 0
 judgedStatements s unversioned = Unversioned
 
--- "after 11 and before 1 to 9", and 8 as in reading a job: the lent list is shorter than the gates need
+-- these of what a text is found to be, then 8 as in reading a job: the lent list is shorter than the gates need
+abbrev pub judgedFound : List ℕ → ℕ → ParsedCircuit → Verdict
+judgedFound s room p = andThen (judgedStatements s p) (judgedPlaces (length (circuitGates p)) room)
+
+-- "after 11 and before 1 to 9"
 unfoldable pub judgedCircuitText : List ℕ → ℕ → Verdict
-judgedCircuitText s room = andThen (judgedBytes s) (andThen (judgedStatements s (parsedCircuit s)) (judgedPlaces (length (circuitGates (parsedCircuit s))) room))
+judgedCircuitText s room = andThen (judgedBytes s) (judgedFound s room (parsedCircuit s))
 
 unfoldable pub circuitReading : List ℕ → ℕ → CircuitReading
 circuitReading s room = pick (eqb (numberOf (judgedCircuitText s room)) 0) (Read (circuitIn (parsedCircuit s))) (Refused (judgedCircuitText s room))
@@ -67,12 +71,8 @@ circuitReading s room = pick (eqb (numberOf (judgedCircuitText s room)) 0) (Read
 -- ---- parts
 
 -- the answer for what a text is found to be, where it is short enough
-abbrev pub answerOf : List ℕ → ℕ → ParsedCircuit → CircuitReading
-answerOf s room (circuit v n gates phase) = pick (leb (length gates) room) (Read (circuitIn (circuit v n gates phase))) (Refused Room)
-answerOf s room (angle l) = Refused (Angle (lineAt s l))
-answerOf s room (statement l) = Refused (Statement (lineAt s l))
-answerOf s room early = Refused (Statement 0)
-answerOf s room unversioned = Refused Unversioned
+abbrev pub foundAnswer : List ℕ → ℕ → ParsedCircuit → CircuitReading
+foundAnswer s room p = pick (eqb (numberOf (judgedFound s room p)) 0) (Read (circuitIn p)) (Refused (judgedFound s room p))
 
 -- the line of the first of the words; 0 where there is none
 abbrev pub lineOf : List ℕ → List Word → ℕ
@@ -81,5 +81,5 @@ lineOf s (w ∷ ws) = lineAt s (w .left)
 
 -- what is found from a place on
 pub record FoundRead (s : List ℕ) (p : ParsedCircuit) (old : List ℕ) (r : CircuitReading) (new : List ℕ) : Type 0 where
-  pub answer : r ≡ answerOf s (length old) p
+  pub answer : r ≡ foundAnswer s (length old) p
   pub list : new ≡ lentAfter (circuitVerdict r) (circuitGates p) old

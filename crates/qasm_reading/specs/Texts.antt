@@ -5,12 +5,13 @@ use mathlib.Core.Logic.{_⊎_}
 use mathlib.Core.Bool.{true}
 use mathlib.Core.List.{List, _∷_, _++_}
 use Prim.Native.Nat.{ℕ, _≤_}
+use Rattle.sets.specs.Lists.{All}
 use Rattle.words.specs.Bytes.{lineAt}
 use Rattle.words.specs.Words.{Word, words, bodies}
 use Rattle.words.specs.Taking.{isName}
 use Rattle.versions.specs.declared.Version.{Version}
 use Rattle.statements.specs.Limits.{mostQubit}
-use Rattle.statements.specs.Forms.{Form, GoodForm, AllGood, formWords, formsWords, versionWords, includeWords, registerWords, headWords, Unended, OnlyAngle, formRecords, phaseOfForms}
+use Rattle.statements.specs.Forms.{Form, GoodForm, formWords, formsWords, versionWords, includeWords, registerWords, headWords, Unended, OnlyAngle, formRecords, phaseOfForms}
 
 -- the text is that of a circuit on n qubits with the gates and the common phase: its words are those of the version's first three statements and of gates, in some form each
 pub record CircuitText (s : List ℕ) (v : Version) (n : ℕ) (gates : List ℕ) (phase : ℕ) : Type 0 where
@@ -18,7 +19,7 @@ pub record CircuitText (s : List ℕ) (v : Version) (n : ℕ) (gates : List ℕ)
   pub forms : List Form
   pub named : isName name ≡ true
   pub few : n ≤ mostQubit
-  pub good : AllGood v forms
+  pub good : All (GoodForm v) forms
   pub meant : gates ≡ formRecords forms
   pub shifted : phase ≡ phaseOfForms v forms
   pub spelt : bodies (words s) ≡ headWords v name n ++ formsWords name forms
@@ -35,7 +36,7 @@ pub record Seen (v : Version) (name : List ℕ) (bs : List (List ℕ)) : Type 0 
   pub forms : List Form
   pub named : isName name ≡ true
   pub few : qubits ≤ mostQubit
-  pub good : AllGood v forms
+  pub good : All (GoodForm v) forms
   pub spelt : bs ≡ headWords v name qubits ++ formsWords name forms
 
 abbrev pub SeenAny : List (List ℕ) → Type 0

@@ -16,7 +16,7 @@ ghost use Rattle.reading.specs.Readings.{lentAfter};
 ghost use Rattle.words.specs.Words.{words};
 ghost use Rattle.statements.specs.Statements.{readInclude};
 ghost use Rattle.qasm_reading.specs.Parsing.{headFault, registered, included, parsedCircuit};
-ghost use Rattle.qasm_reading.specs.Readings.{circuitReading, circuitVerdict, circuitGates, answerOf, lineOf, FoundRead};
+ghost use Rattle.qasm_reading.specs.Readings.{circuitReading, circuitVerdict, circuitGates, foundAnswer, lineOf, FoundRead};
 
 // What a circuit's text holds beside the records of its gates: how many they are, and the common phase in half units.
 pub struct Circuit {
@@ -45,7 +45,7 @@ fn line_of(text: &[u8], at: usize) -> usize
 
 // The include line or the register does not stand at `at`.
 fn head_fault(text: &[u8], at: usize) -> CircuitReading
-    ensures { λ r. ⌜ r ≡ answerOf (now (text .entry)) 0 (headFault (words (drop at (now (text .entry))))) ⌝ }
+    ensures { λ r. ⌜ r ≡ foundAnswer (now (text .entry)) 0 (headFault (words (drop at (now (text .entry))))) ⌝ }
 {
     if head::has_end(text, at) {
         return CircuitReading::Refused {

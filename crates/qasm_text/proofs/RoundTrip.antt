@@ -16,7 +16,7 @@ use Rattle.versions.specs.declared.Version.{Version}
 use Rattle.qasm_reading.specs.declared.read.Circuit.{Circuit}
 use Rattle.qasm_reading.specs.declared.read.CircuitReading.the-variants.{Read}
 use Rattle.qasm_reading.specs.Parsing.{circuit, parsedCircuit}
-use Rattle.qasm_reading.specs.Readings.{circuitGates, circuitReading, answerOf, circuitVerdict}
+use Rattle.qasm_reading.specs.Readings.{circuitGates, circuitReading, foundAnswer, circuitVerdict}
 use Rattle.qasm_reading.specs.Texts.{CircuitText}
 use Rattle.qasm_reading.proofs.Parsed.{circuit-parsed}
 use Rattle.qasm_reading.proofs.Answers.{reading-is, room-long}
@@ -65,7 +65,7 @@ circuit-reads-back v n gates g memory list bytes e short long =
     let p : parsedCircuit s ≡ circuit v n gates (readPhase v g) = circuit-parsed s v n gates (readPhase v g) (good-circuit v n gates g (w .1 .qubits) (w .1 .gates)) in
     subst (λ t. CircuitReadBack t v n gates g list) (sym (written-text v n gates g memory bytes e)) (record {
       found = record { version = v; qubits = n; gates = length gates; phase = readPhase v g };
-      answer = reading-is s (length list) (omega (arith, w .0)) ∙ ap (answerOf s (length list)) p ∙ sym (room-long s (length list) v n gates (readPhase v g) refl refl long);
+      answer = reading-is s (length list) (omega (arith, w .0)) ∙ ap (foundAnswer s (length list)) p ∙ sym (room-long s (length list) v n gates (readPhase v g) refl refl long);
       same-version = refl;
       same-qubits = refl;
       same-gates = ap (λ r. take (length gates) (onto (circuitGates r) list)) p ∙ take-append-seam gates _;

@@ -9,6 +9,8 @@ use lib.Dec.{eqb, ltb}
 use lib.ListN.{length}
 use borrow.Author.Tests.{eqb-true, eqb-false, ne-eqb, ltb-true, ltb-false, le-leb, lt-leb}
 use Rattle.sets.specs.Pick.{both, either}
+use Rattle.sets.specs.Lists.{All}
+use Rattle.sets.proofs.Lists.{all-append}
 use Rattle.gates.specs.Layout.{packed, kindIn, aIn, bIn}
 use Rattle.gates.proofs.Records.{packed-back}
 use Rattle.verdicts.specs.Rows.{BadDrawn, PassesDrawn}
@@ -27,7 +29,7 @@ use Rattle.words.proofs.Forth.{word-forth}
 use Rattle.versions.specs.declared.Version.{Version}
 use Rattle.versions.specs.declared.Version.the-variants.{Two, Three}
 use Rattle.statements.specs.Spelling.{openqasm, numeral, include, library, qreg, qubit, gphase, mark}
-use Rattle.statements.specs.Forms.{Rotor, asU1, asP, Form, cnot, turn, xgate, hadamard, common, many, over, Newer, Carried, GoodForm, GoodTimes, GoodDivisor, AllGood, timesWords, divisorWords, minusWords, qubitWords, rotorWord, formWords, formsWords, versionWords, includeWords, registerWords, headWords, timesIn, divisorIn, formRecord, formRecords, formPhase, phaseOfForms}
+use Rattle.statements.specs.Forms.{Rotor, asU1, asP, Form, cnot, turn, xgate, hadamard, common, many, over, Newer, Carried, GoodForm, GoodTimes, GoodDivisor, timesWords, divisorWords, minusWords, qubitWords, rotorWord, formWords, formsWords, versionWords, includeWords, registerWords, headWords, timesIn, divisorIn, formRecord, formRecords, formPhase, phaseOfForms}
 use Rattle.qasm_reading.specs.Texts.{CircuitText}
 use Rattle.qasm_lines.specs.Spelling.{gateText, gatesText, headText, phaseText, circuitText}
 use Rattle.qasm_lines.proofs.Spelt.{turnFront, headFront, phaseFront, phase-text-none, gate-cnot, gate-turn, gate-x, gate-hadamard, head-spelt, phase-spelt}
@@ -49,10 +51,6 @@ on-digit : (f d : ℕ) → inWord f ≡ true → d < 10 → goesOn f (48 + d) �
 unfolding goesOn
 on-digit f d h k = rw (h, digit-word d k)
 
-all-on-append : (f : ℕ) (xs ys : List ℕ) → AllOn f xs → AllOn f ys → AllOn f (xs ++ ys)
-all-on-append f [] ys a b = b
-all-on-append f (x ∷ xs) ys a b = (a .0, all-on-append f xs ys (a .1) b)
-
 -- the digits of a number: the first one, and the others, which go on
 record Number (b : List ℕ) : Type 0 where
   first : ℕ
@@ -62,6 +60,7 @@ record Number (b : List ℕ) : Type 0 where
   same : b ≡ (48 + first) ∷ others
 
 number-in : (f v : ℕ) → v < f → Number (digits v)
+unfolding All
 number-in zero v h = absurd (omega arith)
 number-in (suc f) v h = go (ltb v 10) refl (number-in f (v / 10))
   where
@@ -74,7 +73,7 @@ number-in (suc f) v h = go (ltb v 10) refl (number-in f (v / 10))
           first = d .first;
           others = d .others ++ ((48 + v % 10) ∷ []);
           low = d .low;
-          on = all-on-append (48 + d .first) (d .others) ((48 + v % 10) ∷ []) (d .on) (on-digit (48 + d .first) (v % 10) (digit-word (d .first) (d .low)) (omega arith), tt);
+          on = all-append _ (d .others) ((48 + v % 10) ∷ []) (d .on) (on-digit (48 + d .first) (v % 10) (digit-word (d .first) (d .low)) (omega arith), tt);
           same = digits-big v l ∙ ap (λ b. b ++ ((48 + v % 10) ∷ [])) (d .same);
         }
 
@@ -117,6 +116,7 @@ on-lf f = go (either (inWord f) (eqb f 34)) (eqb f 34)
     go false false = refl
 
 note-all : (f : ℕ) (xs t : List ℕ) → AllOn f xs → lex note (xs ++ t) ≡ lex note t
+unfolding All
 note-all f [] t h = refl
 note-all f (x ∷ xs) t h = note-is x (xs ++ t) ∙ rw (ne-eqb x 10 no-lf) (note-all f xs t (h .1))
   where
@@ -321,14 +321,14 @@ module _ (v : Version) (n x : ℕ) (few : n ≤ 255) (fine : BadDrawn n x → �
 -- the forms in which we write records and a common phase
 record AllSpelt (v : Version) (xs : List ℕ) (g : ℕ) : Type 0 where
   forms : List Form
-  good : AllGood v forms
+  good : All (GoodForm v) forms
   meant : formRecords forms ≡ xs
   shifted : phaseOfForms v forms ≡ readPhase v g
   spelt : bodies (words (gatesText v xs ++ phaseText v g)) ≡ formsWords (mark 113) forms
 
 -- none of them, where the common phase has no word
 none-spelt : (v : Version) (g : ℕ) → readPhase v g ≡ 0 → bodies (words (phaseText v g)) ≡ [] → AllSpelt v [] g
-unfolding gatesText formsWords AllGood formRecords phaseOfForms
+unfolding gatesText formsWords All formRecords phaseOfForms
 none-spelt v g e s = record { forms = []; good = tt; meant = refl; shifted = sym e; spelt = s }
 
 phase-no-words : (v : Version) (g : ℕ) → g % 131072 ≡ 0 → bodies (words (phaseText v g)) ≡ []
@@ -337,7 +337,7 @@ phase-no-words v g e = rw (phase-text-none v g e)
 
 -- the common phase alone
 last-spelt : (v : Version) (g : ℕ) → AllSpelt v [] g
-unfolding readPhase gatesText formsWords GoodForm GoodTimes GoodDivisor Newer AllGood formRecord formRecords formPhase timesIn divisorIn phaseOfForms phases isOver
+unfolding readPhase gatesText formsWords GoodForm GoodTimes GoodDivisor Newer All formRecord formRecords formPhase timesIn divisorIn phaseOfForms phases isOver
 last-spelt Two g = go (eqb (g % 131072) 0) refl
   where
     go : (t : Bool) → eqb (g % 131072) 0 ≡ t → AllSpelt Two [] g
@@ -361,7 +361,7 @@ read-lt Two g = omega arith
 read-lt Three g = omega arith
 
 all-spelt : (v : Version) (n : ℕ) (xs : List ℕ) (g : ℕ) → n ≤ 255 → PassesDrawn n xs → AllSpelt v xs g
-unfolding gatesText formsWords AllGood formRecords phaseOfForms phases
+unfolding gatesText formsWords All formRecords phaseOfForms phases
 all-spelt v n [] g few fine = last-spelt v g
 all-spelt v n (x ∷ xs) g few fine =
     let a = spelt-record v n x few (fine 0 (omega arith)) in

@@ -15,17 +15,15 @@ use Rattle.lines.specs.Lines.{digits, fieldsText, lineText, letter, fieldsIn, r
 use Rattle.reading.specs.Misfit.{JobText, firstLines, NoLf, FitsLine}
 use Rattle.sets.specs.Lists.{All}
 use Rattle.reading.specs.Parsing.{readOne, readHead}
+use Rattle.sets.proofs.Lists.{all-append}
 use Rattle.spots.proofs.Numbers.{never-some}
 use Rattle.lines.proofs.Digits.{digits-small, digits-big}
 use Rattle.reading.proofs.Lines.{one-back, one-forth, head-back}
 
 -- ---- a line has one LF, its last byte
 
-no-lf-append : (xs ys : List ℕ) → NoLf xs → NoLf ys → NoLf (xs ++ ys)
-no-lf-append [] ys p q = q
-no-lf-append (x ∷ xs) ys p q = (p .0, no-lf-append xs ys (p .1) q)
-
 digits-plain : (f v : ℕ) → v < f → NoLf (digits v)
+unfolding All
 digits-plain zero v h = absurd (omega arith)
 digits-plain (suc f) v h = go (ltb v 10) refl (digits-plain f (v / 10))
   where
@@ -33,28 +31,28 @@ digits-plain (suc f) v h = go (ltb v 10) refl (digits-plain f (v / 10))
     go true e ih = rw (digits-small v (ltb-true v 10 e)) ((λ (z : 48 + v ≡ 10). omega arith), tt)
     go false e ih =
         let l : 10 ≤ v = ltb-false v 10 e in
-        rw (digits-big v l) (no-lf-append (digits (v / 10)) ((48 + v % 10) ∷ []) (ih (omega arith)) ((λ (z : 48 + v % 10 ≡ 10). omega arith), tt))
+        rw (digits-big v l) (all-append _ (digits (v / 10)) ((48 + v % 10) ∷ []) (ih (omega arith)) ((λ (z : 48 + v % 10 ≡ 10). omega arith), tt))
 
 fields-plain : (vs : List ℕ) → NoLf (fieldsText vs)
-unfolding fieldsText
+unfolding fieldsText All
 fields-plain [] = tt
 fields-plain (v ∷ vs) =
-    no-lf-append (9 ∷ digits v) (fieldsText vs) ((λ (z : 9 ≡ 10). omega arith), digits-plain (suc v) v (omega arith)) (fields-plain vs)
+    all-append _ (9 ∷ digits v) (fieldsText vs) ((λ (z : 9 ≡ 10). omega arith), digits-plain (suc v) v (omega arith)) (fields-plain vs)
 
 front-plain : (k : ℕ) (xs t : List ℕ) → NoLf xs → firstLines (suc k) (xs ++ (10 ∷ t)) ≡ xs ++ (10 ∷ firstLines k t)
-unfolding firstLines
+unfolding firstLines All
 front-plain k [] t p = refl
 front-plain k (x ∷ xs) t p = rw (ne-eqb x 10 (p .0)) (ap (λ l. x ∷ l) (front-plain k xs t (p .1)))
 
 line-front : (k l : ℕ) (vs t : List ℕ) → (l ≡ 10 → ⊥) → firstLines (suc k) (lineText l vs ++ t) ≡ lineText l vs ++ firstLines k t
-unfolding lineText
+unfolding lineText All
 line-front k l vs t h =
     ap (λ s. firstLines (suc k) (l ∷ s)) (append-assoc (fieldsText vs) (10 ∷ []) t) ∙ front-plain k (l ∷ fieldsText vs) t (h, fields-plain vs)
     ∙ sym (ap (λ s. l ∷ s) (append-assoc (fieldsText vs) (10 ∷ []) (firstLines k t)))
 
 -- what holds a whole line has an LF
 line-ends : (l : ℕ) (vs t : List ℕ) → NoLf (lineText l vs ++ t) → ⊥
-unfolding lineText
+unfolding lineText All
 line-ends l vs t h = go (l ∷ fieldsText vs) (subst NoLf (ap (λ s. l ∷ s) (append-assoc (fieldsText vs) (10 ∷ []) t)) h)
   where
     go : (xs : List ℕ) → NoLf (xs ++ (10 ∷ t)) → ⊥

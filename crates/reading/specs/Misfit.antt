@@ -35,8 +35,7 @@ firstLines (suc k) (x ∷ s) = x ∷ pick (eqb x 10) (firstLines k s) (firstLine
 
 -- no byte of it is LF: a last line that lacks it
 abbrev pub NoLf : List ℕ → Type 0
-NoLf [] = Unit {0}
-NoLf (x ∷ xs) = (x ≡ 10 → ⊥) × NoLf xs
+NoLf s = All (λ x. x ≡ 10 → ⊥) s
 
 -- "the first line that cannot continue a job": up to the line before it the text is a job's, and with it no more.
 -- "Empty text is refused at line 1", "a last line without LF included"

@@ -18,18 +18,18 @@ use Rattle.sets.specs.Size.{lowestOf, onlyOf}
 use Rattle.sets.proofs.Bits.{bit-of-zero}
 use Rattle.sets.proofs.Members.{in-lt, sub-eq}
 use Rattle.sets.proofs.Words.{has-true, in-has, lowest-in, only-lowest}
-use Rattle.chip.specs.Graph.{Near, Symm, Joined, closure}
+use Rattle.chip.specs.Graph.{Symm, Joined, closure}
 use Rattle.spares.specs.Spare.{reachOf, connectedOf, spareOf}
-use Rattle.chip.proofs.Growth.{joined-shrink, joined-neighbour}
+use Rattle.chip.proofs.Growth.{joined-shrink}
 use Rattle.chip.proofs.Closure.{closure-in, closure-joined, joined-closure}
 
 pub joined-empty : (near : List ℕ) → Joined near 0
 unfolding Joined
 joined-empty near a b ha hb = absurd (omega (arith, ha, bit-of-zero a))
 
-only-none : onlyOf (lowestOf 0) ≡ 0
+none-lowest : onlyOf (lowestOf 0) ≡ 0
 unfolding onlyOf lowestOf trailingZeros
-only-none = refl
+none-lowest = refl
 
 -- what the code tests: r is what the search reaches in S from its lowest member, d the set of that alone; the empty set is reached from nothing
 pub reached-connected : (near : List ℕ) (S d r : ℕ) → S < 2 ^ 32 → d ≡ onlyOf (lowestOf S) → r ≡ closure near S 20 d → eqb r S ≡ connectedOf near S
@@ -38,7 +38,7 @@ reached-connected near S d r low ed er = go (ℕ-discrete S 0)
   where
     go : Dec (S ≡ 0) → eqb r S ≡ either (eqb S 0) (eqb (closure near S 20 (2 ^ lowestOf S)) S)
     go (yes z) =
-        let n : d ≡ 0 = ed ∙ ap (λ (k : ℕ). onlyOf (lowestOf k)) z ∙ only-none in
+        let n : d ≡ 0 = ed ∙ ap (λ (k : ℕ). onlyOf (lowestOf k)) z ∙ none-lowest in
         let e : r ≡ S = er ∙ sub-eq (closure near S 20 d) S (closure-in near S 20 d (λ i h. absurd (omega (arith, ap (λ (k : ℕ). bit k i) n, bit-of-zero i)))) (λ i h. absurd (omega (arith, ap (λ (k : ℕ). bit k i) z, bit-of-zero i))) in
         eq-eqb r S e ∙ sym (ap (λ (b : Bool). either b (eqb (closure near S 20 (2 ^ lowestOf S)) S)) (eq-eqb S 0 z))
     go (no ne) =
@@ -108,7 +108,3 @@ pub spare-other : (near : List ℕ) (S : ℕ) → S < 2 ^ 20 → Symm near → J
 spare-other near S low sy j v h two =
     let r = joined-shrink near S v sy j h two in
     (r .0, r .1, joined-spare near S low (r .0) (r .2) (r .3))
-
--- "every member of it has a neighbour in it"
-pub neighbour-in : (near : List ℕ) (S m : ℕ) → Symm near → Joined near S → In m S → 2 ≤ ones S → (n : ℕ) × (n ≢ m) × In n S × Near near m n
-neighbour-in near S m sy j h two = joined-neighbour near S m sy j h two

@@ -6,6 +6,7 @@ use mathlib.Core.Option.{Option, none, some}
 use Prim.Native.Nat.{ℕ, suc, _≤_}
 use native.Mathlib.Omega.{arith}
 use lib.ListN.{length}
+use Rattle.sets.specs.Lists.{All}
 use Rattle.sets.specs.Pick.{pick, either}
 use Rattle.words.specs.Bytes.{same}
 use Rattle.words.specs.Words.{Word, bodies}
@@ -42,7 +43,7 @@ either-second false u e = e
 -- ---- whether it ends
 
 pub ended-not : (ws : List Word) → hasEnd ws ≡ false → Unended (bodies ws)
-unfolding hasEnd Unended
+unfolding hasEnd All
 ended-not [] e = tt
 ended-not (w ∷ ws) e = go (same (w .bytes) (mark 59)) refl e (ended-not ws)
   where
@@ -51,7 +52,7 @@ ended-not (w ∷ ws) e = go (same (w .bytes) (mark 59)) refl e (ended-not ws)
     go false p e ih = ((λ q. no-true (sym p ∙ ap (λ b. same b (mark 59)) q ∙ same-self (mark 59))), ih e)
 
 pub unended-no : (ws : List Word) → Unended (bodies ws) → hasEnd ws ≡ false
-unfolding hasEnd Unended
+unfolding hasEnd All
 unended-no [] u = refl
 unended-no (w ∷ ws) u = rw (same-not (w .bytes) (mark 59) (u .0)) (unended-no ws (u .1))
 
@@ -78,7 +79,7 @@ leads-spelt ws t bs l =
     ap (λ x. bodies x) w ∙ bodies-append (l .words) t ∙ ap (λ x. x ++ bodies t) (l .spelt)
 
 follow-there : (by : Bool) (name : List ℕ) (ws t : List Word) → readFollow by name (some ws) ≡ some t → Follows by name (bodies ws)
-unfolding readFollow readTail Unended
+unfolding readFollow readTail All
 follow-there true name ws t q =
     let l = taken-back (mark 41) (some ws) (taken-back (mark 59) _ (record { words = []; same = q; spelt = refl })) in
     record { angle = []; unended = tt; closing = mark 41 ∷ mark 59 ∷ []; closes = without refl; rest = bodies t; spelt = leads-spelt ws t _ l }
@@ -96,7 +97,7 @@ follow-there false name ws t q =
     }
 
 ends-back : (by : Bool) (name : List ℕ) (ws : List Word) → endsIn by name ws ≡ true → Follows by name (bodies ws)
-unfolding endsIn Unended
+unfolding endsIn All
 ends-back by name [] e = no-true e
 ends-back by name (w ∷ ws) e = go (same (w .bytes) (mark 59)) (readFollow by name (some (w ∷ ws))) refl refl e (ends-back by name ws)
   where
@@ -186,7 +187,7 @@ ends-here by name (w ∷ ws) closing rest c e =
 
 ends-forth : (by : Bool) (name : List ℕ) (angle : List (List ℕ)) (ws : List Word) (closing rest : List (List ℕ)) → Unended angle → ClosesAngle name closing by
     → bodies ws ≡ angle ++ (closing ++ rest) → endsIn by name ws ≡ true
-unfolding endsIn Unended
+unfolding endsIn All
 ends-forth by name [] ws closing rest u c e = ends-here by name ws closing rest c e
 ends-forth by name (b ∷ bs) [] closing rest u c e = let z : _≡_ {A = ℕ} 0 (suc (length (bs ++ (closing ++ rest)))) = ap length e in absurd (omega arith)
 ends-forth by name (b ∷ bs) (w ∷ ws) closing rest u c e =

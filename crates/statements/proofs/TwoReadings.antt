@@ -5,9 +5,10 @@ use mathlib.Core.List.{List, [], _∷_}
 use Prim.Native.Nat.{ℕ, _+_, _*_, _/_, _%_}
 use native.Mathlib.Nat.{mod-add-mod, add-mod-mod, mul-mod-right}
 use native.Mathlib.Omega.{arith}
+use Rattle.sets.specs.Lists.{All}
 use Rattle.circuit.specs.Phase.{phases}
 use Rattle.versions.specs.declared.Version.the-variants.{Two, Three}
-use Rattle.statements.specs.Forms.{asU1, asRz, asP, Form, cnot, turn, xgate, hadamard, common, Newer, Carried, GoodForm, halfTaken, formPhase, phaseOfForms, rzAngle, rzAngles, AllGood}
+use Rattle.statements.specs.Forms.{asU1, asRz, asP, Form, cnot, turn, xgate, hadamard, common, Newer, Carried, GoodForm, halfTaken, formPhase, phaseOfForms, rzAngle, rzAngles}
 
 -- what is good in 2.0 is good in 3.0
 form-later : (f : Form) → GoodForm Two f → GoodForm Three f
@@ -54,8 +55,8 @@ together a b c d h k =
     mod-add-mod (a + c) 131072 ((b + d) % 131072) ∙ add-mod-mod (a + c) (b + d) 131072 ∙ ap (λ n. n % 131072) e ∙ mul-mod-right 131072 _
 
 -- THEOREM: forms that are good in 2.0 are good in 3.0; in 2.0 they add nothing to the common phase, and in 3.0 what they add is minus half the sum of the `rz` angles
-pub two-readings : (fs : List Form) → AllGood Two fs → AllGood Three fs × (phaseOfForms Two fs ≡ 0) × (phases (phaseOfForms Three fs) (rzAngles fs) ≡ 0)
-unfolding AllGood phaseOfForms rzAngles phases
+pub two-readings : (fs : List Form) → All (GoodForm Two) fs → All (GoodForm Three) fs × (phaseOfForms Two fs ≡ 0) × (phases (phaseOfForms Three fs) (rzAngles fs) ≡ 0)
+unfolding All phaseOfForms rzAngles phases
 two-readings [] h = (tt, refl, refl)
 two-readings (f ∷ fs) h =
     let r = two-readings fs (h .1) in

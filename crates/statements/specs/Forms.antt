@@ -3,6 +3,7 @@ use mathlib.Core.Path.{_≡_}
 use mathlib.Core.Bool.{Bool, true, false}
 use mathlib.Core.List.{List, [], _∷_, _++_}
 use Prim.Native.Nat.{ℕ, _-_, _%_, _≤_}
+use Rattle.sets.specs.Lists.{All}
 use Rattle.gates.specs.Layout.{packed}
 use Rattle.circuit.specs.Phase.{phases}
 use Rattle.angles.specs.declared.Scale.{Scale}
@@ -117,9 +118,8 @@ unfoldable pub headWords : Version → List ℕ → ℕ → List (List ℕ)
 headWords v name n = versionWords v ++ (includeWords v ++ registerWords v name n)
 
 -- no word is `;`
-unfoldable pub Unended : List (List ℕ) → Type 0
-Unended [] = Unit {0}
-Unended (b ∷ bs) = (b ≡ mark 59 → ⊥) × Unended bs
+abbrev pub Unended : List (List ℕ) → Type 0
+Unended bs = All (λ b. b ≡ mark 59 → ⊥) bs
 
 -- what an angle stands between: "u1 (" and ") NAME [a] ;" with a good qubit, "gphase (" and ") ;"
 pub data Frame (v : Version) (name : List ℕ) (opening closing : List (List ℕ)) : Type 0 where
@@ -192,7 +192,3 @@ rzAngle (common m t o) = 0
 unfoldable pub rzAngles : List Form → ℕ
 rzAngles [] = 0
 rzAngles (f ∷ fs) = phases (rzAngle f) (rzAngles fs)
-
-unfoldable pub AllGood : Version → List Form → Type 0
-AllGood v [] = Unit {0}
-AllGood v (f ∷ fs) = GoodForm v f × AllGood v fs

@@ -13,8 +13,9 @@ use Rattle.sets.proofs.Members.{in-lt, some-bit, in-and, and-in}
 use Rattle.sets.proofs.Ones.{ones-of-zero}
 use Rattle.sets.proofs.Words.{has-true, in-has}
 use Rattle.chip.specs.Graph.{Near, Symm, Joined}
+use Rattle.chip.proofs.Growth.{joined-neighbour}
 use Rattle.spares.specs.Spare.{spareOf}
-use Rattle.spares.proofs.Spares.{spare-in, spare-other, neighbour-in}
+use Rattle.spares.proofs.Spares.{spare-in, spare-other}
 use Rattle.sets.specs.Tables.{tab, one}
 use Rattle.sets.proofs.Tabling.{tab-at, sum-le}
 use Rattle.steps.specs.Selection.{countOf, oneAt, rowOf}
@@ -46,7 +47,7 @@ module _ (near : List ℕ) (Q : ℕ) (low : Q < 2 ^ 20) (sy : Symm near) (j : Jo
   pub partner-found : (r : ℕ) → In r Q → In (partner near Q r sel xs) (beside near Q r)
   unfolding partner beside
   partner-found r h =
-      let n = neighbour-in near Q r sy j h two in
+      let n = joined-neighbour near Q r sy j h two in
       let ln : n .0 < 20 = in-lt 20 Q (n .0) low (n .2) in
       let f : ℕ → Bool = has (bitAnd (getD near r 0) (without Q r)) in
       let yes-n : f (n .0) ≡ true = in-has _ (n .0) (and-in (getD near r 0) (without Q r) (n .0) (n .3) (rest-in Q r low h (n .0) (n .2) (n .1))) in

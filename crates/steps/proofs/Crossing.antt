@@ -27,7 +27,7 @@ use Rattle.steps.specs.Selection.{rowOf}
 use Rattle.steps.specs.Steps.{crossed, moved}
 use Rattle.steps.proofs.Unfolding.{crossed-none, crossed-some}
 use Rattle.steps.proofs.Apart.{Many, many-live, many-not-single, many-of, Reached, still, more, reached-trans, reached-live, reached-sub, reached-safe, safe-many}
-use Rattle.steps.proofs.Splits.{not-true, row-some, row-none}
+use Rattle.steps.proofs.Splits.{never-true, row-some, row-none}
 use Rattle.steps.proofs.Meets.{StepReady}
 use Rattle.sets.proofs.Deciding.{never}
 use Rattle.tallies.proofs.Tallies.{cnots-append, cnots-cnot}
@@ -150,7 +150,7 @@ module _ (near : List ℕ) (Q : ℕ) (angles : List ℕ) (low : Q < 2 ^ 20) (r m
     ys = strikeOff angles ws .cols
 
     still-at : (k : ℕ) → (singleOf (getD ws k 0) ≡ true → ⊥) → getD ys k 0 ≡ getD ws k 0
-    still-at k n = off-other near Q angles ws fit k (not-true (singleOf (getD ws k 0)) n)
+    still-at k n = off-other near Q angles ws fit k (never-true (singleOf (getD ws k 0)) n)
 
     kept : (k : ℕ) → getD sel k false ≡ true → (b : Bool) → singleOf (getD ws k 0) ≡ b → (getD ys k 0 ≡ 0) ⊎ (Sub (getD ys k 0) Q × Many (getD ys k 0))
     kept k e true s = inl (off-single near Q angles ws fit k s)

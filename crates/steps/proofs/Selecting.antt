@@ -10,6 +10,7 @@ use lib.ListN.{length, getD, replicate, length-replicate, getD-replicate, List·
 use borrow.Author.Tests.{eq-eqb, ne-eqb}
 use Rattle.sets.specs.Pick.{both}
 use Rattle.sets.specs.Bit.{has}
+use Rattle.sets.proofs.Deciding.{both-no}
 use Rattle.sets.proofs.Bits.{bit-of-zero}
 use Rattle.sets.proofs.Words.{out-has}
 use Rattle.sets.specs.Tables.{tab, sumTo, one}
@@ -24,10 +25,6 @@ one-yes r x s b e h = h ∙ sym (ap (λ (t : Bool). both t (has x r)) e)
 pub one-no : (r x : ℕ) (s : Bool) → s ≡ false → false ≡ oneAt r s x
 unfolding oneAt
 one-no r x s e = sym (ap (λ (t : Bool). both t (has x r)) e)
-
-both-no : (b : Bool) → both b false ≡ false
-both-no true = refl
-both-no false = refl
 
 pub one-at-le : (r : ℕ) (s : Bool) (x : ℕ) → one (oneAt r s x) ≤ one s
 unfolding oneAt
@@ -59,7 +56,7 @@ module _ (xs : List ℕ) (n k : ℕ) (en : n ≡ min (length xs) 256) (all : n �
 
   ones-past : (r : ℕ) (sel : List Bool) (j : ℕ) → k ≤ j → j < 256 → oneAt r (getD sel j false) (getD xs j 0) ≡ false
   unfolding oneAt
-  ones-past r sel j h l = ap (λ (x : ℕ). both (getD sel j false) (has x r)) (past j h l) ∙ ap (both (getD sel j false)) (out-has 0 r (bit-of-zero r)) ∙ both-no (getD sel j false)
+  ones-past r sel j h l = ap (λ (x : ℕ). both (getD sel j false) (has x r)) (past j h l) ∙ ap (both (getD sel j false)) (out-has 0 r (bit-of-zero r)) ∙ both-no (getD sel j false) false refl
 
   zeros-past : (r : ℕ) (sel : List Bool) (j : ℕ) → k ≤ j → j < 256 → zeroAt r (getD sel j false) (getD xs j 0) ≡ false
   zeros-past r sel j h l = go (getD sel j false) refl

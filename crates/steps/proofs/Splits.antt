@@ -17,9 +17,9 @@ use Rattle.sets.proofs.Tabling.{tab-at, tab-length, sum-add-le, sum-less, sum-s
 use Rattle.steps.specs.Selection.{countOf, zeroAt, oneAt, zerosOf, onesOf, liveOf, rowOf}
 use Rattle.sets.proofs.Deciding.{never, both-true}
 
-pub not-true : (b : Bool) → (b ≡ true → ⊥) → b ≡ false
-not-true true h = absurd (h refl)
-not-true false h = refl
+pub never-true : (b : Bool) → (b ≡ true → ⊥) → b ≡ false
+never-true true h = absurd (h refl)
+never-true false h = refl
 
 not-yes : (b : Bool) → not b ≡ true → b ≡ false
 not-yes true e = absurd (never refl (sym e))
@@ -62,7 +62,7 @@ module _ (r : ℕ) (sel : List Bool) (xs : List ℕ) (k : ℕ) where
   ones-in l e h = tab-at 256 (λ k. oneAt r (getD sel k false) (getD xs k 0)) k false l ∙ rw (e, in-has (getD xs k 0) r h)
 
   pub zeros-out : (getD sel k false ≡ false) ⊎ ((getD xs k 0 ≡ 0) ⊎ In r (getD xs k 0)) → getD (zerosOf r sel xs) k false ≡ false
-  zeros-out w = not-true _ (λ e. go (in-zeros e) w)
+  zeros-out w = never-true _ (λ e. go (in-zeros e) w)
     where
       go : (k < 256) × (getD sel k false ≡ true) × (getD xs k 0 ≢ 0) × (bit (getD xs k 0) r ≡ 0) → (getD sel k false ≡ false) ⊎ ((getD xs k 0 ≡ 0) ⊎ In r (getD xs k 0)) → ⊥
       go t (inl s) = never (t .1) s
@@ -70,7 +70,7 @@ module _ (r : ℕ) (sel : List Bool) (xs : List ℕ) (k : ℕ) where
       go t (inr (inr h)) = omega (arith, t .3, h)
 
   pub ones-out : (getD sel k false ≡ false) ⊎ (bit (getD xs k 0) r ≡ 0) → getD (onesOf r sel xs) k false ≡ false
-  ones-out w = not-true _ (λ e. go (in-ones e) w)
+  ones-out w = never-true _ (λ e. go (in-ones e) w)
     where
       go : (k < 256) × (getD sel k false ≡ true) × In r (getD xs k 0) → (getD sel k false ≡ false) ⊎ (bit (getD xs k 0) r ≡ 0) → ⊥
       go t (inl s) = never (t .1) s
@@ -108,7 +108,7 @@ count-some sel h = let s = sum-some 256 (λ k. one (getD sel k false)) h in (s .
 
 pub count-none : (sel : List Bool) → countOf sel ≡ 0 → (k : ℕ) → k < 256 → getD sel k false ≡ false
 unfolding countOf
-count-none sel h k l = not-true (getD sel k false) (λ e.
+count-none sel h k l = never-true (getD sel k false) (λ e.
     let less = sum-less 256 (λ j. 0) (λ j. one (getD sel j false)) k l (omega (arith, ap one e)) (λ j m. omega arith) in omega (arith, h, less))
 
 pub row-some : (sel : List Bool) (xs : List ℕ) (q : ℕ) → (rowOf sel xs q ≡ 0 → ⊥) → (k : ℕ) × (k < 256) × (getD sel k false ≡ true) × In q (getD xs k 0)
@@ -120,7 +120,7 @@ row-some sel xs q h =
 
 pub row-none : (sel : List Bool) (xs : List ℕ) (q : ℕ) → rowOf sel xs q ≡ 0 → (k : ℕ) → k < 256 → getD sel k false ≡ true → bit (getD xs k 0) q ≡ 0
 unfolding rowOf oneAt
-row-none sel xs q h k l e = has-false (getD xs k 0) q (not-true (has (getD xs k 0) q) (λ t.
+row-none sel xs q h k l e = has-false (getD xs k 0) q (never-true (has (getD xs k 0) q) (λ t.
     let on : oneAt q (getD sel k false) (getD xs k 0) ≡ true = rw (e, t) in
     let less = sum-less 256 (λ j. 0) (λ j. one (oneAt q (getD sel j false) (getD xs j 0))) k l (omega (arith, ap one on)) (λ j m. omega arith) in omega (arith, h, less)))
 

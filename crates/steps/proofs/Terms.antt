@@ -26,7 +26,7 @@ use Rattle.steps.specs.Selection.{countOf, liveOf}
 use Rattle.steps.specs.Steps.{baseStep, stepsFor}
 use Rattle.steps.specs.Neighbours.{BaseGoesOn, GoesOn}
 use Rattle.steps.proofs.Apart.{Many, many-of, reached-zero}
-use Rattle.steps.proofs.Splits.{not-true, live-in, live-out}
+use Rattle.steps.proofs.Splits.{never-true, live-in, live-out}
 use Rattle.steps.proofs.Meets.{StepReady, Done}
 use Rattle.steps.proofs.Stepping.{base-meets}
 use Rattle.sets.proofs.Deciding.{never}
@@ -109,7 +109,7 @@ module _ (near : List ℕ) (Q : ℕ) (ps angles : List ℕ) (low : Q < 2 ^ 20) (
       let f : ℕ → ℕ = λ k. one (getD sel k false) in
       let e : sumTo 256 f ≡ sumTo (length ps) f =
       sum-front 256 (length ps) f few (λ k (h : length ps ≤ k) m.
-      ap one (not-true (getD sel k false) (λ t. let o = live-in ys k t .1 in let l = termed k (λ z. o (left-over k o .0 ∙ z)) .0 in omega (arith, l, h)))) in
+      ap one (never-true (getD sel k false) (λ t. let o = live-in ys k t .1 in let l = termed k (λ z. o (left-over k o .0 ∙ z)) .0 in omega (arith, l, h)))) in
       omega (arith, e, sum-ones (length ps) f (λ k l. one-le (getD sel k false)))
 
   bound : cnotsOf (A .laid ++ B .laid) ≤ 2 * (ones Q - 1) * length ps

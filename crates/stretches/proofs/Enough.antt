@@ -1,22 +1,20 @@
 -- A job is never answered 8 where its B is lent, and is answered by tests 1 to 7 alone; the place of a refusal is no larger than a job's limits. Assumes nothing.
-use mathlib.Core.Path.{_≡_, refl, sym, ap, _∙_, subst}
-use mathlib.Core.Logic.{_≢_, _⊎_, inl, inr}
+use mathlib.Core.Path.{_≡_, refl, sym, ap, _∙_}
+use mathlib.Core.Logic.{_≢_, inl, inr}
 use mathlib.Core.Bool.{Bool, true, false}
 use mathlib.Core.List.{List, [], _∷_}
 use Prim.Native.Nat.{ℕ, _+_, _≤_, _<_}
 use native.Mathlib.Omega.{arith}
-use native.Mathlib.Decide.{ℕ-discrete}
 use lib.ListN.{length, length-map}
 use Rattle.sets.specs.Pick.{pick}
 use Rattle.gates.specs.Limits.{mostQubits, mostGates}
 use Rattle.gates.specs.Layout.{gateOf}
 use Rattle.gates.specs.Hadamards.{isHadamard}
-use Rattle.verdicts.specs.declared.verdict.Verdict.{Verdict}
 use Rattle.verdicts.specs.Verdicts.{numberOf, placeOf, judgedQubits, judgedCouplers}
 use Rattle.verdicts.specs.InOrder.{andThen}
-use Rattle.verdicts.specs.Rows.{Nowhere}
-use Rattle.verdicts.proofs.Judged.{then-accepted, zero-accepted, then-on, then-stop, then-zero}
-use Rattle.verdicts.proofs.Rows.{Tests, test-passed, row-passes, tests-1, tests-2, tests-3, tests-drawn, judgedMany, judgedWrong, couplers-parted}
+use Rattle.verdicts.proofs.Judged.{then-accepted, zero-accepted, then-zero}
+use Rattle.verdicts.proofs.Rows.{test-passed, row-passes, tests-1, tests-drawn}
+use Rattle.verdicts.proofs.Places.{Low, low-test, low-then, nowhere, low-couplers}
 use Rattle.judging.specs.Tests.{judgedCount}
 use Rattle.laying.proofs.Rows.{tests-4}
 use Rattle.stretches.specs.Cut.{ahead, cutAt}
@@ -39,29 +37,6 @@ unfolding jobVerdict
 judged-enough n couplers gates room lent =
     ap (andThen (judgedStretches n couplers gates)) (zero-accepted (judgedBound n gates room) (test-passed (bound-tests n gates room) lent))
     ∙ then-accepted (judgedStretches n couplers gates)
-
--- ---- places
-
--- the place is no larger than a job's limits
-abbrev Low : Verdict → Type 0
-Low v = placeOf v ≤ mostGates
-
-low-test : {v : Verdict} {k : ℕ} {Pass Fail : Type 0} {At : ℕ → Type 0} → Tests v k Pass Fail At → ((p : ℕ) → At p → p ≤ mostGates) → Low v
-low-test {v} {k} {Pass} {Fail} {At} t f = go (t .decided)
-  where
-    go : ((numberOf v ≡ 0) × Pass) ⊎ ((numberOf v ≡ k) × Fail × At (placeOf v)) → Low v
-    go (inl d) = omega (arith, ap placeOf (zero-accepted v (d .0)))
-    go (inr d) = f (placeOf v) (d .2)
-
-low-then : (v w : Verdict) → Low v → (numberOf v ≡ 0 → Low w) → Low (andThen v w)
-low-then v w p q = go (ℕ-discrete (numberOf v) 0)
-  where
-    go : Dec (numberOf v ≡ 0) → Low (andThen v w)
-    go (yes z) = subst Low (then-on v w z) (q z)
-    go (no ne) = subst Low (then-stop v w ne) p
-
-nowhere : (p : ℕ) → Nowhere p → p ≤ mostGates
-nowhere p e = omega (arith, e)
 
 -- ---- places of stretches
 
@@ -100,17 +75,11 @@ module _ (n : ℕ) where
 -- ---- in order
 
 module _ (n : ℕ) (couplers gates : List ℕ) where
-  low-couplers : Low (judgedCouplers n couplers)
-  low-couplers =
-      subst Low (couplers-parted n couplers)
-      (low-then (judgedMany couplers) (judgedWrong n couplers) (low-test (tests-2 couplers) nowhere)
-      (λ z. low-test (tests-3 n couplers) (λ p f. omega (arith, f .within, row-passes (tests-2 couplers) .exactly .0 z))))
-
-  low-drawing : Low (judgedFive n couplers gates)
+  low-five : Low (judgedFive n couplers gates)
   unfolding judgedFive
-  low-drawing =
+  low-five =
       low-then (judgedQubits n) _ (low-test (tests-1 n) nowhere)
-      (λ q. low-then (judgedCouplers n couplers) _ low-couplers
+      (λ q. low-then (judgedCouplers n couplers) _ (low-couplers n couplers)
       (λ c. low-then (judgedCount gates) _ (low-test (tests-4 gates) nowhere)
       (λ k. low-test (tests-drawn n gates) (λ p f. omega (arith, f .within, row-passes (tests-4 gates) .exactly .0 k)))))
 
@@ -137,5 +106,5 @@ module _ (n : ℕ) (couplers gates : List ℕ) where
   pub place-most : placeOf (judgedStretches n couplers gates) ≤ mostGates
   unfolding judgedStretches
   place-most =
-      low-then (judgedFive n couplers gates) _ low-drawing
+      low-then (judgedFive n couplers gates) _ low-five
       (λ d. low-then (judgedParitiesFrom n 0 (stretchesOf n gates)) (judgedReaches n couplers gates) (low-parities d) (low-reaches d))

@@ -12,8 +12,7 @@ use Rattle.sets.specs.Pick.{pick, both}
 use Rattle.gates.specs.Limits.{mostGates}
 use Rattle.gates.specs.Layout.{gateOf, gatesOf, recordOf, Good, isBad}
 use Rattle.gates.specs.Hadamards.{isHadamard}
-use Rattle.gates.specs.declared.gate.Gate.{Gate}
-use Rattle.gates.specs.declared.gate.Gate.the-variants.{Cnot, Rotation, X, Bad}
+use Rattle.gates.proofs.Records.{good-not-bad}
 use Rattle.gates.proofs.Hadamards.{hadamard-bad}
 use Rattle.verdicts.specs.declared.verdict.Verdict.{Verdict}
 use Rattle.verdicts.specs.declared.verdict.Verdict.the-variants.{Accepted, ManyGates, ManyParities, Unreachable, Room}
@@ -48,13 +47,6 @@ use Rattle.stretches.proofs.Cutting.{cut-all, cut-short, cut-few}
 -- the record of a good gate
 abbrev Fair : ℕ → ℕ → Type 0
 Fair n x = Good n (gateOf n x)
-
-good-not-bad : (n : ℕ) (g : Gate) → Good n g → isBad g ≡ false
-unfolding Good
-good-not-bad n (Cnot c t) h = refl
-good-not-bad n (Rotation q a) h = refl
-good-not-bad n (X q) h = refl
-good-not-bad n Bad h = absurd h
 
 fair-between : (n x : ℕ) → Fair n x → isHadamard n x ≡ false
 fair-between n x f = go (isHadamard n x) refl

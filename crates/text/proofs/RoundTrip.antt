@@ -7,6 +7,7 @@ use native.Mathlib.Omega.{arith}
 use lib.Dec.{leb}
 use lib.ListN.{length, take}
 use lib.Seq.{take-append-seam}
+use Rattle.sets.proofs.Lists.{all-none}
 use Rattle.sets.specs.Pick.{both}
 use Rattle.gates.specs.declared.job.Job.{Job}
 use Rattle.verdicts.specs.declared.verdict.Verdict.the-variants.{Line}
@@ -123,7 +124,7 @@ line-refused s a b k h m = sym (answer-line s a b k h (misfit-parsed s k m))
 
 -- "Empty text is refused at line 1"
 pub empty-refused : (a b : ℕ) → readingOf [] a b ≡ Refused (Line 1)
-empty-refused a b = sym (answer-line [] a b 1 (omega arith) (parsed-first [] (unended-head [] tt)))
+empty-refused a b = sym (answer-line [] a b 1 (omega arith) (parsed-first [] (unended-head [] (all-none _))))
 
 -- "a last line without LF included": whatever it holds, it is refused where it is the first line ..
 pub unended-first-refused : (t : List ℕ) (a b : ℕ) → length t ≤ mostBytes → NoLf t → readingOf t a b ≡ Refused (Line 1)

@@ -1,3 +1,4 @@
 pub mod Judged
 pub mod Passing
 pub mod Rows
+pub mod Places

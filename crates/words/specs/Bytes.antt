@@ -6,6 +6,7 @@ use Prim.Native.Nat.{ℕ, _+_, _-_}
 use lib.Dec.{eqb, leb}
 use lib.ListN.{length, take}
 use Rattle.sets.specs.Pick.{pick, both, either}
+use Rattle.sets.specs.Lists.{All}
 
 -- from a to b
 abbrev pub between : ℕ → ℕ → ℕ → Bool
@@ -33,8 +34,7 @@ goesOn f x = either (both (either (inWord f) (eqb f 34)) (inWord x)) (both (eqb 
 
 -- all bytes go on a word that begins with f
 abbrev pub AllOn : ℕ → List ℕ → Type 0
-AllOn f [] = Unit {0}
-AllOn f (x ∷ xs) = (goesOn f x ≡ true) × AllOn f xs
+AllOn f xs = All (λ x. goesOn f x ≡ true) xs
 
 -- two slashes open a comment
 unfoldable pub slashes : ℕ → ℕ → Bool

@@ -1,6 +1,7 @@
 -- `ending::clearing::cost` meets its contract. Assumes nothing.
 use native.Mathlib.Omega.{arith}
-use Rattle.ending.proofs.Choosing.{gathered-few, along-held, first-held, second-held, cost-is}
+use Rattle.gathering.proofs.GatherCode.{gathered-few}
+use Rattle.ending.proofs.Choosing.{along-held, first-held, second-held, cost-is}
 use borrow.Author.Needs.{needs}
 use Rattle.ending.proofs.clearing.cost.Statement.{statement}
 use Rattle.ending.proofs.clearing.cost.Tie as tie

@@ -1,5 +1,6 @@
 -- `ending::clearing::trail` meets its contract. Assumes nothing.
-use Rattle.ending.proofs.Choosing.{gathered-few, first-held, second-held, trail-is}
+use Rattle.gathering.proofs.GatherCode.{gathered-few}
+use Rattle.ending.proofs.Choosing.{first-held, second-held, trail-is}
 use borrow.Author.Needs.{needs}
 use Rattle.ending.proofs.clearing.trail.Statement.{statement}
 use Rattle.ending.proofs.clearing.trail.Tie as tie

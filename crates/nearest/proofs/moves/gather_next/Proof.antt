@@ -1,5 +1,6 @@
 -- `nearest::moves::gather_next` meets its contract. Assumes nothing.
-use Rattle.nearest.proofs.Moving.{gather-fits, next-wrote}
+use Rattle.gathering.proofs.GatherCode.{gathered-few}
+use Rattle.nearest.proofs.Moving.{next-wrote}
 use borrow.Author.Needs.{needs}
 use Rattle.nearest.proofs.moves.gather_next.Statement.{statement}
 use Rattle.nearest.proofs.moves.gather_next.Tie as tie
@@ -11,7 +12,7 @@ gather-requires : tie.Need-gather-requires
 gather-requires c κs = search needs
 
 lay-moves-requires : tie.Need-lay-moves-requires
-lay-moves-requires c κs = gather-fits _ _ _ _ _ (c .before .before .before .before .gather .ensures)
+lay-moves-requires c κs = gathered-few _ _ _ _ _ (c .before .before .before .before .gather .ensures)
 
 same-length : tie.Need-same-length
 same-length c = search needs

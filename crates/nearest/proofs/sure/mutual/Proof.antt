@@ -2,8 +2,9 @@
 use mathlib.Core.Path.{_≡_}
 use Prim.Native.Nat.{_-_, _≤_}
 use lib.ListN.{length}
-use Rattle.nearest.proofs.Sureness.{told-not, not-not, Mutuals, symm-start, symm-next, symm-all}
+use Rattle.nearest.proofs.Sureness.{told-not, Mutuals, symm-start, symm-next, symm-all}
 use borrow.Author.Needs.{needs}
+use borrow.Author.Tests.{not-false}
 use Rattle.nearest.proofs.sure.mutual.Statement.{statement}
 use Rattle.nearest.proofs.sure.mutual.Tie as tie
 
@@ -29,7 +30,7 @@ loop-less : tie.Need-loop-less Inv-loop μ-loop
 loop-less c = search needs
 
 loop-again : tie.Need-loop-again Inv-loop μ-loop
-loop-again c = (search needs, c .before .before .before .loop .inv .1, symm-next _ (c .before .before .before .loop .u) (c .before .mutual-at .ensures (not-not _ (c .if1 .left))) (c .before .before .before .loop .inv .2))
+loop-again c = (search needs, c .before .before .before .loop .inv .1, symm-next _ (c .before .before .before .loop .u) (c .before .mutual-at .ensures (not-false _ (c .if1 .left))) (c .before .before .before .loop .inv .2))
 
 returns-2 : tie.Need-returns-2 Inv-loop μ-loop
 returns-2 c = λ t. symm-all _ (c .before .loop .u) (c .before .loop .inv .1) (search needs) (c .before .loop .inv .2)

@@ -1,7 +1,8 @@
 -- `nearest::sure::mutual_at` meets its contract. Assumes nothing.
 use Prim.Native.Nat.{_-_, _≤_, _<_}
-use Rattle.nearest.proofs.Sureness.{told-not, not-not, Mutually, mutual-start, mutual-next, mutual-all}
+use Rattle.nearest.proofs.Sureness.{told-not, Mutually, mutual-start, mutual-next, mutual-all}
 use borrow.Author.Needs.{needs}
+use borrow.Author.Tests.{not-false}
 use Rattle.nearest.proofs.sure.mutual_at.Statement.{statement}
 use Rattle.nearest.proofs.sure.mutual_at.Tie as tie
 
@@ -36,7 +37,7 @@ loop-less : tie.Need-loop-less Inv-loop μ-loop
 loop-less c = search needs
 
 loop-again : tie.Need-loop-again Inv-loop μ-loop
-loop-again c = (search needs, search needs, mutual-next _ _ (c .before .before .before .loop .v) (c .before .answered .ensures (not-not _ (c .if2 .left))) (c .before .before .before .loop .inv .2))
+loop-again c = (search needs, search needs, mutual-next _ _ (c .before .before .before .loop .v) (c .before .answered .ensures (not-false _ (c .if2 .left))) (c .before .before .before .loop .inv .2))
 
 returns-3 : tie.Need-returns-3 Inv-loop μ-loop
 returns-3 c = λ t. mutual-all _ _ (c .before .loop .v) (search needs) (c .before .loop .inv .2)

@@ -8,7 +8,7 @@ use Rattle.words.specs.Words.{words}
 use Rattle.words.specs.Places.{wordsAt}
 use Rattle.statements.specs.Statements.{readInclude}
 use Rattle.qasm_reading.specs.Parsing.{included}
-use Rattle.qasm_reading.specs.Readings.{answerOf, circuitGates, circuitVerdict}
+use Rattle.qasm_reading.specs.Readings.{foundAnswer, circuitGates, circuitVerdict}
 use Rattle.qasm_reading.proofs.Answers.{head-room, head-list, included-first, included-second, included-body}
 use borrow.Author.Needs.{needs}
 use Rattle.qasm_reading.proofs.read.behind_version.Statement.{statement}
@@ -57,7 +57,7 @@ returns c = let a = c .before .before .before .before .before .before .args in
     let t = words (drop (a .at) s) in
     let e = included-first (a .version) t (c .before .before .before .include .ensures) (ap (wordsAt s) (c .before .enum-told .given .1)) in
     record {
-      answer = c .head-fault .ensures ∙ head-room s t (length old) ∙ sym (ap (answerOf s (length old)) e);
+      answer = c .head-fault .ensures ∙ head-room s t (length old) ∙ sym (ap (foundAnswer s (length old)) e);
       list = head-list s t (circuitGates (included (a .version) (readInclude (a .version) (some t)) t)) old (c .head-fault .ensures);
     }
 
@@ -69,7 +69,7 @@ returns-2 c = let a = c .before .before .before .before .before .before .before 
     let u = words (drop (c .before .before .before .before .before .i .given .0 .0) s) in
     let e = included-second (a .version) t (c .before .before .before .before .before .before .before .include .ensures) u (ap (wordsAt s) (c .before .before .before .before .before .i .given .1)) (c .before .before .before .register .ensures .got) (ap (wordsAt s) (c .before .enum-told2 .given .1)) in
     record {
-      answer = c .head-fault2 .ensures ∙ head-room s u (length old) ∙ sym (ap (answerOf s (length old)) e);
+      answer = c .head-fault2 .ensures ∙ head-room s u (length old) ∙ sym (ap (foundAnswer s (length old)) e);
       list = head-list s u (circuitGates (included (a .version) (readInclude (a .version) (some t)) t)) old (c .head-fault2 .ensures);
     }
 
@@ -84,7 +84,7 @@ returns-3 c = let a = c .before .before .before .before .before .before .before 
     let k = ap (wordsAt s) (c .before .before .before .before .before .before .r-next .given .1) in
     let e = included-body (a .version) (words (drop (a .at) s)) (c .before .before .before .before .before .before .before .before .before .before .before .before .include .ensures) u (ap (wordsAt s) (c .before .before .before .before .before .before .before .before .before .before .i .given .1)) (c .before .before .before .before .before .before .before .before .register .ensures .got) _ _ k (c .before .before .before .before .before .before .before .before .register .ensures .name _ k) in
     record {
-      answer = c .before .before .body .ensures .answer ∙ sym (ap (answerOf s (length old)) e);
+      answer = c .before .before .body .ensures .answer ∙ sym (ap (foundAnswer s (length old)) e);
       list = c .before .before .body .ensures .list ∙ sym (ap (λ p. lentAfter (circuitVerdict (c .before .before .body .result)) (circuitGates p) old) e);
     }
 

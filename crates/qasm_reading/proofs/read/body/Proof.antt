@@ -6,7 +6,7 @@ use lib.ListN.{length, drop}
 use Rattle.lines.specs.Lent.{onto}
 use Rattle.words.specs.Words.{words}
 use Rattle.qasm_reading.specs.Parsing.{circuit, statementRun, endCircuit, registered}
-use Rattle.qasm_reading.specs.Readings.{answerOf, circuitGates}
+use Rattle.qasm_reading.specs.Readings.{foundAnswer, circuitGates}
 use Rattle.qasm_reading.proofs.Answers.{end-angle, end-statement, end-done, room-short, room-long}
 use borrow.Author.Needs.{needs}
 use Rattle.qasm_reading.proofs.read.body.Statement.{statement}
@@ -29,7 +29,7 @@ returns c = let a = c .before .before .before .before .before .before .before .b
     let l = words (drop (c .before .before .before .before .count .result .next) s) in
     record {
       answer = end-angle s (length (now (a .gates))) (a .version) (now (a .name)) (a .n) (r .records) (r .phase) l (c .before .before .before .line-of .ensures) (c .before .before .if1 .taken) (sym (c .before .bad-angle .ensures) ∙ c .if2 .taken)
-          ∙ ap (λ x. answerOf s (length (now (a .gates))) (endCircuit (a .version) (now (a .name)) (a .n) (r .records) (r .phase) x)) (c .before .before .before .before .count .ensures .2);
+          ∙ ap (λ x. foundAnswer s (length (now (a .gates))) (endCircuit (a .version) (now (a .name)) (a .n) (r .records) (r .phase) x)) (c .before .before .before .before .count .ensures .2);
       list = refl;
     }
 
@@ -41,7 +41,7 @@ returns-2 c = let a = c .before .before .before .before .before .before .before 
     let l = words (drop (c .before .before .before .before .count .result .next) s) in
     record {
       answer = end-statement s (length (now (a .gates))) (a .version) (now (a .name)) (a .n) (r .records) (r .phase) l (c .before .before .before .line-of .ensures) (c .before .before .if1 .taken) (sym (c .before .bad-angle .ensures) ∙ c .if2 .left)
-          ∙ ap (λ x. answerOf s (length (now (a .gates))) (endCircuit (a .version) (now (a .name)) (a .n) (r .records) (r .phase) x)) (c .before .before .before .before .count .ensures .2);
+          ∙ ap (λ x. foundAnswer s (length (now (a .gates))) (endCircuit (a .version) (now (a .name)) (a .n) (r .records) (r .phase) x)) (c .before .before .before .before .count .ensures .2);
       list = refl;
     }
 
@@ -55,7 +55,7 @@ returns-3 c = let a = c .before .before .before .before .before .before .before 
     = end-done s (length (now (a .gates))) (a .version) (now (a .name)) (a .n) (r .records) (r .phase) l (c .before .before .before .line-of .ensures) (c .before .before .if1 .left) in
     record {
       answer = room-short s (length (now (a .gates))) (a .version) (a .n) (r .records) (r .phase) (omega (arith, c .before .before .before .before .count .ensures .0, c .if3 .taken))
-          ∙ sym (ap (answerOf s (length (now (a .gates)))) (ap (endCircuit (a .version) (now (a .name)) (a .n) (r .records) (r .phase)) (sym (c .before .before .before .before .count .ensures .2)) ∙ e));
+          ∙ sym (ap (foundAnswer s (length (now (a .gates)))) (ap (endCircuit (a .version) (now (a .name)) (a .n) (r .records) (r .phase)) (sym (c .before .before .before .before .count .ensures .2)) ∙ e));
       list = refl;
     }
 
@@ -75,7 +75,7 @@ returns-4 c = let a = c .before .before .before .before .before .before .before 
     = end-done s (length (now (a .gates))) (a .version) (now (a .name)) (a .n) (r .records) (r .phase) l (c .before .before .before .before .before .before .before .line-of .ensures) (c .before .before .before .before .before .before .if1 .left) in
     let d = ap (endCircuit (a .version) (now (a .name)) (a .n) (r .records) (r .phase)) (sym (c .before .before .before .before .before .before .before .before .count .ensures .2)) ∙ e in
     record {
-      answer = room-long s (length (now (a .gates))) (a .version) (a .n) (r .records) (r .phase) (c .before .before .before .before .before .before .before .before .count .ensures .0) (c .before .before .before .before .before .before .before .before .count .ensures .1) (c .before .before .before .before .if3 .left) ∙ sym (ap (answerOf s (length (now (a .gates)))) d);
+      answer = room-long s (length (now (a .gates))) (a .version) (a .n) (r .records) (r .phase) (c .before .before .before .before .before .before .before .before .count .ensures .0) (c .before .before .before .before .before .before .before .before .count .ensures .1) (c .before .before .before .before .if3 .left) ∙ sym (ap (foundAnswer s (length (now (a .gates)))) d);
       list = c .before .before .fill .ensures ∙ sym (ap (λ p. onto (circuitGates p) (now (a .gates))) d);
     }
 

@@ -6,7 +6,7 @@ use Rattle.reading.specs.Readings.{lentAfter}
 use Rattle.words.specs.Words.{words}
 use Rattle.words.specs.Places.{wordsAt}
 use Rattle.qasm_reading.specs.Parsing.{parsedCircuit}
-use Rattle.qasm_reading.specs.Readings.{answerOf, circuitGates, circuitVerdict}
+use Rattle.qasm_reading.specs.Readings.{foundAnswer, circuitGates, circuitVerdict}
 use Rattle.qasm_reading.proofs.Answers.{reading-long, reading-is, parsed-two, parsed-three, parsed-neither}
 use borrow.Author.Needs.{needs}
 use Rattle.qasm_reading.proofs.read.read.Statement.{statement}
@@ -47,7 +47,7 @@ unfolding parsedCircuit
 returns-2 c = let s = now (c .before .before .before .before .before .before .before .before .before .before .before .args .text) in
     let old = now (c .before .before .before .before .before .before .before .before .before .before .before .args .gates) in
     let e = parsed-two (words s) (c .before .before .before .before .before .before .before .version .ensures) _ (ap (wordsAt s) (c .before .before .before .before .before .two .given .1)) in (
-      c .before .before .behind-version .ensures .answer ∙ sym (reading-is s (length old) (c .before .before .before .before .before .before .before .before .if1 .left) ∙ ap (answerOf s (length old)) e),
+      c .before .before .behind-version .ensures .answer ∙ sym (reading-is s (length old) (c .before .before .before .before .before .before .before .before .if1 .left) ∙ ap (foundAnswer s (length old)) e),
       c .before .before .behind-version .ensures .list ∙ sym (ap (λ p. lentAfter (circuitVerdict (c .before .before .behind-version .result)) (circuitGates p) old) e),
     )
 
@@ -59,7 +59,7 @@ unfolding parsedCircuit
 returns-3 c = let s = now (c .before .before .before .before .before .before .before .before .before .before .before .before .before .before .args .text) in
     let old = now (c .before .before .before .before .before .before .before .before .before .before .before .before .before .before .args .gates) in
     let e = parsed-three (words s) (c .before .before .before .before .before .before .before .before .before .before .version .ensures) (ap (wordsAt s) (c .before .before .before .before .before .before .before .before .enum-told .given .1)) (c .before .before .before .before .before .before .before .version2 .ensures) _ (ap (wordsAt s) (c .before .before .before .before .before .three .given .1)) in (
-      c .before .before .behind-version2 .ensures .answer ∙ sym (reading-is s (length old) (c .before .before .before .before .before .before .before .before .before .before .before .if1 .left) ∙ ap (answerOf s (length old)) e),
+      c .before .before .behind-version2 .ensures .answer ∙ sym (reading-is s (length old) (c .before .before .before .before .before .before .before .before .before .before .before .if1 .left) ∙ ap (foundAnswer s (length old)) e),
       c .before .before .behind-version2 .ensures .list ∙ sym (ap (λ p. lentAfter (circuitVerdict (c .before .before .behind-version2 .result)) (circuitGates p) old) e),
     )
 
@@ -68,7 +68,7 @@ unfolding parsedCircuit
 returns-4 c = let s = now (c .before .before .before .before .before .before .before .before .before .args .text) in
     let old = now (c .before .before .before .before .before .before .before .before .before .args .gates) in
     let e = parsed-neither (words s) (c .before .before .before .before .before .version .ensures) (ap (wordsAt s) (c .before .before .before .enum-told .given .1)) (c .before .before .version2 .ensures) (ap (wordsAt s) (c .enum-told2 .given .1)) in
-    (sym (reading-is s (length old) (c .before .before .before .before .before .before .if1 .left) ∙ ap (answerOf s (length old)) e), refl)
+    (sym (reading-is s (length old) (c .before .before .before .before .before .before .if1 .left) ∙ ap (foundAnswer s (length old)) e), refl)
 
 pub read-spec : {M : Type 1} → statement M
 read-spec =
