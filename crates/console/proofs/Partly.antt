@@ -16,7 +16,7 @@ use Rattle.tallies.specs.Tally.{largest}
 use Rattle.laying.specs.declared.lay.Answer.{Answer}
 use Rattle.laying.specs.declared.lay.Answer.the-variants.{Laid, Refused}
 use Rattle.judging.specs.Tests.{verdictOf}
-use Rattle.laying.specs.Verdict.{circuitOf, answered, outputOf, phaseIn}
+use Rattle.laying.specs.Answers.{circuitOf, answered, outputOf, phaseIn}
 use Rattle.laying.proofs.Demands.{demand-2-fits}
 use Rattle.laying.proofs.Said.{refused-says}
 use Rattle.sets.specs.Lists.{All}

@@ -1,11 +1,10 @@
 -- The loop that counts the stretches: what is counted already, and what is still to come. Assumes nothing.
 use mathlib.Core.Path.{_≡_, sym, ap, ap₂, _∙_, subst}
-use mathlib.Core.List.{List, [], _∷_, _++_}
+use mathlib.Core.List.{List, [], _∷_, _++_, map-append}
 use Prim.Native.Nat.{ℕ, _+_, _*_, _≤_, _<_}
 use native.Mathlib.Omega.{arith}
 use native.Mathlib.Decide.{decLt}
 use lib.ListN.{length, getD, replicate, length-map}
-use Rattle.sets.proofs.Storing.{map-append}
 use Rattle.gates.specs.declared.gate.Gate.{Gate}
 use Rattle.gates.specs.declared.gate.Gate.the-variants.{Bad}
 use Rattle.gates.specs.Limits.{mostQubits, mostGates}
@@ -17,7 +16,7 @@ use Rattle.tallies.specs.Tally.{tally, oneCnot, oneRotation, cnotsOf, rotations
 use Rattle.tallies.proofs.Tallies.{cnots-append, rotations-append, cnots-most, rotations-most}
 use Rattle.tallies.proofs.DepthLaws.{highest-layers}
 use Rattle.tallies.proofs.InParts.{layers-append, after-fits}
-use Rattle.laying.specs.Verdict.{circuitOf}
+use Rattle.laying.specs.Answers.{circuitOf}
 use Rattle.laying.proofs.Demands.{demand-2-fits}
 use Rattle.sets.specs.Lists.{All}
 use Rattle.stretches.specs.Stretches.{stretchesOf, endAt, stretchAt, restFrom}

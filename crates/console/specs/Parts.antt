@@ -10,7 +10,7 @@ use Rattle.tallies.specs.Tally.{largest}
 use Rattle.chip.specs.Couplers.{nearOf}
 use Rattle.chip.specs.Ordered.{orderedList}
 use Rattle.judging.specs.Tests.{verdictOf}
-use Rattle.laying.specs.Verdict.{answered, phaseIn}
+use Rattle.laying.specs.Answers.{answered, phaseIn}
 use Rattle.stretches.specs.Stretches.{stretchAt}
 use Rattle.stretches.specs.Tests.{judgedStretches}
 use Rattle.stretches.specs.Laid.{stretchRecords}

@@ -20,7 +20,7 @@ ghost use lib.ListN.{length, take};
 ghost use Rattle.gates.specs.Layout.{gatesOf};
 ghost use Rattle.gates.specs.Limits.{mostGates};
 ghost use Rattle.tallies.specs.Tally.{cnotsOf, rotationsOf, highest, layersAfter, depthOf, largest};
-ghost use Rattle.laying.specs.Verdict.{circuitOf};
+ghost use Rattle.laying.specs.Answers.{circuitOf};
 ghost use Rattle.sets.specs.Lists.{All};
 ghost use Rattle.stretches.specs.Stretches.{stretchesOf};
 ghost use Rattle.stretches.specs.Asked.{Accepts};

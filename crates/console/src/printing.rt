@@ -26,7 +26,7 @@ ghost use Rattle.tallies.specs.Tally.{largest};
 ghost use Rattle.chip.specs.Couplers.{nearOf};
 ghost use Rattle.chip.specs.Ordered.{orderedList};
 ghost use Rattle.judging.specs.Tests.{verdictOf};
-ghost use Rattle.laying.specs.Verdict.{answered, phaseIn};
+ghost use Rattle.laying.specs.Answers.{answered, phaseIn};
 ghost use Rattle.stretches.specs.Laid.{stretchRecords};
 ghost use Rattle.lines.specs.Lines.{recordsText, textOf};
 ghost use Rattle.reading.specs.Limits.{mostBytes};

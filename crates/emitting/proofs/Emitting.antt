@@ -1,7 +1,7 @@
 -- Gates written one list behind another: the laws of `emit` and `emitAt`. Assumes nothing.
 use mathlib.Core.Path.{_≡_, refl, sym, ap, _∙_}
 use mathlib.Core.Bool.{Bool, true, false}
-use mathlib.Core.List.{List, [], _∷_, _++_, map}
+use mathlib.Core.List.{List, [], _∷_, _++_, map, map-append}
 use Prim.Native.Nat.{ℕ, suc, _+_, _≤_, _<_, max, min}
 use native.Mathlib.Omega.{arith}
 use lib.Dec.{ltb}
@@ -12,7 +12,7 @@ use Rattle.sets.specs.Pick.{pick}
 use Rattle.gates.specs.Layout.{recordOf}
 use Rattle.gates.specs.declared.gate.Gate.{Gate}
 use Rattle.emitting.specs.Emit.{nextAt, emit, emitAt}
-use Rattle.sets.proofs.Storing.{sets-append, map-append}
+use Rattle.sets.proofs.Storing.{sets-append}
 
 -- past the end nothing is stored
 sets-past : (l : List ℕ) (i : ℕ) (vs : List ℕ) → length l ≤ i → sets l i vs ≡ l

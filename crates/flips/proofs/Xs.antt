@@ -2,7 +2,7 @@
 use mathlib.Core.Path.{_≡_, refl, sym, ap, ap₂, _∙_, subst}
 use mathlib.Core.Logic.{_≢_, _⊎_, inl, inr}
 use mathlib.Core.Bool.{Bool, true, false, not}
-use mathlib.Core.List.{List, [], _∷_, _++_, map, append-nil}
+use mathlib.Core.List.{List, [], _∷_, _++_, map, append-nil, map-append}
 use Prim.Native.Nat.{ℕ, zero, suc, _+_, _≤_, _<_}
 use native.Mathlib.Omega.{arith}
 use native.Mathlib.Decide.{ℕ-discrete}
@@ -16,7 +16,6 @@ use Rattle.sets.specs.Bit.{bit, In, has}
 use Rattle.sets.proofs.Bits.{bit-cases}
 use Rattle.sets.proofs.Words.{has-true, in-has, out-has}
 use Rattle.sets.proofs.Deciding.{never, both-true, both-yes, both-not}
-use Rattle.sets.proofs.Storing.{map-append}
 use Rattle.gates.specs.declared.gate.Gate.{Gate}
 use Rattle.gates.specs.declared.gate.Gate.the-variants.{X}
 use Rattle.gates.specs.Limits.{mostQubits}

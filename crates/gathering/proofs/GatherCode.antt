@@ -2,7 +2,7 @@
 use mathlib.Core.Path.{_≡_, refl, sym, ap, ap₂, _∙_, subst}
 use mathlib.Core.Logic.{_≢_}
 use mathlib.Core.Bool.{Bool, true, false}
-use mathlib.Core.List.{List, [], _∷_, _++_, map}
+use mathlib.Core.List.{List, [], _∷_, _++_, map, map-append}
 use Prim.Native.Nat.{ℕ, zero, suc, _+_, _-_, _*_, _≤_, _<_, min}
 use native.Mathlib.Omega.{arith}
 use native.Mathlib.Numerals.{add-one}
@@ -23,7 +23,7 @@ use Rattle.gathering.specs.Order.{orderOf, orderIn}
 use Rattle.gathering.specs.Gather.{exchanged, movesAt, leftAt, gatherFrom, gatherOf, alongOf, mostMoves, controlOf, targetOf, movesIn, Stepped, cnotsFrom}
 use Rattle.gathering.proofs.OrderGrows.{order-few}
 use Rattle.gathering.proofs.GatherWorks.{gather-step, gather-none, moves-few, gather-few}
-use Rattle.sets.proofs.Storing.{sets-append, map-append}
+use Rattle.sets.proofs.Storing.{sets-append}
 
 -- ---- one step
 

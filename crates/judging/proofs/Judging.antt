@@ -27,6 +27,7 @@ use Rattle.verdicts.specs.Verdicts.{numberOf, judgedQubits, judgedCouplers, jud
 use Rattle.verdicts.proofs.Judged.{then-on, then-stop}
 use Rattle.meaning.proofs.Bearing.{terms-few}
 use Rattle.meaning.proofs.Terms.{termTable, terms-table}
+use Rattle.meaning.proofs.Telling.{told-whole}
 use Rattle.table.proofs.Keeping.{take-padded}
 use Rattle.chip.specs.Couplers.{nearOf}
 use Rattle.isles.specs.Islands.{islandsOf}
@@ -109,9 +110,8 @@ module _ (n : ℕ) (islands ys : List ℕ) (room : ℕ) (t : Told) (e : t ≡ to
     pub whole : overAt gs ≡ length gs
     whole = omega (arith, fed-is, long, over-le gs)
 
-    pub told-is : t .meaning ≡ meaningOf gs
-    unfolding toldOf
-    told-is = ap (λ (u : Told). u .meaning) e ∙ ap meaningOf (take-all (overAt gs) gs (omega (arith, whole)))
+    told-is : t .meaning ≡ meaningOf gs
+    told-is = told-whole n ys t e whole
 
     wires-are : t .meaning .wires .parity ≡ run gs start
     unfolding meaningOf wiresOf

@@ -34,7 +34,7 @@ use Rattle.laying.specs.Islands.{laidTo}
 use Rattle.laying.specs.Laid.{onIsland, withFlips, laidOf}
 use Rattle.laying.specs.Layable.{Layable}
 use Rattle.ways.specs.Memory.{FitsMemory}
-use Rattle.laying.specs.Verdict.{circuitOf}
+use Rattle.laying.specs.Answers.{circuitOf}
 use Rattle.laying.specs.Demands.{xsAt}
 use Rattle.laying.proofs.Parting.{Parts}
 use Rattle.laying.proofs.Composing.{laid-all}

@@ -21,7 +21,7 @@ use Rattle.chip.specs.Couplers.{nearOf}
 use Rattle.laying.specs.Laid.{laidOf}
 use Rattle.laying.specs.Layable.{Layable}
 use Rattle.judging.specs.Tests.{verdictOf}
-use Rattle.laying.specs.Verdict.{circuitOf, countsOf, answered, outputOf}
+use Rattle.laying.specs.Answers.{circuitOf, countsOf, answered, outputOf}
 use Rattle.ways.proofs.Replaying.{zeros, gates-read, memory-fits}
 use Rattle.ways.proofs.Owned.{part-held}
 use Rattle.laying.proofs.Accepting.{job-layable, job-room}

@@ -23,7 +23,7 @@ use Rattle.laying.specs.Islands.{leads, laidTo}
 use Rattle.laying.specs.Laid.{onIsland, withFlips, laidOf}
 use Rattle.laying.specs.Layable.{Layable}
 use Rattle.judging.specs.Tests.{verdictOf}
-use Rattle.laying.specs.Verdict.{circuitOf, laidRecords}
+use Rattle.laying.specs.Answers.{circuitOf, laidRecords}
 use Rattle.laying.specs.Demands.{Linked, same, more, Island, gatesOn, SameCouplers, Agree}
 use Rattle.laying.proofs.Job.{parts}
 use Rattle.laying.proofs.Both.{island-placed}

@@ -33,7 +33,7 @@ use Rattle.laying.specs.declared.lay.Answer.the-variants.{Laid, Refused}
 use Rattle.laying.specs.Layable.{Layable}
 use Rattle.laying.specs.Laid.{GoesOnIsland}
 use Rattle.judging.specs.Tests.{judgedCount, judgedParities, judgedReach, judgedRoom, judgedMeaning, verdictOf, verdictOn}
-use Rattle.laying.specs.Verdict.{circuitOf, countsOf, answered, outputOf, verdictIn, recordsIn, cnotsIn, rotationsIn, depthIn, phaseIn, laidRecords}
+use Rattle.laying.specs.Answers.{circuitOf, countsOf, answered, outputOf, verdictIn, recordsIn, cnotsIn, rotationsIn, depthIn, phaseIn, laidRecords}
 use Rattle.laying.specs.Reach.{MeaningInside}
 use Rattle.laying.specs.Demands.{Island, InIsland, gatesOn, Faithful, FlipsLast, judgedSix, Stays, InIslands, Strays, Agree}
 use Rattle.laying.proofs.Job.{only-inside}
@@ -219,7 +219,7 @@ module _ (n : ℕ) (couplers gates : List ℕ) (room : ℕ) (six : numberOf (jud
       go (yes z) = inl (z, circuit-reaches n couplers gates (layable z))
       go (no ne) = inr (reach-number n couplers drawn few allGood ne, λ r. ne (ap numberOf (reached r)), strays ne)
 
-  -- refused as unreachable only where no circuit of coupler CNOTs and rotations has the meaning
+  -- refused as unreachable only where no circuit of coupler CNOTs, rotations and X gates has the meaning
   pub demand-2-unreachable : numberOf (verdictOf n couplers gates room) ≡ 7 → Reachable n couplers drawn → ⊥
   demand-2-unreachable h r = room-number n drawn room (ap numberOf (then-on reach (judgedRoom n drawn room) (ap numberOf (reached r)) ∙ rest) ∙ h)
 
@@ -254,7 +254,7 @@ module _ (n : ℕ) (couplers gates : List ℕ) (room : ℕ) (six : numberOf (jud
 
 -- ---- demand 3
 
--- the gates laid on an island depend on nothing but its couplers, its final parities and its sums
+-- the gates laid on an island depend on nothing but its couplers, its final parities, its flips and its sums
 pub demand-3 : (n m : ℕ) (couplers couplers′ gates gates′ : List ℕ) (room room′ : ℕ)
     → numberOf (verdictOf n couplers gates room) ≡ 0 → numberOf (verdictOf m couplers′ gates′ room′) ≡ 0
     → (S q r : ℕ) → Island n couplers S q → Island m couplers′ S r → Agree S couplers couplers′ (gatesOf n gates) (gatesOf m gates′)

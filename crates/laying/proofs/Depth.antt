@@ -21,7 +21,7 @@ use Rattle.circuit.proofs.Wiring.{good-up}
 use Rattle.laying.specs.declared.lay.Answer.{Answer}
 use Rattle.laying.specs.declared.lay.Answer.the-variants.{Refused}
 use Rattle.judging.specs.Tests.{verdictOf}
-use Rattle.laying.specs.Verdict.{circuitOf, countsOf, answered, cnotsIn, depthIn}
+use Rattle.laying.specs.Answers.{circuitOf, countsOf, answered, cnotsIn, depthIn}
 use Rattle.laying.proofs.Accepting.{job-layable}
 use Rattle.laying.proofs.Demands.{demand-2}
 

@@ -27,7 +27,8 @@ use Rattle.chip.specs.Couplers.{nearOf}
 use Rattle.isles.specs.Islands.{islandsOf}
 use Rattle.judging.specs.Tests.{judgedCount, judgedParities, strayAt, scattered, judgedReach, judgedMeaning, verdictOf, verdictOn}
 use Rattle.laying.specs.Rows.{Passes4, Passes6}
-use Rattle.laying.proofs.Rows.{tests-4, tests-6, tests-8, rows}
+use Rattle.laying.proofs.InOrder.{tests-4}
+use Rattle.laying.proofs.Rows.{tests-6, tests-8, rows}
 
 -- ---- 8
 

@@ -23,6 +23,7 @@ pub mod Linking
 pub mod Each
 pub mod Twice
 pub mod Demands
+pub mod InOrder
 pub mod Rows
 pub mod Archive
 pub mod Without

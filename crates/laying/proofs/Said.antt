@@ -16,7 +16,7 @@ use Rattle.verdicts.specs.Verdicts.{numberOf}
 use Rattle.tallies.specs.Tally.{cnotsOf, rotationsOf, depthOf}
 use Rattle.laying.specs.declared.lay.Answer.the-variants.{Laid, Refused}
 use Rattle.judging.specs.Tests.{verdictOf}
-use Rattle.laying.specs.Verdict.{circuitOf, countsOf, answered, outputOf}
+use Rattle.laying.specs.Answers.{circuitOf, countsOf, answered, outputOf}
 
 module _ (n : ℕ) (xs ys : List ℕ) (room : ℕ) where
   abbrev circuit : List Gate

@@ -33,7 +33,7 @@ use Rattle.share.specs.Own.{ownSets, ownTerms}
 use Rattle.ways.specs.Ways.{islandLaid}
 use Rattle.laying.specs.Laid.{shareOf, onIsland, withFlips, laidOf}
 use Rattle.laying.specs.Layable.{Layable}
-use Rattle.laying.specs.Verdict.{circuitOf}
+use Rattle.laying.specs.Answers.{circuitOf}
 use Rattle.laying.specs.Demands.{Island, gatesOn, FlipsLast, Agree}
 use Rattle.laying.proofs.Parting.{Parts, leader-below, leader-same, leader-leads}
 use Rattle.laying.proofs.Restricting.{own-same}

@@ -8,7 +8,6 @@ use native.Mathlib.Decide.{decLt}
 use native.Mathlib.Numerals.{add-one}
 use lib.Dec.{ltb}
 use lib.ListN.{length, getD, take}
-use lib.Seq.{take-all}
 use borrow.Author.Tests.{ltb-true, eq-eqb, ne-eqb}
 use Rattle.sets.specs.Size.{lowestOf}
 use Rattle.sets.proofs.Finding.{first-true}
@@ -24,6 +23,7 @@ use Rattle.circuit.specs.Phase.{phaseOf}
 use Rattle.flips.specs.Xs.{xsOn}
 use Rattle.meaning.specs.Borne.{borne, overAt}
 use Rattle.meaning.proofs.Bearing.{borne-grows}
+use Rattle.meaning.proofs.Telling.{told-whole}
 use Rattle.meaning.specs.Told.{toldOf, meaningOf, tableOf}
 use Rattle.circuit.specs.State.{wiresOf}
 use Rattle.chip.specs.Couplers.{nearOf}
@@ -108,8 +108,7 @@ module _ (n : ℕ) (near all ys : List ℕ) (p : LayableOn n near all ys) (t : T
   below = upTo n near ys
 
   told-is : t .meaning ≡ meaningOf gs
-  unfolding toldOf
-  told-is = ap (λ (u : Told). u .meaning) e ∙ ap meaningOf (take-all (overAt gs) gs (omega (arith, all-fed gs (job .fit))))
+  told-is = told-whole n ys t e (all-fed gs (job .fit))
 
   wires-are : t .meaning .wires .parity ≡ run gs start
   unfolding meaningOf wiresOf

@@ -16,7 +16,7 @@ use Rattle.flips.proofs.Xs.{xs-none}
 use Rattle.chip.specs.Couplers.{nearOf}
 use Rattle.isles.specs.Islands.{islandOf}
 use Rattle.laying.specs.Laid.{onIsland, withFlips, laidOf}
-use Rattle.laying.specs.Verdict.{circuitOf}
+use Rattle.laying.specs.Answers.{circuitOf}
 use Rattle.laying.specs.Without.{WithoutX}
 use Rattle.laying.proofs.Archive.{laid-alike}
 

@@ -1,7 +1,7 @@
 pub mod Islands
 pub mod Laid
 pub mod Reach
-pub mod Verdict
+pub mod Answers
 pub mod Demands
 pub mod Rows
 pub mod Layable

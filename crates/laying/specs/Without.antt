@@ -10,7 +10,7 @@ use Rattle.chip.specs.Couplers.{nearOf}
 use Rattle.isles.specs.Islands.{islandOf}
 use Rattle.laying.specs.Islands.{laidTo}
 use Rattle.laying.specs.Laid.{onIsland}
-use Rattle.laying.specs.Verdict.{circuitOf}
+use Rattle.laying.specs.Answers.{circuitOf}
 
 -- no flip and no common phase; the angles as they are drawn; and the gates of the islands with nothing behind their endings
 pub record WithoutX (n : ℕ) (couplers gates : List ℕ) : Type 0 where

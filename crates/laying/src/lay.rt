@@ -23,7 +23,7 @@ ghost use Rattle.share.specs.OwnTable.{shareIn};
 ghost use Rattle.ways.specs.Memory.{islandInMemory};
 ghost use Rattle.laying.specs.Stands.{Idles};
 ghost use Rattle.laying.specs.Laid.{laidOf};
-ghost use Rattle.laying.specs.Verdict.{countsOf, answered, outputOf};
+ghost use Rattle.laying.specs.Answers.{countsOf, answered, outputOf};
 
 // What laying answers: the counts of the laid gates, or why there are none.
 pub enum Answer {

@@ -8,7 +8,7 @@ use native.Mathlib.Omega.{arith}
 use native.Mathlib.Numerals.{add-one}
 use lib.Dec.{ltb}
 use lib.ListN.{length, getD, take, replicate, length-map}
-use lib.Seq.{take-suc}
+use lib.Seq.{take-suc, take-all}
 use borrow.Author.Tests.{ltb-true, ltb-false}
 use Rattle.sets.specs.Pick.{pick}
 use Rattle.sets.specs.Search.{firstOf}
@@ -206,3 +206,8 @@ module _ (n : ℕ) (xs : List ℕ) (m : Meaning) (i : ℕ) (t : Telling (gatesOf
       let last : i ≡ length xs = omega (arith, t .within) in
       let o : overAt (gatesOf n xs) ≡ length xs = sym (t .still) ∙ first-end (overTest (gatesOf n xs)) (length (gatesOf n xs)) i (omega arith) ∙ last in
       rw o (ap (λ (k : Meaning). record { meaning = k; fed = length xs }) (t .told ∙ ap (λ (k : ℕ). meaningOf (take k (gatesOf n xs))) last))
+
+-- where no gate brings a 257th parity, what is told is the meaning of all gates
+pub told-whole : (n : ℕ) (xs : List ℕ) (t : Told) → t ≡ toldOf n xs → overAt (gatesOf n xs) ≡ length (gatesOf n xs) → t .meaning ≡ meaningOf (gatesOf n xs)
+unfolding toldOf
+told-whole n xs t e w = ap (λ (u : Told). u .meaning) e ∙ ap meaningOf (take-all (overAt (gatesOf n xs)) (gatesOf n xs) (omega (arith, w)))

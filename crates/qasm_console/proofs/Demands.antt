@@ -29,7 +29,7 @@ use Rattle.stretches.proofs.Laying.{phases-small}
 use Rattle.stretches.proofs.Passing.{Passed, job-passed}
 use Rattle.stretches.proofs.Demands.{laid-faithful, demand-3, all-hadamards}
 use Rattle.stretches.proofs.Archive.{same-records}
-use Rattle.laying.specs.Verdict.{circuitOf}
+use Rattle.laying.specs.Answers.{circuitOf}
 use Rattle.laying.proofs.Demands.{demand-2}
 use Rattle.reading.specs.Limits.{mostBytes}
 use Rattle.reading.specs.Readings.{couplersIn}

@@ -16,7 +16,7 @@ use Rattle.gates.proofs.Records.{kind-packed, a-packed, b-packed}
 use Rattle.gates.proofs.Hadamards.{hadamard-kind}
 use Rattle.verdicts.specs.Verdicts.{numberOf}
 use Rattle.judging.specs.Tests.{verdictOf}
-use Rattle.laying.specs.Verdict.{circuitOf}
+use Rattle.laying.specs.Answers.{circuitOf}
 use Rattle.laying.proofs.Accepting.{job-layable}
 use Rattle.laying.proofs.Demands.{demand-2}
 use Rattle.stretches.specs.Cut.{firstAt}

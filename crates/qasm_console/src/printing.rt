@@ -29,7 +29,7 @@ ghost use Prim.Native.Nat.{_+_, _≤_};
 ghost use lib.ListN.{length, take};
 ghost use Rattle.tallies.specs.Tally.{largest};
 ghost use Rattle.judging.specs.Tests.{verdictOf};
-ghost use Rattle.laying.specs.Verdict.{answered, phaseIn};
+ghost use Rattle.laying.specs.Answers.{answered, phaseIn};
 ghost use Rattle.stretches.specs.Laid.{stretchRecords};
 ghost use Rattle.reading.specs.Limits.{mostBytes};
 ghost use Rattle.qasm_lines.specs.Spelling.{gatesText, phaseText};

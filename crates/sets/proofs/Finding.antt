@@ -1,5 +1,5 @@
 -- Laws of a search: `firstOf` and `someOf`. Assumes nothing.
-use mathlib.Core.Path.{_≡_, refl, sym, ap, _∙_, subst}
+use mathlib.Core.Path.{_≡_, refl, ap, subst}
 use mathlib.Core.Bool.{Bool, true, false}
 use Prim.Native.Nat.{ℕ, zero, suc, _+_, _-_, _≤_, _<_}
 use native.Mathlib.Omega.{arith}
@@ -7,6 +7,7 @@ use lib.Dec.{ltb}
 use borrow.Author.Tests.{lt-ltb, le-ltb, ltb-true, ltb-false}
 use Rattle.sets.specs.Pick.{pick}
 use Rattle.sets.specs.Search.{firstOf, someOf}
+use Rattle.sets.proofs.Deciding.{never}
 
 pub sub-suc : (n r : ℕ) → r < n → n - r ≡ suc (n - (r + 1))
 sub-suc n r h = omega arith
@@ -76,9 +77,6 @@ first-is f d k le hit miss = go (ltb m k) (ltb k m) refl refl
   where
     m : ℕ
     m = firstOf f d 0
-
-    never : {x : Bool} → x ≡ true → x ≡ false → ⊥
-    never a b = let z : _≡_ {A = ℕ} 0 1 = ap (λ (t : Bool). pick t 0 1) (sym a ∙ b) in omega arith
 
     go : (b c : Bool) → ltb m k ≡ b → ltb k m ≡ c → m ≡ k
     go true c p q = let h : m < k = ltb-true m k p in absurd (never (first-true f d 0 (omega arith)) (miss m h))

@@ -13,10 +13,10 @@ use borrow.Author.Tests.{ltb-true, ltb-false, leb-true, lt-ltb, le-leb, lt-leb, 
 use Rattle.spots.specs.Numbers.{lost, skipped, digitOf, moreDigits, numberFrom, readNumber}
 
 module _ (s : List ℕ) (p : ℕ) where
-  at-cons : p < length s → drop p s ≡ getD s p 0 ∷ drop (p + 1) s
+  pub at-cons : p < length s → drop p s ≡ getD s p 0 ∷ drop (p + 1) s
   at-cons h = rw (add-one, drop-cons s p 0)
 
-  at-end : length s ≤ p → drop p s ≡ []
+  pub at-end : length s ≤ p → drop p s ≡ []
   at-end h = lib.ListN.drop-of-length-le s h
 
   pub skip-hit : (b : ℕ) → p < length s → getD s p 0 ≡ b → some (drop (p + 1) s) ≡ skipped b (some (drop p s))

@@ -13,7 +13,7 @@ use Rattle.tallies.specs.Tally.{largest}
 use Rattle.laying.specs.declared.lay.Answer.{Answer}
 use Rattle.laying.specs.declared.lay.Answer.the-variants.{Laid, Refused}
 use Rattle.judging.specs.Tests.{verdictOf}
-use Rattle.laying.specs.Verdict.{circuitOf, answered, outputOf}
+use Rattle.laying.specs.Answers.{circuitOf, answered, outputOf}
 use Rattle.laying.proofs.Said.{Counted, laid-says, refused-says, output-front}
 use Rattle.stretches.specs.Asked.{Accepts}
 use Rattle.stretches.specs.Laid.{stretchRecords}

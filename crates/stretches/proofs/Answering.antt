@@ -14,7 +14,7 @@ use Rattle.verdicts.specs.declared.verdict.Verdict.{Verdict}
 use Rattle.verdicts.specs.declared.verdict.Verdict.the-variants.{Accepted, Room}
 use Rattle.verdicts.specs.Verdicts.{numberOf}
 use Rattle.verdicts.proofs.Judged.{zero-accepted, then-on, then-stop}
-use Rattle.laying.specs.Verdict.{countsOf}
+use Rattle.laying.specs.Answers.{countsOf}
 use Rattle.laying.specs.declared.lay.Answer.{Answer}
 use Rattle.laying.specs.declared.lay.Answer.the-variants.{Refused}
 use Rattle.stretches.specs.Stretches.{stretchesOf}

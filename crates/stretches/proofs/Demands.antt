@@ -24,7 +24,7 @@ use Rattle.tallies.specs.Tally.{cnotsOf, rotationsOf, depthOf, largest}
 use Rattle.chip.specs.Couplers.{nearOf}
 use Rattle.laying.specs.declared.lay.Answer.{Answer}
 use Rattle.laying.specs.declared.lay.Answer.the-variants.{Laid, Refused}
-use Rattle.laying.specs.Verdict.{countsOf, verdictIn, recordsIn, cnotsIn, rotationsIn, depthIn, phaseIn}
+use Rattle.laying.specs.Answers.{countsOf, verdictIn, recordsIn, cnotsIn, rotationsIn, depthIn, phaseIn}
 use Rattle.laying.specs.Demands.{Island, FlipsLast, Agree}
 use Rattle.laying.specs.Laid.{GoesOnIsland}
 use Rattle.laying.proofs.Demands as laying

@@ -24,7 +24,7 @@ use Rattle.tallies.proofs.DepthLaws.{depth-part, depth-none, depth-few}
 use Rattle.circuit.proofs.Wiring.{good-up}
 use Rattle.laying.specs.declared.lay.Answer.{Answer}
 use Rattle.laying.specs.declared.lay.Answer.the-variants.{Refused}
-use Rattle.laying.specs.Verdict.{countsOf, cnotsIn, depthIn}
+use Rattle.laying.specs.Answers.{countsOf, cnotsIn, depthIn}
 use Rattle.stretches.specs.Cut.{weave}
 use Rattle.stretches.specs.Stretches.{stretchesOf, hadamardsOf}
 use Rattle.stretches.specs.Tests.{jobVerdict}

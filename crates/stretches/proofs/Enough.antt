@@ -16,7 +16,7 @@ use Rattle.verdicts.proofs.Judged.{then-accepted, zero-accepted, then-zero}
 use Rattle.verdicts.proofs.Rows.{test-passed, row-passes, tests-1, tests-drawn}
 use Rattle.verdicts.proofs.Places.{Low, low-test, low-then, nowhere, low-couplers}
 use Rattle.judging.specs.Tests.{judgedCount}
-use Rattle.laying.proofs.Rows.{tests-4}
+use Rattle.laying.proofs.InOrder.{tests-4}
 use Rattle.stretches.specs.Cut.{ahead, cutAt}
 use Rattle.stretches.specs.Stretches.{stretchesOf, hadamardsOf}
 use Rattle.stretches.specs.Tests.{judgedFive, judgedParitiesFrom, judgedReaches, jobBound, judgedBound, judgedStretches, jobVerdict}

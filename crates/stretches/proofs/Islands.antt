@@ -13,7 +13,7 @@ use Rattle.sets.proofs.Lists.{those-append}
 use Rattle.gates.proofs.Records.{gate-record}
 use Rattle.gates.proofs.Hadamards.{good-between}
 use Rattle.tallies.specs.Tally.{largest}
-use Rattle.laying.specs.Verdict.{circuitOf}
+use Rattle.laying.specs.Answers.{circuitOf}
 use Rattle.laying.specs.Demands.{Island, isOn, gatesOn, Agree}
 use Rattle.laying.proofs.Demands.{demand-2, demand-3}
 use Rattle.stretches.specs.Cut.{weave, Pairs}

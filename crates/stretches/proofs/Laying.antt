@@ -9,6 +9,7 @@ use lib.Seq.{sets, length-sets, length-take-le, take-suc, take-all}
 use Rattle.sets.proofs.Storing.{sets-append}
 use Rattle.gates.specs.Layout.{gatesOf}
 use Rattle.circuit.specs.Phase.{phaseOf, phases}
+use Rattle.circuit.proofs.Phases.{phases-over}
 use Rattle.sets.specs.Lists.{All}
 use Rattle.stretches.specs.Stretches.{stretchesOf, stretchAt, restFrom}
 use Rattle.stretches.specs.Asked.{Accepts}
@@ -128,11 +129,8 @@ module _ (n : ℕ) (couplers xs : List ℕ) where
     module _ (share phase′ : ℕ) (c : share ≡ phaseOf (gatesOf n s)) (d : phase′ ≡ phases phase share) where
       due-next : phases phase′ (phasesOf n (restFrom n xs next)) ≡ jobPhase n xs
       due-next =
-          ap (λ (m : ℕ). phases m (phasesOf n (restFrom n xs next))) (d ∙ ap (phases phase) c) ∙ assoc phase (phaseOf (gatesOf n s)) (phasesOf n (restFrom n xs next))
+          ap (λ (m : ℕ). phases m (phasesOf n (restFrom n xs next))) (d ∙ ap (phases phase) c) ∙ phases-over phase (phaseOf (gatesOf n s)) (phasesOf n (restFrom n xs next))
           ∙ ap (phases phase) (sym (ap (phasesOf n) (lent-step n xs k s e l) ∙ (unfold phasesOf in refl))) ∙ r .due
-        where
-          assoc : (x y z : ℕ) → phases (phases x y) z ≡ phases x (phases y z)
-          assoc x y z = unfold phases in omega arith
 
       phase-small : phase′ < 131072
       unfolding phases

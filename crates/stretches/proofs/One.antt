@@ -25,7 +25,7 @@ use Rattle.chip.specs.Couplers.{nearOf}
 use Rattle.isles.specs.Islands.{islandsOf}
 use Rattle.judging.specs.Tests.{judgedCount, judgedParities, judgedReach, judgedRoom, judgedMeaning, verdictOf, verdictOn}
 use Rattle.laying.specs.declared.lay.Answer.the-variants.{Refused}
-use Rattle.laying.specs.Verdict.{circuitOf, countsOf, answered, outputOf}
+use Rattle.laying.specs.Answers.{circuitOf, countsOf, answered, outputOf}
 use Rattle.sets.specs.Lists.{All}
 use Rattle.stretches.specs.Cut.{weave}
 use Rattle.stretches.specs.Stretches.{stretchesOf, hadamardsOf}

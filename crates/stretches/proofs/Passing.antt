@@ -29,10 +29,10 @@ use Rattle.chip.specs.Couplers.{nearOf}
 use Rattle.isles.specs.Islands.{islandsOf}
 use Rattle.judging.specs.Tests.{judgedCount, judgedParities, judgedReach, judgedRoom, judgedMeaning, verdictOf, verdictOn}
 use Rattle.judging.proofs.Judging.{over-le, over-few, qubits-few, parities-pass}
-use Rattle.laying.specs.Verdict.{circuitOf}
+use Rattle.laying.specs.Answers.{circuitOf}
 use Rattle.laying.specs.Demands.{judgedSix}
 use Rattle.laying.proofs.Demands.{demand-2}
-use Rattle.laying.proofs.Rows.{tests-4}
+use Rattle.laying.proofs.InOrder.{tests-4}
 use Rattle.sets.specs.Lists.{those, All}
 use Rattle.stretches.specs.Cut.{ahead, cutAt, weave}
 use Rattle.stretches.specs.Stretches.{stretchesOf, hadamardsOf}

@@ -20,7 +20,7 @@ use Rattle.meaning.specs.Same.{Alike}
 use Rattle.tallies.specs.Tally.{largest}
 use Rattle.laying.specs.declared.lay.Answer.the-variants.{Refused}
 use Rattle.judging.specs.Tests.{verdictOf}
-use Rattle.laying.specs.Verdict.{circuitOf, countsOf, answered, phaseIn, laidRecords}
+use Rattle.laying.specs.Answers.{circuitOf, countsOf, answered, phaseIn, laidRecords}
 use Rattle.laying.specs.Demands.{Island, Faithful, FlipsLast, SameCouplers, Agree}
 use Rattle.laying.proofs.Accepting.{job-layable}
 use Rattle.laying.proofs.Demands.{demand-2, demand-2-flips-last, records-are}

@@ -9,7 +9,7 @@ use Rattle.verdicts.specs.Verdicts.{numberOf}
 use Rattle.circuit.specs.Phase.{phaseOf, phases}
 use Rattle.laying.specs.declared.lay.Answer.{Answer}
 use Rattle.laying.specs.declared.lay.Answer.the-variants.{Refused}
-use Rattle.laying.specs.Verdict.{circuitOf, countsOf, recordsIn}
+use Rattle.laying.specs.Answers.{circuitOf, countsOf, recordsIn}
 use Rattle.stretches.specs.Cut.{weave}
 use Rattle.stretches.specs.Stretches.{stretchesOf, hadamardsOf}
 use Rattle.stretches.specs.Tests.{jobVerdict}

@@ -66,7 +66,7 @@ struct Part {
 }
 
 // The records from `at` on; the place behind them.
-fn put_records(records: &[u32], out: &mut [u32], at: usize) -> usize
+fn store_records(records: &[u32], out: &mut [u32], at: usize) -> usize
     requires { ⌜ at + length (now records) ≤ length (now out) ⌝ }
     ensures { λ r. ⌜ (r ≡ at + length (now (records .entry))) × (now (out .exit) ≡ sets (now (out .entry)) at (now (records .entry))) ⌝ }
 {
@@ -90,7 +90,7 @@ fn lay_stretch(n: usize, couplers: &[u32], stretch: &[u32], out: &mut [u32], at:
             depth: _,
             phase,
         } => Part {
-            next: put_records(&laid[..records], out, at),
+            next: store_records(&laid[..records], out, at),
             phase,
         },
         Answer::Refused { verdict: _ } => Part { next: at, phase: 0 },
@@ -108,7 +108,7 @@ fn lay_stretches(n: usize, couplers: &[u32], gates: &[u32], out: &mut [u32]) -> 
     while from <= gates.len() {
         let stretch = cut::stretch_at(n, gates, from);
         let part = lay_stretch(n, couplers, stretch, out, at);
-        at = put_records(cut::hadamard_at(n, gates, from), out, part.next);
+        at = store_records(cut::hadamard_at(n, gates, from), out, part.next);
         phase = wires::together(phase, part.phase);
         from = from + stretch.len() + 1;
     }

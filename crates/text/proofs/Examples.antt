@@ -27,8 +27,8 @@ its-job : parsed text ≡ job 2 couplers gates
 unfolding text couplers gates packed parsed bodyOf endOf readHead runOf runIn readOne readOther orElse readLine readShort readNumber numberFrom moreDigits digitOf skipped letter
 its-job = refl
 
--- "s 0 1 1", and "x 7 2"
-its-counts : countsText 0 1 1 ≡ 115 ∷ 9 ∷ 48 ∷ 9 ∷ 49 ∷ 9 ∷ 49 ∷ 10 ∷ []
+-- "s 0 1 0" of request E2, and "x 7 2"
+its-counts : countsText 0 1 0 ≡ 115 ∷ 9 ∷ 48 ∷ 9 ∷ 49 ∷ 9 ∷ 48 ∷ 10 ∷ []
 unfolding countsText lineText fieldsText digits digitsIn
 its-counts = refl
 

@@ -322,6 +322,9 @@ pub tests-3 : (n : ℕ) (xs : List ℕ) → Tests (judgedWrong n xs) 3 (Passes3 
 unfolding wrongAt
 tests-3 n xs = first-tests (λ x. isWrong (couplerOf n x)) (WrongRecord n) (wrong-said n) (right-said n) xs 3 (WrongCoupler (wrongAt n xs)) (omega arith) refl refl
 
+pub couplers-passed : (n : ℕ) (xs : List ℕ) → Passes2 xs → Passes3 n xs → numberOf (judgedCouplers n xs) ≡ 0
+couplers-passed n xs p2 p3 = sym (ap numberOf (then-on (judgedMany xs) (judgedWrong n xs) (test-passed (tests-2 xs) p2) ∙ couplers-parted n xs)) ∙ test-passed (tests-3 n xs) p3
+
 pub tests-5 : (n : ℕ) (xs : List ℕ) → Tests (judgedGates n xs) 5 (Passes5 n xs) (Some (BadRecord n) xs) (First (BadRecord n) xs)
 unfolding judgedGates badAt
 tests-5 n xs = first-tests (λ x. isBad (gateOf n x)) (BadRecord n) (bad-said n) (good-said n) xs 5 (BadGate (badAt n xs)) (omega arith) refl refl

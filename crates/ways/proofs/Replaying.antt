@@ -1,6 +1,6 @@
 -- Records written once more, gate by gate, and read back as the gates they hold. Assumes nothing.
 use mathlib.Core.Path.{_≡_, refl, sym, ap, ap₂, _∙_}
-use mathlib.Core.List.{List, [], _∷_, _++_, map}
+use mathlib.Core.List.{List, [], _∷_, _++_, map, map-append}
 use Prim.Native.Nat.{ℕ, suc, _+_, _≤_, _<_}
 use native.Mathlib.Omega.{arith}
 use native.Mathlib.Numerals.{add-one}
@@ -14,7 +14,7 @@ use Rattle.tallies.specs.Tally.{largest}
 use Rattle.emitting.specs.Emit.{emit, emitAt}
 use Rattle.emitting.proofs.Emitting.{emit-none, emit-at-none, emit-append, emit-at-append}
 use Rattle.ways.specs.Memory.{inMemory, FitsMemory}
-use Rattle.sets.proofs.Storing.{sets-append, map-append}
+use Rattle.sets.proofs.Storing.{sets-append}
 
 -- the first k records are written from `at` on
 pub record Replayed (laid out₀ : List ℕ) (at k : ℕ) (out : List ℕ) (next : ℕ) : Type 0 where

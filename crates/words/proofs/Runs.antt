@@ -12,7 +12,7 @@ use borrow.Author.Tests.{eq-eqb, ne-eqb}
 use Rattle.sets.specs.Pick.{pick, both, either}
 use Rattle.words.specs.Bytes.{small, inName, inWord, goesOn, same, endedLines, lineBehind}
 use Rattle.words.specs.Taking.{allInName, isName}
-use Rattle.words.proofs.Steps.{at-cons, at-end}
+use Rattle.spots.proofs.Steps.{at-cons, at-end}
 
 -- ---- which bytes go on
 

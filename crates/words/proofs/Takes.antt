@@ -9,7 +9,7 @@ use Rattle.spots.specs.Numbers.{lost, readNumber}
 use Rattle.words.specs.Bytes.{same}
 use Rattle.words.specs.Words.{Word}
 use Rattle.words.specs.Taking.{taken, numbered, isName, named, frontWord}
-use Rattle.words.proofs.Steps.{at-cons, at-end}
+use Rattle.spots.proofs.Steps.{at-cons, at-end}
 
 module _ (ws : List Word) (e : ws ≡ []) where
   pub taken-none : (b : List ℕ) → none ≡ taken b (some ws)

@@ -1,6 +1,6 @@
 -- `laying::lay::counted` meets its contract. Assumes nothing.
 use lib.ListN.{length-map}
-use Rattle.laying.specs.Verdict.{countsOf}
+use Rattle.laying.specs.Answers.{countsOf}
 use Rattle.gates.specs.Layout.{gateOf}
 use borrow.Author.Needs.{needs}
 use Rattle.laying.proofs.lay.counted.Statement.{statement}

@@ -10,7 +10,7 @@ use borrow.Author.Needs.{needs}
 use Rattle.stretches.proofs.job.lay_stretch.Statement.{statement}
 use Rattle.stretches.proofs.job.lay_stretch.Tie as tie
 use Rattle.laying.proofs.lay.lay.Reads as lay-reads
-use Rattle.stretches.proofs.job.put_records.Reads as put-records-reads
+use Rattle.stretches.proofs.job.store_records.Reads as store-records-reads
 
 slice-aggregate-lay : tie.Need-slice-aggregate-lay
 slice-aggregate-lay c = search needs
@@ -25,13 +25,13 @@ array-share-prefix-laid : tie.Need-array-share-prefix-laid
 unfolding boundOf
 array-share-prefix-laid c = alone-fits _ _ _ _ _ (length-replicate {A = ℕ} largest 0) _ (c .before .before .before .before .lay .ensures .0) (c .before .before .before .before .lay .ensures .1) _ _ _ _ _ (c .before .records .given .1)
 
-slice-aggregate-put-records : tie.Need-slice-aggregate-put-records
+slice-aggregate-store-records : tie.Need-slice-aggregate-store-records
 unfolding boundOf
-slice-aggregate-put-records c = alone-long _ _ _ _ _ (length-replicate {A = ℕ} largest 0) _ (c .before .before .before .before .before .lay .ensures .0) (c .before .before .before .before .before .lay .ensures .1) _ _ _ _ _ (c .before .before .records .given .1)
+slice-aggregate-store-records c = alone-long _ _ _ _ _ (length-replicate {A = ℕ} largest 0) _ (c .before .before .before .before .before .lay .ensures .0) (c .before .before .before .before .before .lay .ensures .1) _ _ _ _ _ (c .before .before .records .given .1)
 
-put-records-requires : tie.Need-put-records-requires
+store-records-requires : tie.Need-store-records-requires
 unfolding boundOf
-put-records-requires c κs = subst (λ (w : List ℕ). c .before .before .before .before .before .before .before .before .before .before .before .args .at + length w ≤ length (c .before .before .before .before .before .before .before .before .before .before .before .args .out .now)) (sym (alone-is _ _ _ _ _ (length-replicate {A = ℕ} largest 0) _ (c .before .before .before .before .before .before .lay .ensures .0) (c .before .before .before .before .before .before .lay .ensures .1) _ _ _ _ _ (c .before .before .before .records .given .1))) (c .before .before .before .before .before .before .before .before .before .before .before .pre .1)
+store-records-requires c κs = subst (λ (w : List ℕ). c .before .before .before .before .before .before .before .before .before .before .before .args .at + length w ≤ length (c .before .before .before .before .before .before .before .before .before .before .before .args .out .now)) (sym (alone-is _ _ _ _ _ (length-replicate {A = ℕ} largest 0) _ (c .before .before .before .before .before .before .lay .ensures .0) (c .before .before .before .before .before .before .lay .ensures .1) _ _ _ _ _ (c .before .before .before .records .given .1))) (c .before .before .before .before .before .before .before .before .before .before .before .pre .1)
 
 enum-told : tie.Need-enum-told
 enum-told c = search needs
@@ -41,7 +41,7 @@ same-length c = search needs
 
 returns : tie.Need-returns
 unfolding boundOf
-returns c = let is = alone-is _ _ _ _ _ (length-replicate {A = ℕ} largest 0) _ (c .before .before .before .before .before .before .before .before .before .lay .ensures .0) (c .before .before .before .before .before .before .before .before .before .lay .ensures .1) _ _ _ _ _ (c .before .before .before .before .before .before .records .given .1) in (c .before .before .put-records .ensures .0 ∙ ap (λ (w : List ℕ). c .before .before .before .before .before .before .before .before .before .before .before .before .before .before .args .at + length w) is, alone-share _ _ _ _ _ (length-replicate {A = ℕ} largest 0) _ (c .before .before .before .before .before .before .before .before .before .lay .ensures .0) (c .before .before .before .before .before .before .before .before .before .lay .ensures .1) _ _ _ _ _ (c .before .before .before .before .before .before .records .given .1), c .before .before .put-records .ensures .1 ∙ ap (sets (c .before .before .before .before .before .before .before .before .before .before .before .before .before .before .args .out .now) (c .before .before .before .before .before .before .before .before .before .before .before .before .before .before .args .at)) is)
+returns c = let is = alone-is _ _ _ _ _ (length-replicate {A = ℕ} largest 0) _ (c .before .before .before .before .before .before .before .before .before .lay .ensures .0) (c .before .before .before .before .before .before .before .before .before .lay .ensures .1) _ _ _ _ _ (c .before .before .before .before .before .before .records .given .1) in (c .before .before .store-records .ensures .0 ∙ ap (λ (w : List ℕ). c .before .before .before .before .before .before .before .before .before .before .before .before .before .before .args .at + length w) is, alone-share _ _ _ _ _ (length-replicate {A = ℕ} largest 0) _ (c .before .before .before .before .before .before .before .before .before .lay .ensures .0) (c .before .before .before .before .before .before .before .before .before .lay .ensures .1) _ _ _ _ _ (c .before .before .before .before .before .before .records .given .1), c .before .before .store-records .ensures .1 ∙ ap (sets (c .before .before .before .before .before .before .before .before .before .before .before .before .before .before .args .out .now) (c .before .before .before .before .before .before .before .before .before .before .before .before .before .before .args .at)) is)
 
 returns-2 : tie.Need-returns-2
 unfolding boundOf
@@ -55,8 +55,8 @@ lay-stretch-spec =
     lay-requires
     enum-known-records
     array-share-prefix-laid
-    slice-aggregate-put-records
-    put-records-requires
+    slice-aggregate-store-records
+    store-records-requires
     enum-told
     same-length
     returns

@@ -11,7 +11,7 @@ use Rattle.circuit.proofs.wires.together.Reads as together-reads
 use Rattle.stretches.proofs.cut.hadamard_at.Reads as hadamard-at-reads
 use Rattle.stretches.proofs.cut.stretch_at.Reads as stretch-at-reads
 use Rattle.stretches.proofs.job.lay_stretch.Reads as lay-stretch-reads
-use Rattle.stretches.proofs.job.put_records.Reads as put-records-reads
+use Rattle.stretches.proofs.job.store_records.Reads as store-records-reads
 
 abbrev Inv-loop : tie.InvT-loop
 Inv-loop n couplers gates out₀ at₀ phase₀ from₀ out at phase from = Laying n couplers gates out₀ from out at phase
@@ -31,8 +31,8 @@ lay-stretch-requires c κs = (laying-accepts _ _ _ (c .before .before .before .b
 hadamard-at-requires : tie.Need-hadamard-at-requires Inv-loop μ-loop
 hadamard-at-requires c κs = search needs
 
-put-records-requires : tie.Need-put-records-requires Inv-loop μ-loop
-put-records-requires c κs = behind-fits _ _ _ (c .before .before .before .before .before .before .before .before .before .before .before .before .args .out .now) (c .before .before .before .before .before .before .before .before .loop .from) (c .before .before .before .before .before .before .before .before .loop .out) (c .before .before .before .before .before .before .before .before .loop .at) (c .before .before .before .before .before .before .before .before .loop .phase) (c .before .before .before .before .before .before .before .before .loop .inv) (c .before .before .before .before .before .before .before .loop-test .taken) _ (c .before .before .before .before .before .before .stretch-at .ensures) (c .before .before .before .before .before .before .before .before .before .before .before .before .pre .1) _ (c .before .before .before .before .lay-stretch .ensures .2) _ (c .before .hadamard-at .ensures) _ (c .before .before .before .before .lay-stretch .ensures .0)
+store-records-requires : tie.Need-store-records-requires Inv-loop μ-loop
+store-records-requires c κs = behind-fits _ _ _ (c .before .before .before .before .before .before .before .before .before .before .before .before .args .out .now) (c .before .before .before .before .before .before .before .before .loop .from) (c .before .before .before .before .before .before .before .before .loop .out) (c .before .before .before .before .before .before .before .before .loop .at) (c .before .before .before .before .before .before .before .before .loop .phase) (c .before .before .before .before .before .before .before .before .loop .inv) (c .before .before .before .before .before .before .before .loop-test .taken) _ (c .before .before .before .before .before .before .stretch-at .ensures) (c .before .before .before .before .before .before .before .before .before .before .before .before .pre .1) _ (c .before .before .before .before .lay-stretch .ensures .2) _ (c .before .hadamard-at .ensures) _ (c .before .before .before .before .lay-stretch .ensures .0)
 
 together-requires : tie.Need-together-requires Inv-loop μ-loop
 together-requires c κs = search needs
@@ -47,7 +47,7 @@ loop-less : tie.Need-loop-less Inv-loop μ-loop
 loop-less c = omega (arith, lent-within _ _ (c .before .before .before .before .before .before .before .before .before .before .before .before .loop .from) _ (c .before .before .before .before .before .before .before .before .before .before .stretch-at .ensures) (c .before .before .before .before .before .before .before .before .before .before .before .loop-test .taken))
 
 loop-again : tie.Need-loop-again Inv-loop μ-loop
-loop-again c = laying-next _ _ _ (c .before .before .before .before .before .before .before .before .before .before .before .before .before .before .before .before .args .out .now) (c .before .before .before .before .before .before .before .before .before .before .before .before .loop .from) (c .before .before .before .before .before .before .before .before .before .before .before .before .loop .out) (c .before .before .before .before .before .before .before .before .before .before .before .before .loop .at) (c .before .before .before .before .before .before .before .before .before .before .before .before .loop .phase) (c .before .before .before .before .before .before .before .before .before .before .before .before .loop .inv) (c .before .before .before .before .before .before .before .before .before .before .before .loop-test .taken) _ (c .before .before .before .before .before .before .before .before .before .before .stretch-at .ensures) _ _ (c .before .before .before .before .before .before .before .before .lay-stretch .ensures .1) (c .together .ensures) _ _ _ _ _ (c .before .before .before .before .before .hadamard-at .ensures) (c .before .before .before .before .before .before .before .before .lay-stretch .ensures .2) (c .before .before .before .before .before .before .before .before .lay-stretch .ensures .0) (c .before .before .before .put-records .ensures .1) (c .before .before .before .put-records .ensures .0)
+loop-again c = laying-next _ _ _ (c .before .before .before .before .before .before .before .before .before .before .before .before .before .before .before .before .args .out .now) (c .before .before .before .before .before .before .before .before .before .before .before .before .loop .from) (c .before .before .before .before .before .before .before .before .before .before .before .before .loop .out) (c .before .before .before .before .before .before .before .before .before .before .before .before .loop .at) (c .before .before .before .before .before .before .before .before .before .before .before .before .loop .phase) (c .before .before .before .before .before .before .before .before .before .before .before .before .loop .inv) (c .before .before .before .before .before .before .before .before .before .before .before .loop-test .taken) _ (c .before .before .before .before .before .before .before .before .before .before .stretch-at .ensures) _ _ (c .before .before .before .before .before .before .before .before .lay-stretch .ensures .1) (c .together .ensures) _ _ _ _ _ (c .before .before .before .before .before .hadamard-at .ensures) (c .before .before .before .before .before .before .before .before .lay-stretch .ensures .2) (c .before .before .before .before .before .before .before .before .lay-stretch .ensures .0) (c .before .before .before .store-records .ensures .1) (c .before .before .before .store-records .ensures .0)
 
 same-length : tie.Need-same-length Inv-loop μ-loop
 same-length c = c .before .loop .inv .size
@@ -65,7 +65,7 @@ lay-stretches-spec =
     stretch-at-requires
     lay-stretch-requires
     hadamard-at-requires
-    put-records-requires
+    store-records-requires
     together-requires
     add-from
     add-from-2

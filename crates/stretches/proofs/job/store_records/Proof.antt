@@ -1,12 +1,12 @@
--- `stretches::job::put_records` meets its contract: the records passed are stored. Assumes nothing.
+-- `stretches::job::store_records` meets its contract: the records passed are stored. Assumes nothing.
 use mathlib.Core.Path.{refl}
 use Prim.Native.Nat.{_-_}
 use lib.ListN.{length}
 use native.Mathlib.Omega.{arith}
 use Rattle.stretches.proofs.Laying.{Stored, stored-none, stored-next, stored-all}
 use borrow.Author.Needs.{needs}
-use Rattle.stretches.proofs.job.put_records.Statement.{statement}
-use Rattle.stretches.proofs.job.put_records.Tie as tie
+use Rattle.stretches.proofs.job.store_records.Statement.{statement}
+use Rattle.stretches.proofs.job.store_records.Tie as tie
 
 abbrev Inv-loop : tie.InvT-loop
 Inv-loop records out₀ at i₀ i-end out i = Stored records at out₀ i out
@@ -50,8 +50,8 @@ same-length c = c .before .loop .inv .size
 returns : tie.Need-returns Inv-loop μ-loop
 returns c = (search needs, stored-all _ _ _ (c .before .loop .i) _ (c .before .loop .inv) (search needs))
 
-pub put-records-spec : {M : Type 1} → statement M
-put-records-spec =
+pub store-records-spec : {M : Type 1} → statement M
+store-records-spec =
     tie.close
     (tie.spec
     Inv-loop
