@@ -23,10 +23,10 @@ use Rattle.circuit.proofs.Circuits.{start-length}
 
 -- ---- below 2^n
 
-pub record Below (n : ℕ) (W : List ℕ) : Type 0 where
+pub record ParitiesBelow (n : ℕ) (W : List ℕ) : Type 0 where
   pub small : (i : ℕ) → i < n → getD W i 0 < 2 ^ n
 
-pub below-step : (n : ℕ) (g : Gate) (W : List ℕ) → n ≤ length W → Good n g → Below n W → Below n (step g W)
+pub below-step : (n : ℕ) (g : Gate) (W : List ℕ) → n ≤ length W → Good n g → ParitiesBelow n W → ParitiesBelow n (step g W)
 unfolding step Good
 below-step n (Cnot c t) W l (hc, ht, ne) b = record { small = λ i h. at i h (ℕ-discrete i t) }
   where
@@ -37,12 +37,12 @@ below-step n (Rotation q a) W l h b = b
 below-step n (X q) W l h b = b
 below-step n Bad W l h b = absurd h
 
-pub below-run : (n : ℕ) (gs : List Gate) (W : List ℕ) → n ≤ length W → All (Good n) gs → Below n W → Below n (run gs W)
+pub below-run : (n : ℕ) (gs : List Gate) (W : List ℕ) → n ≤ length W → All (Good n) gs → ParitiesBelow n W → ParitiesBelow n (run gs W)
 unfolding run All
 below-run n [] W l h b = b
 below-run n (g ∷ gs) W l h b = below-run n gs (step g W) (subst (λ (k : ℕ). n ≤ k) (sym (step-length g W)) l) (h .1) (below-step n g W l (h .0) b)
 
-pub below-start : (n : ℕ) → n ≤ 20 → Below n start
+pub below-start : (n : ℕ) → n ≤ 20 → ParitiesBelow n start
 unfolding start
 below-start n few = record { small = λ i h. rw (getD-units 20 i (omega arith)) (pow-lt h) }
 

@@ -40,16 +40,16 @@ unfolding turnAll
 turn-all-at c t xs k = ap (getD (map (turn c t) xs) k) (sym (turn-none c t)) ∙ List·getD-map (turn c t) xs k 0
 
 -- the loop: the first k are turned, and the rest stand as they did
-pub record Turned (c t : ℕ) (xs : List ℕ) (k : ℕ) (ys : List ℕ) : Type 0 where
+pub record TurnedUpTo (c t : ℕ) (xs : List ℕ) (k : ℕ) (ys : List ℕ) : Type 0 where
   pub size : length ys ≡ length xs
   pub done : Filled 0 (λ j. turn c t (getD xs j 0)) k ys
   pub rest : (j : ℕ) → k ≤ j → getD ys j 0 ≡ getD xs j 0
 
 module _ (c t : ℕ) (xs : List ℕ) where
-  pub turned-none : Turned c t xs 0 xs
+  pub turned-none : TurnedUpTo c t xs 0 xs
   turned-none = record { size = refl; done = λ k (l : k < 0). absurd (omega arith); rest = λ j l. refl }
 
-  pub turned-next : (k : ℕ) (ys : List ℕ) (y : ℕ) → k < length xs → y ≡ turn c t (getD ys k 0) → Turned c t xs k ys → Turned c t xs (k + 1) (set ys k y)
+  pub turned-next : (k : ℕ) (ys : List ℕ) (y : ℕ) → k < length xs → y ≡ turn c t (getD ys k 0) → TurnedUpTo c t xs k ys → TurnedUpTo c t xs (k + 1) (set ys k y)
   turned-next k ys y l e r =
       record {
         size = length-set ys k y ∙ r .size;
@@ -57,7 +57,7 @@ module _ (c t : ℕ) (xs : List ℕ) where
         rest = λ j (h : k + 1 ≤ j). getD-set-other ys k j y 0 (λ (d : j ≡ k). omega arith) ∙ r .rest j (omega arith);
       }
 
-  pub turned-all : (k : ℕ) (ys : List ℕ) → length xs ≤ k → Turned c t xs k ys → ys ≡ turnAll c t xs
+  pub turned-all : (k : ℕ) (ys : List ℕ) → length xs ≤ k → TurnedUpTo c t xs k ys → ys ≡ turnAll c t xs
   turned-all k ys l r =
       ext-getD 0 ys (turnAll c t xs) (r .size ∙ sym (turn-all-length c t xs)) (λ j (h : j < length ys). r .done j (omega (arith, r .size)) ∙ sym (turn-all-at c t xs j))
 

@@ -28,7 +28,7 @@ use Rattle.ending.specs.declared.clearing.Best.the-variants.{Nothing, Ta
 use Rattle.ending.specs.Mirror.{seen}
 use Rattle.ending.specs.Clear.{rowAt, firstMoves, secondMoves, outOf, costOf, choicesAt, choicesFrom, cheaperOf, cheapestIn, cheapestOf}
 use Rattle.ending.specs.Closing.{endingFrom, endingOf}
-use Rattle.ending.specs.Ends.{Ready, TakesOut, Ends, last, out}
+use Rattle.ending.specs.Ends.{Ready, TakesOut, AnyEnding, last, out}
 use Rattle.ending.proofs.Turning.{exchanged-length}
 use Rattle.ending.proofs.Taking.{out-takes}
 use Rattle.ending.proofs.Endings.{ready-taken}
@@ -78,32 +78,32 @@ module _ (near : List ℕ) (Q : ℕ) (cost : Clearing → ℕ) where
   from-fit (suc d) v b l h = subst Spared (sym (from-step d v b)) (from-fit d (v + 1) (cheapestIn cost b (choicesAt near Q v)) (omega arith) (at-fit v b (omega arith) h))
 
   -- one is taken
-  abbrev Taken : Best → Type 0
-  Taken b = (ch : Clearing) × (n : ℕ) × (b ≡ Take ch n)
+  abbrev SomeTaken : Best → Type 0
+  SomeTaken b = (ch : Clearing) × (n : ℕ) × (b ≡ Take ch n)
 
-  cheaper-some : (ch : Clearing) (b : Best) → Taken (cheaperOf ch (cost ch) b)
+  cheaper-some : (ch : Clearing) (b : Best) → SomeTaken (cheaperOf ch (cost ch) b)
   cheaper-some ch Nothing = (ch, cost ch, refl)
   cheaper-some ch (Take best m) = go (ltb (cost ch) m)
     where
-      go : (t : Bool) → Taken (pick t (Take ch (cost ch)) (Take best m))
+      go : (t : Bool) → SomeTaken (pick t (Take ch (cost ch)) (Take best m))
       go true = (ch, cost ch, refl)
       go false = (best, m, refl)
 
-  in-some : (b : Best) (chs : List Clearing) → Taken b → Taken (cheapestIn cost b chs)
+  in-some : (b : Best) (chs : List Clearing) → SomeTaken b → SomeTaken (cheapestIn cost b chs)
   unfolding cheapestIn
   in-some b [] h = h
   in-some b (ch ∷ chs) h = in-some (cheaperOf ch (cost ch) b) chs (cheaper-some ch b)
 
-  at-some : (v : ℕ) (b : Best) → spareOf near Q v ≡ true → Taken (cheapestIn cost b (choicesAt near Q v))
+  at-some : (v : ℕ) (b : Best) → spareOf near Q v ≡ true → SomeTaken (cheapestIn cost b (choicesAt near Q v))
   unfolding choicesAt cheapestIn
   at-some v b e = rw e (cheaper-some (record { qubit = v; mirrored = true }) (cheaperOf (record { qubit = v; mirrored = false }) (cost (record { qubit = v; mirrored = false })) b))
 
-  from-some : (w d v : ℕ) (b : Best) → spareOf near Q w ≡ true → v ≤ w → w < v + d → Taken (cheapestIn cost b (choicesFrom near Q d v))
+  from-some : (w d v : ℕ) (b : Best) → spareOf near Q w ≡ true → v ≤ w → w < v + d → SomeTaken (cheapestIn cost b (choicesFrom near Q d v))
   from-some w zero v b e l m = absurd (omega arith)
-  from-some w (suc d) v b e l m = subst Taken (sym (from-step d v b)) (go (ℕ-discrete v w) (from-some w d (v + 1) (cheapestIn cost b (choicesAt near Q v)) e))
+  from-some w (suc d) v b e l m = subst SomeTaken (sym (from-step d v b)) (go (ℕ-discrete v w) (from-some w d (v + 1) (cheapestIn cost b (choicesAt near Q v)) e))
     where
-      go : Dec (v ≡ w) → (v + 1 ≤ w → w < v + 1 + d → Taken (cheapestIn cost (cheapestIn cost b (choicesAt near Q v)) (choicesFrom near Q d (v + 1))))
-          → Taken (cheapestIn cost (cheapestIn cost b (choicesAt near Q v)) (choicesFrom near Q d (v + 1)))
+      go : Dec (v ≡ w) → (v + 1 ≤ w → w < v + 1 + d → SomeTaken (cheapestIn cost (cheapestIn cost b (choicesAt near Q v)) (choicesFrom near Q d (v + 1))))
+          → SomeTaken (cheapestIn cost (cheapestIn cost b (choicesAt near Q v)) (choicesFrom near Q d (v + 1)))
       go (yes i) ih = in-some (cheapestIn cost b (choicesAt near Q v)) (choicesFrom near Q d (v + 1)) (at-some v b (ap (spareOf near Q) i ∙ e))
       go (no i) ih = ih (omega arith) (omega arith)
 
@@ -163,11 +163,11 @@ module _ (near : List ℕ) (f Q : ℕ) (N C : List ℕ) where
   unfolding endingFrom
   ending-takes ch n e = rw (sym e)
 
-from-ends : (near : List ℕ) → Symm near → (f Q : ℕ) (N C : List ℕ) → Q < 2 ^ 20 → Joined near Q → Ready Q N C → ones Q - 1 ≡ f → Ends near Q N C (endingFrom near f Q N C)
+from-ends : (near : List ℕ) → Symm near → (f Q : ℕ) (N C : List ℕ) → Q < 2 ^ 20 → Joined near Q → Ready Q N C → ones Q - 1 ≡ f → AnyEnding near Q N C (endingFrom near f Q N C)
 from-ends near sy zero Q N C low j r e = last {Q = Q} (omega arith) (ending-zero near Q N C)
 from-ends near sy (suc f) Q N C low j r e =
     out v L M hv jP t
-    (subst (λ (M′ : List Gate). Ends near P (map (turns L) N) (map (turns (exchanged L)) C) M′) (sym same)
+    (subst (λ (M′ : List Gate). AnyEnding near P (map (turns L) N) (map (turns (exchanged L)) C) M′) (sym same)
     (from-ends near sy f P (map (turns L) N) (map (turns (exchanged L)) C) lowP jP (ready-taken near Q low v N C L hv t r) (omega (arith, ones-drop v Q hv))))
     list
   where
@@ -214,6 +214,6 @@ from-ends near sy (suc f) Q N C low j r e =
     list = ending-takes near f Q N C ch (c .1) (sym (c .2))
 
 -- the ending of the definition is one
-pub ending-ends : (near : List ℕ) (Q : ℕ) (N C : List ℕ) → Symm near → Q < 2 ^ 20 → Joined near Q → Ready Q N C → Ends near Q N C (endingOf near Q N C)
+pub ending-ends : (near : List ℕ) (Q : ℕ) (N C : List ℕ) → Symm near → Q < 2 ^ 20 → Joined near Q → Ready Q N C → AnyEnding near Q N C (endingOf near Q N C)
 unfolding endingOf sizeOf
 ending-ends near Q N C sy low j r = from-ends near sy (ones Q - 1) Q N C low j r refl

@@ -35,7 +35,7 @@ use Rattle.gathering.proofs.GatherWorks.{turns-append}
 use Rattle.columns.proofs.Inside.{outside-keeps}
 use Rattle.gathering.proofs.OrderParts.{sub-lt}
 use Rattle.ending.specs.Closing.{endingOf, onwardOf, backOf, backFirst, closingOf}
-use Rattle.ending.specs.Ends.{Ready, Ends, Ended, Closes}
+use Rattle.ending.specs.Ends.{Ready, AnyEnding, Ended, Closes}
 use Rattle.ending.proofs.Turning.{turns-sub, comb-turns, turns-zero, row-turned, comb-own}
 use Rattle.ending.proofs.Endings.{ready-turns, ends-right, ends-none, spent-is}
 use Rattle.ending.proofs.Choice.{ending-ends}
@@ -77,7 +77,7 @@ module _ (near : List ℕ) (Q : ℕ) where
   -- ---- either closing, with any ending
 
   -- the ending from where the wires stand
-  pub onward-brings : Q < 2 ^ 20 → (N C : List ℕ) (gs E : List Gate) → All (Inside near Q) gs → Ready Q N C → Ends near Q (map (turns gs) N) (map (turns (exchanged gs)) C) E → BringsHome near Q N gs E
+  pub onward-brings : Q < 2 ^ 20 → (N C : List ℕ) (gs E : List Gate) → All (Inside near Q) gs → Ready Q N C → AnyEnding near Q (map (turns gs) N) (map (turns (exchanged gs)) C) E → BringsHome near Q N gs E
   onward-brings low N C gs E h r d =
       let e : Ended near Q (map (turns gs) N) E = ends-right low (ready-turns near Q low N C gs h r) d in
       record {
@@ -86,7 +86,7 @@ module _ (near : List ℕ) (Q : ℕ) where
       }
 
   -- the laid CNOTs in reverse, then the ending from the start
-  pub back-brings : Q < 2 ^ 20 → (N C : List ℕ) (gs E : List Gate) → All (Inside near Q) gs → Ready Q N C → Ends near Q N C E → BringsHome near Q N gs (backOf gs ++ E)
+  pub back-brings : Q < 2 ^ 20 → (N C : List ℕ) (gs E : List Gate) → All (Inside near Q) gs → Ready Q N C → AnyEnding near Q N C E → BringsHome near Q N gs (backOf gs ++ E)
   back-brings low N C gs E h r d =
       let e : Ended near Q N E = ends-right low r d in
       record {
@@ -180,7 +180,7 @@ mirror-home Q N C r own j h =
 -- ---- the definition
 
 module _ (near : List ℕ) (Q : ℕ) (N C : List ℕ) (gs : List Gate) (sy : Symm near) (low : Q < 2 ^ 20) (j : Joined near Q) (r : Ready Q N C) (h : All (Inside near Q) gs) where
-  onward-ends : Ends near Q (map (turns gs) N) (map (turns (exchanged gs)) C) (onwardOf near Q N C gs)
+  onward-ends : AnyEnding near Q (map (turns gs) N) (map (turns (exchanged gs)) C) (onwardOf near Q N C gs)
   unfolding onwardOf
   onward-ends = ending-ends near Q (map (turns gs) N) (map (turns (exchanged gs)) C) sy low j (ready-turns near Q low N C gs h r)
 

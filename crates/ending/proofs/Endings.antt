@@ -22,7 +22,7 @@ use Rattle.sets.proofs.Lists.{all-none, all-append}
 use Rattle.chip.proofs.Insides.{coupled-up, coupled-inside}
 use Rattle.gathering.proofs.GatherWorks.{turns-append}
 use Rattle.gathering.proofs.OrderParts.{sub-lt}
-use Rattle.ending.specs.Ends.{Ready, TakesOut, Ends, last, out, spent, Ended}
+use Rattle.ending.specs.Ends.{Ready, TakesOut, AnyEnding, last, out, spent, Ended}
 use Rattle.ending.proofs.Turning.{turns-sub, back-sub, dot-turns, turns-out, row-turned}
 use Rattle.sets.specs.Lists.{All}
 use Rattle.ending.proofs.Taking.{not-zero}
@@ -75,7 +75,7 @@ alone Q i h l =
     at k m z (yes d) = ap (bit (2 ^ i)) d ∙ bit-pow-same i
     at k m z (no n) = absurd (omega (arith, put-other Q i k n, m, ap (λ (t : ℕ). bit t k) z, bit-of-zero k))
 
-pub ends-right : {near : List ℕ} {Q : ℕ} {N C : List ℕ} {R : List Gate} → Q < 2 ^ 20 → Ready Q N C → Ends near Q N C R → Ended near Q N R
+pub ends-right : {near : List ℕ} {Q : ℕ} {N C : List ℕ} {R : List Gate} → Q < 2 ^ 20 → Ready Q N C → AnyEnding near Q N C R → Ended near Q N R
 ends-right {near} {Q} {N} {C} {R} low r (last few e) =
     subst (Ended near Q N) (sym e)
     (record {
@@ -103,7 +103,7 @@ ends-right {near} {Q} {N} {C} {R} low r (out v L M hv j t rest e) =
         at i h (no d) = ap (turns M) (sym (row-turned L N i)) ∙ E .right i (put-other Q v i d ∙ h)
 
 -- "If the parities already stand right, it has no gates."
-pub ends-none : {near : List ℕ} {Q : ℕ} {N C : List ℕ} {R : List Gate} → Ends near Q N C R
+pub ends-none : {near : List ℕ} {Q : ℕ} {N C : List ℕ} {R : List Gate} → AnyEnding near Q N C R
     → ((i : ℕ) → In i Q → getD N i 0 ≡ 2 ^ i) → ((i : ℕ) → In i Q → getD C i 0 ≡ 2 ^ i) → R ≡ []
 ends-none (last few e) f g = e
 ends-none {near} {Q} {N} {C} (out v L M hv j t rest e) f g =

@@ -35,10 +35,10 @@ pub record TakesOut (near : List ℕ) (Q v : ℕ) (N C : List ℕ) (L : List Gat
   pub still : getD N v 0 ≡ 2 ^ v → getD C v 0 ≡ 2 ^ v → L ≡ []
 
 -- "An ending of CNOTs": qubit after qubit is taken out until one is left, any spare qubit by any such list
-pub data Ends (near : List ℕ) : ℕ → List ℕ → List ℕ → List Gate → Type 0 where
-  last : {Q : ℕ} {N C : List ℕ} {R : List Gate} → ones Q ≤ 1 → R ≡ [] → Ends near Q N C R
+pub data AnyEnding (near : List ℕ) : ℕ → List ℕ → List ℕ → List Gate → Type 0 where
+  last : {Q : ℕ} {N C : List ℕ} {R : List Gate} → ones Q ≤ 1 → R ≡ [] → AnyEnding near Q N C R
   out : {Q : ℕ} {N C : List ℕ} {R : List Gate} (v : ℕ) (L M : List Gate) → In v Q → Joined near (bitXor Q (2 ^ v)) → TakesOut near Q v N C L
-      → Ends near (bitXor Q (2 ^ v)) (map (turns L) N) (map (turns (exchanged L)) C) M → R ≡ L ++ M → Ends near Q N C R
+      → AnyEnding near (bitXor Q (2 ^ v)) (map (turns L) N) (map (turns (exchanged L)) C) M → R ≡ L ++ M → AnyEnding near Q N C R
 
 -- 4 (n - 1) + .. + 4
 abbrev pub spent : ℕ → ℕ

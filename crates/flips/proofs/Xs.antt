@@ -105,7 +105,7 @@ module _ (Q : ℕ) (F : List ℕ) where
 
   -- ---- their flips come out as asked
 
-  pub record Turned (k : ℕ) (G H : List ℕ) : Type 0 where
+  pub record FlippedUpTo (k : ℕ) (G H : List ℕ) : Type 0 where
     pub long : length H ≡ length G
     pub done : (i : ℕ) → i < k → In i Q → getD G i 0 ≡ 0 → getD H i 0 ≡ getD F i 0
     pub others : (i : ℕ) → bit Q i ≡ 0 → getD H i 0 ≡ getD G i 0
@@ -115,26 +115,26 @@ module _ (Q : ℕ) (F : List ℕ) where
     abbrev after : ℕ → List ℕ
     after k = flipRun (map X (flippedTo Q F k)) G
 
-    turned-none : Turned 0 G (after 0)
+    turned-none : FlippedUpTo 0 G (after 0)
     unfolding flippedTo flipRun
     turned-none = record { long = refl; done = λ i (b : i < 0) m z. absurd (omega arith); others = λ i z. refl; rest = λ i b. refl }
 
-    module _ (k : ℕ) (l : k < length G) (t : Turned k G (after k)) where
+    module _ (k : ℕ) (l : k < length G) (t : FlippedUpTo k G (after k)) where
       abbrev v : ℕ
       v = bitXor 1 (getD (after k) k 0)
 
-      turned-no : asksFlip Q F k ≡ false → Turned (suc k) G (after (suc k))
+      turned-no : asksFlip Q F k ≡ false → FlippedUpTo (suc k) G (after (suc k))
       turned-no e =
-          subst (λ (qs : List ℕ). Turned (suc k) G (flipRun (map X qs) G)) (sym (flipped-no k e))
+          subst (λ (qs : List ℕ). FlippedUpTo (suc k) G (flipRun (map X qs) G)) (sym (flipped-no k e))
           (record { long = t .long; done = λ i b m z. at i b m z (ℕ-discrete i k); others = t .others; rest = λ i (b : suc k ≤ i). t .rest i (omega arith) })
         where
           at : (i : ℕ) → i < suc k → In i Q → getD G i 0 ≡ 0 → Dec (i ≡ k) → getD (after k) i 0 ≡ getD F i 0
           at i b m z (yes d) = t .rest i (omega arith) ∙ z ∙ sym (ap (λ (j : ℕ). getD F j 0) d ∙ asks-no k e (ap (bit Q) (sym d) ∙ m))
           at i b m z (no d) = t .done i (omega arith) m z
 
-      turned-yes : asksFlip Q F k ≡ true → Turned (suc k) G (after (suc k))
+      turned-yes : asksFlip Q F k ≡ true → FlippedUpTo (suc k) G (after (suc k))
       turned-yes e =
-          subst (Turned (suc k) G) (sym over)
+          subst (FlippedUpTo (suc k) G) (sym over)
           (record {
             long = length-set (after k) k v ∙ t .long;
             done = λ i b m z. at i b m z (ℕ-discrete i k);
@@ -156,11 +156,11 @@ module _ (Q : ℕ) (F : List ℕ) where
               ∙ omega (arith, flips .small k, asks-yes k e .1, ap (λ (j : ℕ). getD F j 0) d)
           at i b m z (no d) = getD-set-other (after k) k i v 0 d ∙ t .done i (omega arith) m z
 
-    turned : (k : ℕ) → k ≤ length G → Turned k G (after k)
+    turned : (k : ℕ) → k ≤ length G → FlippedUpTo k G (after k)
     turned zero l = turned-none
     turned (suc k) l = go (asksFlip Q F k) refl (turned k (omega arith))
       where
-        go : (b : Bool) → asksFlip Q F k ≡ b → Turned k G (after k) → Turned (suc k) G (after (suc k))
+        go : (b : Bool) → asksFlip Q F k ≡ b → FlippedUpTo k G (after k) → FlippedUpTo (suc k) G (after (suc k))
         go true e t = turned-yes k l t e
         go false e t = turned-no k l t e
 

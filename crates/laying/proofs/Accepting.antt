@@ -165,7 +165,7 @@ module _ (n : ℕ) (xs ys : List ℕ) (room : ℕ) (e : numberOf (verdictOf n xs
   abbrev gs : List Gate
   gs = gatesOf n ys
 
-  record Passed : Type 0 where
+  record PastTests : Type 0 where
     qubits : n ≤ 20
     couplers : judgedCouplers n xs ≡ Accepted
     drawn : All (Good n) gs
@@ -173,7 +173,7 @@ module _ (n : ℕ) (xs ys : List ℕ) (room : ℕ) (e : numberOf (verdictOf n xs
     reach : numberOf (judgedReach n (islandsOf (nearOf n xs)) gs) ≡ 0
     lent : numberOf (judgedRoom n gs room) ≡ 0
 
-  passed : Passed
+  passed : PastTests
   unfolding verdictOf verdictOn judgedMeaning
   passed =
       let a = then-zero (judgedQubits n) _ e in

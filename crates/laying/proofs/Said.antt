@@ -26,7 +26,7 @@ module _ (n : ℕ) (xs ys : List ℕ) (room : ℕ) where
   verdict = verdictOf n xs ys room
 
   -- an acceptance says these numbers
-  pub record Counted (k c t d f : ℕ) : Type 0 where
+  pub record CountsSaid (k c t d f : ℕ) : Type 0 where
     pub passed : numberOf verdict ≡ 0
     pub records : k ≡ length circuit
     pub cnots : c ≡ cnotsOf circuit
@@ -34,12 +34,12 @@ module _ (n : ℕ) (xs ys : List ℕ) (room : ℕ) where
     pub depth : d ≡ depthOf circuit
     pub phase : f ≡ phaseOf (gatesOf n ys)
 
-  pub laid-says : (k c t d f : ℕ) → answered n xs ys room ≡ Laid k c t d f → Counted k c t d f
+  pub laid-says : (k c t d f : ℕ) → answered n xs ys room ≡ Laid k c t d f → CountsSaid k c t d f
   unfolding answered countsOf
   laid-says k c t d f e = go (eqb (numberOf verdict) 0) refl e
     where
       go : (b : Bool) → eqb (numberOf verdict) 0 ≡ b
-          → pick b (Laid (length circuit) (cnotsOf circuit) (rotationsOf circuit) (depthOf circuit) (phaseOf (gatesOf n ys))) (Refused verdict) ≡ Laid k c t d f → Counted k c t d f
+          → pick b (Laid (length circuit) (cnotsOf circuit) (rotationsOf circuit) (depthOf circuit) (phaseOf (gatesOf n ys))) (Refused verdict) ≡ Laid k c t d f → CountsSaid k c t d f
       go true q e = record { passed = eqb-true (numberOf verdict) 0 q; records = cc e; cnots = cc e; rotations = cc e; depth = cc e; phase = cc e }
       go false q e = let z : _≡_ {A = ℕ} 0 1 = cc e in absurd (omega arith)
 

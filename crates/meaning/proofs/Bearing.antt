@@ -20,7 +20,7 @@ use Rattle.sets.specs.Lists.{All}
 use Rattle.circuit.proofs.Steps.{gives-cnot, gives-x, gives-bad, gives-other, step-length}
 use Rattle.circuit.proofs.Circuits.{start-length}
 use Rattle.circuit.proofs.Straight.{straightened, straight, step-straight, sum-straight}
-use Rattle.circuit.proofs.Wiring.{Below, below-step, below-start, Apart, apart-step, apart-start, apart-not-empty}
+use Rattle.circuit.proofs.Wiring.{ParitiesBelow, below-step, below-start, Apart, apart-step, apart-start, apart-not-empty}
 use Rattle.meaning.proofs.Lists.{Up, up-none, up-ascending, up-insert, up-those, insert-has, insert-keeps, insert-back, those-has, those-back, among-none}
 use Rattle.sets.proofs.Lists.{those-few}
 use Rattle.sets.proofs.Deciding.{never}
@@ -256,15 +256,15 @@ terms-few gs = those-few (isTerm gs) (borne gs)
 
 -- ---- the parities that bear a rotation are parities of wires
 
-module _ (n : ℕ) (few : n ≤ 20) (P : ℕ → Type 0) (parity : (W : List ℕ) → Apart W → Below n W → (q : ℕ) → q < n → P (getD W q 0)) where
-  bears-only : (g : Gate) (W ps : List ℕ) → Good n g → Apart W → Below n W → ((p : ℕ) → Among p ps → P p) → (p : ℕ) → Among p (bears g W ps) → P p
+module _ (n : ℕ) (few : n ≤ 20) (P : ℕ → Type 0) (parity : (W : List ℕ) → Apart W → ParitiesBelow n W → (q : ℕ) → q < n → P (getD W q 0)) where
+  bears-only : (g : Gate) (W ps : List ℕ) → Good n g → Apart W → ParitiesBelow n W → ((p : ℕ) → Among p ps → P p) → (p : ℕ) → Among p (bears g W ps) → P p
   unfolding bears Good
   bears-only (Cnot c t) W ps g a b h p k = h p k
   bears-only (Rotation q x) W ps g a b h p k = ⊎-elim (λ e. subst P e (parity W a b q (g .0))) (λ j. h p j) (insert-back (getD W q 0) p ps k)
   bears-only (X q) W ps g a b h p k = h p k
   bears-only Bad W ps g a b h p k = absurd g
 
-  borne-only-from : (gs : List Gate) (W ps : List ℕ) → length W ≡ 20 → All (Good n) gs → Apart W → Below n W → ((p : ℕ) → Among p ps → P p)
+  borne-only-from : (gs : List Gate) (W ps : List ℕ) → length W ≡ 20 → All (Good n) gs → Apart W → ParitiesBelow n W → ((p : ℕ) → Among p ps → P p)
       → (p : ℕ) → Among p (borneFrom gs W ps) → P p
   unfolding borneFrom All
   borne-only-from [] W ps l g a b h = h

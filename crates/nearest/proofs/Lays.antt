@@ -28,7 +28,7 @@ use Rattle.nearest.specs.Moves.{layMoves}
 use Rattle.nearest.specs.Nearest.{gatherNext, rounds, nearestFor}
 use Rattle.nearest.proofs.Entry.{rounds-none, rounds-more, rounds-over}
 use Rattle.nearest.proofs.Nearness.{chosen-sound, chosen-over}
-use Rattle.nearest.proofs.Moved.{ColumnsIn, RoundReady, fits, strike-ready, Moved, moves-moved, moves-gone}
+use Rattle.nearest.proofs.Moved.{ColumnsIn, RoundReady, fits, strike-ready, MovedBy, moves-moved, moves-gone}
 use Rattle.tallies.proofs.Tallies.{cnots-none, cnots-append}
 
 -- ---- how many columns are left
@@ -70,12 +70,12 @@ live-most xs = sum-ones (length xs) (λ k. liveOne (getD xs k 0)) (λ k b. one-m
 
 module _ (near : List ℕ) (Q : ℕ) (angles : List ℕ) (sy : Symm near) (j : Joined near Q) (low : Q < 2 ^ 20) where
   -- a piece that lays all that is left, at 2 (m - 1) CNOTs for a column
-  pub record Done (xs : List ℕ) (p : Piece) : Type 0 where
+  pub record RoundsDone (xs : List ℕ) (p : Piece) : Type 0 where
     pub lays : Laying near Q angles xs (p .laid) (p .cols)
     pub struck : (k : ℕ) → getD (p .cols) k 0 ≡ 0
     pub cnots : cnotsOf (p .laid) ≤ live xs * (2 * (ones Q - 1))
 
-  done-idle : (xs : List ℕ) → ((k : ℕ) → getD xs k 0 ≡ 0) → Done xs (idle xs)
+  done-idle : (xs : List ℕ) → ((k : ℕ) → getD xs k 0 ≡ 0) → RoundsDone xs (idle xs)
   done-idle xs z = record { lays = laying-none near Q angles xs; struck = z; cnots = omega (arith, cnots-none) }
 
   -- one round: a column less, at 2 (m - 1) CNOTs
@@ -102,29 +102,29 @@ module _ (near : List ℕ) (Q : ℕ) (angles : List ℕ) (sy : Symm near) (j : J
     brings : Gathers near v Q (getD xs k 0) L
     brings = gathers near Q v (getD xs k 0) sy low j (r .part k v (chosen-sound near Q xs found .0)) (r .part k) some
 
-    round-moved : Moved near Q angles low xs (length L) round
-    round-moved = subst (Moved near Q angles low xs (length L)) (sym round-is) (moves-moved near Q angles low L (brings .coupled) xs r)
+    round-moved : MovedBy near Q angles low xs (length L) round
+    round-moved = subst (MovedBy near Q angles low xs (length L)) (sym round-is) (moves-moved near Q angles low L (brings .coupled) xs r)
 
     round-less : live (round .cols) < live xs
     round-less =
         live-less xs (round .cols) k (round-moved .lays .size) (round-moved .stays) some
         (ap (λ (p : Piece). getD (p .cols) k 0) round-is ∙ moves-gone near Q angles low L (brings .coupled) xs r k v (getD xs k 0) (inr refl) (brings .done))
 
-  rounds-done : (n : ℕ) (xs : List ℕ) → RoundReady Q xs → live xs ≤ n → Done xs (rounds n near angles Q xs)
+  rounds-done : (n : ℕ) (xs : List ℕ) → RoundReady Q xs → live xs ≤ n → RoundsDone xs (rounds n near angles Q xs)
   unfolding followedBy
-  rounds-done zero xs r h = subst (Done xs) (sym (rounds-none near angles Q xs)) (done-idle xs (live-zero xs h))
+  rounds-done zero xs r h = subst (RoundsDone xs) (sym (rounds-none near angles Q xs)) (done-idle xs (live-zero xs h))
   rounds-done (suc n) xs r h = go (decLt (chosen near Q xs .moves) far) (rounds-done n)
     where
-      go : Dec (chosen near Q xs .moves < far) → ((ys : List ℕ) → RoundReady Q ys → live ys ≤ n → Done ys (rounds n near angles Q ys)) → Done xs (rounds (suc n) near angles Q xs)
+      go : Dec (chosen near Q xs .moves < far) → ((ys : List ℕ) → RoundReady Q ys → live ys ≤ n → RoundsDone ys (rounds n near angles Q ys)) → RoundsDone xs (rounds (suc n) near angles Q xs)
       go (no f) ih =
           let over : far ≤ chosen near Q xs .moves = omega arith in
-          subst (Done xs) (sym (rounds-over near angles Q (suc n) xs over)) (done-idle xs (chosen-over near Q xs (λ k. sub-below 20 (getD xs k 0) Q (r .part k) low) over))
+          subst (RoundsDone xs) (sym (rounds-over near angles Q (suc n) xs over)) (done-idle xs (chosen-over near Q xs (λ k. sub-below 20 (getD xs k 0) Q (r .part k) low) over))
       go (yes f) ih =
           let p : Piece = gatherNext near angles Q (chosen near Q xs .column) (chosen near Q xs .qubit) xs in
-          let m : Moved near Q angles low xs (length (gatherOf near Q (chosen near Q xs .qubit) (getD xs (chosen near Q xs .column) 0))) p = round-moved xs r f in
+          let m : MovedBy near Q angles low xs (length (gatherOf near Q (chosen near Q xs .qubit) (getD xs (chosen near Q xs .column) 0))) p = round-moved xs r f in
           let less : live (p .cols) < live xs = round-less xs r f in
-          let b : Done (p .cols) (rounds n near angles Q (p .cols)) = ih (p .cols) (m .ready) (omega arith) in
-          subst (Done xs) (sym (rounds-more near angles Q n xs f))
+          let b : RoundsDone (p .cols) (rounds n near angles Q (p .cols)) = ih (p .cols) (m .ready) (omega arith) in
+          subst (RoundsDone xs) (sym (rounds-more near angles Q n xs f))
           (record {
             lays = laying-then near Q angles (m .lays) (b .lays);
             struck = b .struck;
@@ -155,7 +155,7 @@ module _ (near : List ℕ) (Q : ℕ) (ps angles : List ℕ) (sy : Symm near) (j 
   few-live : live (first .cols) ≤ length ps
   few-live = omega (arith, singles .lays .rotations, live-most ps)
 
-  rest : Done near Q angles sy j low (first .cols) (rounds 256 near angles Q (first .cols))
+  rest : RoundsDone near Q angles sy j low (first .cols) (rounds 256 near angles Q (first .cols))
   rest = rounds-done near Q angles sy j low 256 (first .cols) (strike-ready near Q angles low ps within) (omega (arith, few-live))
 
   -- every term is laid, as any way has to

@@ -66,7 +66,7 @@ module _ (near : List ℕ) (Q : ℕ) (angles : List ℕ) (low : Q < 2 ^ 20) wher
   -- ---- one move
 
   -- a piece of n CNOTs
-  pub record Moved (xs : List ℕ) (n : ℕ) (p : Piece) : Type 0 where
+  pub record MovedBy (xs : List ℕ) (n : ℕ) (p : Piece) : Type 0 where
     pub lays : Laying near Q angles xs (p .laid) (p .cols)
     pub cnots : cnotsOf (p .laid) ≡ n
     pub ready : RoundReady Q (p .cols)
@@ -95,10 +95,10 @@ module _ (near : List ℕ) (Q : ℕ) (angles : List ℕ) (low : Q < 2 ^ 20) wher
         go (inl e) = inr (e ∙ turn-all-at c t xs k)
         go (inr e) = inl (e .1)
 
-    pub move-moved : Moved xs 1 (layMove angles c t xs)
+    pub move-moved : MovedBy xs 1 (layMove angles c t xs)
     unfolding followedBy
     move-moved =
-        subst (Moved xs 1) (sym move-is)
+        subst (MovedBy xs 1) (sym move-is)
         (record {
           lays = laying-then near Q angles (laying-cnot near Q angles xs c t low (o .3) (o .0) (o .1) (o .2)) (struck .lays);
           cnots = omega (arith, cnots-append (Cnot c t ∷ []) (strikeOff angles (turnAll c t xs) .laid), cnots-cnot c t, struck .cnots);
@@ -115,10 +115,10 @@ module _ (near : List ℕ) (Q : ℕ) (angles : List ℕ) (low : Q < 2 ^ 20) wher
 
   -- ---- moves
 
-  pub moved-none : (xs : List ℕ) → RoundReady Q xs → Moved xs 0 (idle xs)
+  pub moved-none : (xs : List ℕ) → RoundReady Q xs → MovedBy xs 0 (idle xs)
   moved-none xs r = record { lays = laying-none near Q angles xs; cnots = cnots-none; ready = r; stays = λ k z. z }
 
-  pub moved-then : (xs : List ℕ) (m n : ℕ) (p : Piece) (k : List ℕ → Piece) → Moved xs m p → Moved (p .cols) n (k (p .cols)) → Moved xs (m + n) (followedBy p k)
+  pub moved-then : (xs : List ℕ) (m n : ℕ) (p : Piece) (k : List ℕ → Piece) → MovedBy xs m p → MovedBy (p .cols) n (k (p .cols)) → MovedBy xs (m + n) (followedBy p k)
   unfolding followedBy
   moved-then xs m n p k a b =
       record {
@@ -128,13 +128,13 @@ module _ (near : List ℕ) (Q : ℕ) (angles : List ℕ) (low : Q < 2 ^ 20) wher
         stays = λ j z. b .stays j (a .stays j z);
       }
 
-  pub moves-moved : (L : List Gate) → All (Coupled near Q) L → (xs : List ℕ) → RoundReady Q xs → Moved xs (length L) (layMoves angles L xs)
+  pub moves-moved : (L : List Gate) → All (Coupled near Q) L → (xs : List ℕ) → RoundReady Q xs → MovedBy xs (length L) (layMoves angles L xs)
   unfolding All
-  moves-moved [] h xs r = subst (Moved xs 0) (sym (moves-none angles xs)) (moved-none xs r)
+  moves-moved [] h xs r = subst (MovedBy xs 0) (sym (moves-none angles xs)) (moved-none xs r)
   moves-moved (Cnot c t ∷ gs) h xs r =
       let a = move-moved c t (h .0) xs (r .part) in
-      subst (Moved xs (suc (length gs))) (sym (moves-cons angles c t gs xs))
-      (subst (λ (n : ℕ). Moved xs n (followedBy (layMove angles c t xs) (λ ys. layMoves angles gs ys))) (one-more (length gs))
+      subst (MovedBy xs (suc (length gs))) (sym (moves-cons angles c t gs xs))
+      (subst (λ (n : ℕ). MovedBy xs n (followedBy (layMove angles c t xs) (λ ys. layMoves angles gs ys))) (one-more (length gs))
       (moved-then xs 1 (length gs) (layMove angles c t xs) (λ ys. layMoves angles gs ys) a (moves-moved gs (h .1) (layMove angles c t xs .cols) (a .ready))))
     where
       one-more : (n : ℕ) → 1 + n ≡ suc n
@@ -156,7 +156,7 @@ module _ (near : List ℕ) (Q : ℕ) (angles : List ℕ) (low : Q < 2 ^ 20) wher
       ap (λ (p : Piece). getD (p .cols) k 0) (moves-cons angles c t gs xs)
       ∙ moves-gone gs (h .1) (layMove angles c t xs .cols) (a .ready) k v (turn c t x) (go s (move-each c t (h .0) xs (r .part) k)) e
     where
-      a : Moved xs 1 (layMove angles c t xs)
+      a : MovedBy xs 1 (layMove angles c t xs)
       a = move-moved c t (h .0) xs (r .part)
 
       ys : List ℕ

@@ -106,25 +106,25 @@ module _ (near : List ℕ) (Q : ℕ) where
   -- ---- what is chosen is one of them
 
   -- a choice that is not far is the gathering of a column at one of its qubits
-  abbrev Sound : List ℕ → Choice → Type 0
-  Sound xs c = c .moves < far → In (c .qubit) (getD xs (c .column) 0) × (c .moves ≡ length (gatherOf near Q (c .qubit) (getD xs (c .column) 0)))
+  abbrev SoundChoice : List ℕ → Choice → Type 0
+  SoundChoice xs c = c .moves < far → In (c .qubit) (getD xs (c .column) 0) × (c .moves ≡ length (gatherOf near Q (c .qubit) (getD xs (c .column) 0)))
 
-  tried-sound : (xs : List ℕ) (k v : ℕ) (b : Choice) → Sound xs b → Sound xs (triedAt near Q k (getD xs k 0) v b)
+  tried-sound : (xs : List ℕ) (k v : ℕ) (b : Choice) → SoundChoice xs b → SoundChoice xs (triedAt near Q k (getD xs k 0) v b)
   tried-sound xs k v b s = go (tried-cases k (getD xs k 0) v b)
     where
-      go : (triedAt near Q k (getD xs k 0) v b ≡ b) ⊎ ((has (getD xs k 0) v ≡ true) × (triedAt near Q k (getD xs k 0) v b ≡ choice k v (length (gatherOf near Q v (getD xs k 0))))) → Sound xs (triedAt near Q k (getD xs k 0) v b)
-      go (inl e) = subst (Sound xs) (sym e) s
-      go (inr e) = subst (Sound xs) (sym (e .1)) (λ m. (has-true (getD xs k 0) v (e .0), refl))
+      go : (triedAt near Q k (getD xs k 0) v b ≡ b) ⊎ ((has (getD xs k 0) v ≡ true) × (triedAt near Q k (getD xs k 0) v b ≡ choice k v (length (gatherOf near Q v (getD xs k 0))))) → SoundChoice xs (triedAt near Q k (getD xs k 0) v b)
+      go (inl e) = subst (SoundChoice xs) (sym e) s
+      go (inr e) = subst (SoundChoice xs) (sym (e .1)) (λ m. (has-true (getD xs k 0) v (e .0), refl))
 
-  qubits-sound : (xs : List ℕ) (k d v : ℕ) (b : Choice) → Sound xs b → Sound xs (overQubits near Q k (getD xs k 0) d v b)
-  qubits-sound xs k zero v b s = subst (Sound xs) (sym (qubits-none near Q k (getD xs k 0) v b)) s
+  qubits-sound : (xs : List ℕ) (k d v : ℕ) (b : Choice) → SoundChoice xs b → SoundChoice xs (overQubits near Q k (getD xs k 0) d v b)
+  qubits-sound xs k zero v b s = subst (SoundChoice xs) (sym (qubits-none near Q k (getD xs k 0) v b)) s
   qubits-sound xs k (suc d) v b s =
-      subst (Sound xs) (sym (qubits-step near Q k (getD xs k 0) d v b)) (qubits-sound xs k d (v + 1) (triedAt near Q k (getD xs k 0) v b) (tried-sound xs k v b s))
+      subst (SoundChoice xs) (sym (qubits-step near Q k (getD xs k 0) d v b)) (qubits-sound xs k d (v + 1) (triedAt near Q k (getD xs k 0) v b) (tried-sound xs k v b s))
 
-  columns-sound : (xs : List ℕ) (d k : ℕ) (b : Choice) → Sound xs b → Sound xs (overColumns near Q xs d k b)
-  columns-sound xs zero k b s = subst (Sound xs) (sym (columns-none near Q xs k b)) s
+  columns-sound : (xs : List ℕ) (d k : ℕ) (b : Choice) → SoundChoice xs b → SoundChoice xs (overColumns near Q xs d k b)
+  columns-sound xs zero k b s = subst (SoundChoice xs) (sym (columns-none near Q xs k b)) s
   columns-sound xs (suc d) k b s =
-      subst (Sound xs) (sym (columns-step near Q xs d k b)) (columns-sound xs d (k + 1) (overQubits near Q k (getD xs k 0) 20 0 b) (qubits-sound xs k 20 0 b s))
+      subst (SoundChoice xs) (sym (columns-step near Q xs d k b)) (columns-sound xs d (k + 1) (overQubits near Q k (getD xs k 0) 20 0 b) (qubits-sound xs k 20 0 b s))
 
   pub chosen-sound : (xs : List ℕ) → chosen near Q xs .moves < far
       → In (chosen near Q xs .qubit) (getD xs (chosen near Q xs .column) 0) × (chosen near Q xs .moves ≡ length (gatherOf near Q (chosen near Q xs .qubit) (getD xs (chosen near Q xs .column) 0)))

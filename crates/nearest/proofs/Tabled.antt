@@ -49,13 +49,13 @@ module _ (near : List ℕ) (Q : ℕ) where
   rows-none qubit len = record { size = λ v (h : v < 0). absurd (omega arith); row = λ v (h : v < 0). absurd (omega arith) }
 
   -- what is known of the first v rows, with the lengths of the lists
-  pub record Rows (v : ℕ) (qubit len : List ℕ) : Type 0 where
+  pub record RowsListed (v : ℕ) (qubit len : List ℕ) : Type 0 where
     pub long : length qubit ≡ 400
     pub wide : length len ≡ 20
     pub rows : Orderly near Q v qubit len
 
   pub rows-next : (v : ℕ) (qubit len : List ℕ) (o : Order) (next : List ℕ) → v < 20 → o ≡ orderIn (orderOf near Q v) → next ≡ sets qubit (20 * v) (o .qubit)
-      → Rows v qubit len → Rows (v + 1) next (set len v (o .len))
+      → RowsListed v qubit len → RowsListed (v + 1) next (set len v (o .len))
   unfolding orderIn
   rows-next v qubit len o next l eo en f =
       record {
@@ -90,8 +90,8 @@ module _ (near : List ℕ) (Q : ℕ) where
       row-at w h (yes e) = subst (λ (w : ℕ). (k : ℕ) → k < length (orderOf near Q w) → getD (sets qubit (20 * v) row) (20 * w + k) 0 ≡ getD (orderOf near Q w) k 0) e here
       row-at w h (no ne) = λ k b. sets-before qubit (20 * v) row (20 * w + k) (omega (arith, b, order-few near Q w .1)) ∙ f .rows .row w (omega arith) k b
 
-  pub rows-all : (v : ℕ) (qubit len : List ℕ) → 20 ≤ v → v ≤ 20 → Rows v qubit len → Orderly near Q 20 qubit len
+  pub rows-all : (v : ℕ) (qubit len : List ℕ) → 20 ≤ v → v ≤ 20 → RowsListed v qubit len → Orderly near Q 20 qubit len
   rows-all v qubit len h l f = let e : v ≡ 20 = omega arith in subst (λ (n : ℕ). Orderly near Q n qubit len) e (f .rows)
 
-  pub rows-start : (qubit len : List ℕ) → length qubit ≡ 400 → length len ≡ 20 → Rows 0 qubit len
+  pub rows-start : (qubit len : List ℕ) → length qubit ≡ 400 → length len ≡ 20 → RowsListed 0 qubit len
   rows-start qubit len l w = record { long = l; wide = w; rows = rows-none qubit len }

@@ -75,11 +75,11 @@ module _ (near : List ℕ) (E S u : ℕ) (low : S < 2 ^ 20) (z : bit E u ≡ 0) 
   beside = bitAnd (getD near u 0) E
 
   -- what is left lies in E and is not empty
-  abbrev Taken : ℕ → Out → Type 0
-  Taken x o = Sub (o .left) E × (o .left ≢ 0) × Shrinks x o
+  abbrev TakenFrom : ℕ → Out → Type 0
+  TakenFrom x o = Sub (o .left) E × (o .left ≢ 0) × Shrinks x o
 
   -- w is a neighbour of u in E
-  taken : (w x : ℕ) → In w E → Near near u w → Sub x S → x ≢ 0 → Taken x (outAt beside u x)
+  taken : (w x : ℕ) → In w E → Near near u w → Sub x S → x ≢ 0 → TakenFrom x (outAt beside u x)
   taken w x hw n f ne = go (has x u) refl (ℕ-discrete (bitAnd beside x) 0)
     where
       a≢ : beside ≢ 0
@@ -94,19 +94,19 @@ module _ (near : List ℕ) (E S u : ℕ) (low : S < 2 ^ 20) (z : bit E u ≡ 0) 
       is-u : 2 ^ u ≡ onlyOf u
       is-u = sym (only-is u (small u in-S))
 
-      go : (t : Bool) → has x u ≡ t → Dec (bitAnd beside x ≡ 0) → Taken x (outAt beside u x)
-      go false t d = subst (Taken x) (out-not beside u x t) (sub-same x (has-false x u t) f, ne, omega arith)
+      go : (t : Bool) → has x u ≡ t → Dec (bitAnd beside x ≡ 0) → TakenFrom x (outAt beside u x)
+      go false t d = subst (TakenFrom x) (out-not beside u x t) (sub-same x (has-false x u t) f, ne, omega arith)
       go true t (no o) =
           let q = some-bit (bitAnd beside x) o in
           let h2 = in-and beside x (q .0) (q .1) in
           let qE : In (q .0) E = in-and (getD near u 0) E (q .0) (h2 .0) .1 in
-          subst (Taken x) (out-one beside u x (2 ^ u) t o is-u) (
+          subst (TakenFrom x) (out-one beside u x (2 ^ u) t o is-u) (
             sub-out x (has-true x u t) f,
             λ (y : bitXor x (2 ^ u) ≡ 0). omega (arith, h2 .1, put-other x u (q .0) (apart (q .0) qE), ap (λ (m : ℕ). bit m (q .0)) y, bit-of-zero (q .0)),
             omega (arith, ones-drop u x (has-true x u t)),
           )
       go true t (yes o) =
-          subst (Taken x) (out-two beside u x (lowestOf beside) (2 ^ lowestOf beside) (2 ^ u) t o a≢ refl (sym (only-is (lowestOf beside) (small (lowestOf beside) (up (lowestOf beside) pE)))) is-u) (
+          subst (TakenFrom x) (out-two beside u x (lowestOf beside) (2 ^ lowestOf beside) (2 ^ u) t o a≢ refl (sym (only-is (lowestOf beside) (small (lowestOf beside) (up (lowestOf beside) pE)))) is-u) (
             sub-out y in-y sub-y,
             λ (y0 : bitXor y (2 ^ u) ≡ 0). omega (arith, put-same x (lowestOf beside) out, put-other y u (lowestOf beside) (apart (lowestOf beside) pE), ap (λ (m : ℕ). bit m (lowestOf beside)) y0, bit-of-zero (lowestOf beside)),
             omega (arith, ones-put (lowestOf beside) x out, ones-drop u y in-y),
@@ -174,8 +174,8 @@ module _ (near order : List ℕ) (from : ℕ) where
       is : o ≡ outAt (bitAnd (getD near q 0) E) q x
       is = eo ∙ ap₂ (λ (b T : ℕ). outAt (bitAnd b T) u x) em toE ∙ ap (λ (i : ℕ). outAt (bitAnd (getD near i 0) E) i x) eu
 
-      part : Taken near E S q low z e x o
-      part = subst (Taken near E S q low z e x) (sym is) (taken near E S q low z e w x hw (sy w q n) f ne)
+      part : TakenFrom near E S q low z e x o
+      part = subst (TakenFrom near E S q low z e x) (sym is) (taken near E S q low z e w x hw (sy w q n) f ne)
 
   module _ (b : Bool) (k S x : ℕ) (t : Whenever b (Whole near order from k S x)) where
     module _ (n total bound : ℕ) (c : Counting near order from k S x n total) (l : bound ≤ n + leastOf b x) where

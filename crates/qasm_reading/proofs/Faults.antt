@@ -18,7 +18,7 @@ use Rattle.statements.proofs.Heads.{version-read, include-read, register-read}
 use Rattle.statements.proofs.OtherAngles.{ended-not, unended-no, bad-back, bad-forth}
 use Rattle.qasm_reading.specs.Parsing.{angle, statement, early, unversioned, headFault, endCircuit, registered, included, versioned, parsedWords, parsedCircuit}
 use Rattle.words.specs.Bytes.{lineAt}
-use Rattle.qasm_reading.specs.Texts.{Unversioned, Seen, SeenAny, Early, versionLine, bothLines, NextStatement, second, third, gate, Fault, faultLine, WrongAngle, WrongStatement, here, cut, short}
+use Rattle.qasm_reading.specs.Texts.{WithoutVersion, Seen, SeenAny, Early, versionLine, bothLines, NextStatement, second, third, gate, Fault, faultLine, WrongAngle, WrongStatement, here, cut, short}
 use Rattle.qasm_reading.proofs.Runs.{form-long, gate-read}
 use Rattle.qasm_reading.proofs.Parsed.{after-version, after-include, after-seen}
 
@@ -91,7 +91,7 @@ short-parsed s e = ap parsedWords (sym (append-nil (words s))) ∙ early-parsed 
 
 -- ---- THEOREM: what is wrong with a text is found
 
-pub unversioned-parsed : (s : List ℕ) → Unversioned s → parsedCircuit s ≡ unversioned
+pub unversioned-parsed : (s : List ℕ) → WithoutVersion s → parsedCircuit s ≡ unversioned
 unfolding parsedCircuit parsedWords versioned
 unversioned-parsed s un = ap₂ versioned (missing Two) (missing Three)
   where

@@ -21,7 +21,7 @@ use Rattle.statements.proofs.Heads.{version-read, include-read, register-read, 
 use Rattle.statements.proofs.OtherAngles.{ended-not, unended-no, bad-back}
 use Rattle.qasm_reading.specs.Parsing.{ParsedCircuit, circuit, angle, statement, early, unversioned, headFault, endCircuit, statementRun, registered, included, versioned, parsedWords, parsedCircuit}
 use Rattle.words.specs.Bytes.{lineAt}
-use Rattle.qasm_reading.specs.Texts.{CircuitText, Unversioned, Seen, Early, versionLine, bothLines, second, third, gate, Fault, WrongAngle, WrongStatement, here, cut, short}
+use Rattle.qasm_reading.specs.Texts.{CircuitText, WithoutVersion, Seen, Early, versionLine, bothLines, second, third, gate, Fault, WrongAngle, WrongStatement, here, cut, short}
 use Rattle.qasm_reading.proofs.Runs.{statement-run-whole}
 use Rattle.qasm_reading.proofs.Faults.{Stuck, angle-parsed, register-long}
 
@@ -109,7 +109,7 @@ FoundText s (circuit v n gates g) = CircuitText s v n gates g
 FoundText s (angle l) = WrongAngle s (lineAt s l)
 FoundText s (statement l) = WrongStatement s (lineAt s l)
 FoundText s early = WrongStatement s 0
-FoundText s unversioned = Unversioned s
+FoundText s unversioned = WithoutVersion s
 
 -- where 13 is found, there is no other angle
 no-angle : (s : List ℕ) (l : ℕ) → parsedCircuit s ≡ statement l → (j : ℕ) → WrongAngle s j → ⊥
@@ -210,6 +210,6 @@ found s = go (readVersion Two (some (words s))) (readVersion Three (some (words 
     go none (some t) p q y = from-first s Three t q y
     go none none p q y = missing
       where
-        missing : Unversioned s
+        missing : WithoutVersion s
         missing Two rest = no-version s Two rest p
         missing Three rest = no-version s Three rest q

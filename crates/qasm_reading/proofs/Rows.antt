@@ -9,8 +9,7 @@ use lib.Dec.{leb}
 use lib.ListN.{length}
 use borrow.Author.Tests.{leb-true, leb-false, le-leb, lt-leb}
 use Rattle.verdicts.specs.declared.verdict.Verdict.{Verdict}
-use Rattle.verdicts.specs.declared.verdict.Verdict.the-variants as verdicts
-use Rattle.verdicts.specs.declared.verdict.Verdict.the-variants.{Accepted, Room, LongText, Angle, Statement}
+use Rattle.verdicts.specs.declared.verdict.Verdict.the-variants.{Accepted, Room, LongText, Angle, Statement, Unversioned}
 use Rattle.verdicts.specs.Verdicts.{numberOf, placeOf}
 use Rattle.verdicts.specs.Rows.{Nowhere}
 use Rattle.reading.specs.Limits.{mostBytes}
@@ -18,7 +17,7 @@ use Rattle.versions.specs.declared.Version.{Version}
 use Rattle.qasm_reading.specs.Parsing.{ParsedCircuit, circuit, angle, statement, early, unversioned, parsedCircuit}
 use Rattle.words.specs.Bytes.{lineAt}
 use Rattle.qasm_reading.specs.Readings.{judgedFound, judgedCircuitText}
-use Rattle.qasm_reading.specs.Texts.{CircuitText, Unversioned, WrongAngle, WrongStatement}
+use Rattle.qasm_reading.specs.Texts.{CircuitText, WithoutVersion, WrongAngle, WrongStatement}
 use Rattle.qasm_reading.specs.Rows.{Short, CircuitReadingRows}
 use Rattle.qasm_reading.proofs.Parsed.{circuit-parsed}
 use Rattle.qasm_reading.proofs.Faults.{Other, unversioned-parsed, angle-parsed, statement-parsed}
@@ -45,7 +44,7 @@ module _ (s : List ℕ) (room : ℕ) where
     judged-over : (v : Version) (n : ℕ) (gates : List ℕ) (g : ℕ) → CircuitText s v n gates g → room < length gates → judgedCircuitText s room ≡ Room
     judged-over v n gates g c l = judged-as (circuit v n gates g) (circuit-parsed s v n gates g c) ∙ rw (lt-leb (length gates) room l)
 
-    judged-unversioned : Unversioned s → judgedCircuitText s room ≡ verdicts.Unversioned
+    judged-unversioned : WithoutVersion s → judgedCircuitText s room ≡ Unversioned
     judged-unversioned u = judged-as unversioned (unversioned-parsed s u)
 
     judged-angle : (k : ℕ) → WrongAngle s k → judgedCircuitText s room ≡ Angle k
@@ -66,7 +65,7 @@ data AnsweredText (s : List ℕ) (room : ℕ) (said : Verdict) : Type 0 where
   long : mostBytes < length s → said ≡ LongText → AnsweredText s room said
   good : Short s → (v : Version) (n : ℕ) (gates : List ℕ) (g : ℕ) → CircuitText s v n gates g → length gates ≤ room → said ≡ Accepted → AnsweredText s room said
   over : Short s → (v : Version) (n : ℕ) (gates : List ℕ) (g : ℕ) → CircuitText s v n gates g → room < length gates → said ≡ Room → AnsweredText s room said
-  no-version : Short s → Unversioned s → said ≡ verdicts.Unversioned → AnsweredText s room said
+  no-version : Short s → WithoutVersion s → said ≡ Unversioned → AnsweredText s room said
   other-angle : Short s → (k : ℕ) → WrongAngle s k → said ≡ Angle k → AnsweredText s room said
   other-statement : Short s → (k : ℕ) → WrongStatement s k → said ≡ Statement k → AnsweredText s room said
 
@@ -139,7 +138,7 @@ module _ (s : List ℕ) (room : ℕ) where
   statement-row e (other-angle h k w q) = off 13 e q (λ (z : 12 ≡ 13). omega arith)
   statement-row e (other-statement h k w q) = ((h, (k, w)), at (WrongStatement s) q w)
 
-  unversioned-row : numberOf said ≡ 14 → AnsweredText s room said → (Short s × Unversioned s) × (placeOf said ≡ 1)
+  unversioned-row : numberOf said ≡ 14 → AnsweredText s room said → (Short s × WithoutVersion s) × (placeOf said ≡ 1)
   unversioned-row e (good h v n gates g c l q) = off 14 e q (λ (z : 0 ≡ 14). omega arith)
   unversioned-row e (long h q) = off 14 e q (λ (z : 11 ≡ 14). omega arith)
   unversioned-row e (no-version h w q) = ((h, w), at (λ k. k ≡ 1) q refl)

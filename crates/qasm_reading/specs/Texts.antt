@@ -27,8 +27,8 @@ pub record CircuitText (s : List ℕ) (v : Version) (n : ℕ) (gates : List ℕ)
 -- ---- what a circuit's text can begin with, statement by statement
 
 -- 14: "a version line missing or other than 2.0 or 3.0"
-abbrev pub Unversioned : List ℕ → Type 0
-Unversioned s = (v : Version) (rest : List (List ℕ)) → bodies (words s) ≡ versionWords v ++ rest → ⊥
+abbrev pub WithoutVersion : List ℕ → Type 0
+WithoutVersion s = (v : Version) (rest : List (List ℕ)) → bodies (words s) ≡ versionWords v ++ rest → ⊥
 
 -- up to some gate: the register has been seen, and has the name
 pub record Seen (v : Version) (name : List ℕ) (bs : List (List ℕ)) : Type 0 where

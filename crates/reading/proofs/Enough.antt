@@ -35,20 +35,20 @@ module _ (s : List ℕ) (a b : ℕ) (ha : mostBytes < 4 + 6 * (a + 1)) (hb : mos
       (omega (arith, text-least n es gs (f .couplers)), omega (arith, text-least n es gs (f .couplers)))
 
   -- the table's numbers that are left
-  abbrev Left : Verdict → Type 0
-  Left v = (numberOf v ≡ 0) ⊎ ((numberOf v ≡ 10) ⊎ (numberOf v ≡ 11))
+  abbrev NeverEight : Verdict → Type 0
+  NeverEight v = (numberOf v ≡ 0) ⊎ ((numberOf v ≡ 10) ⊎ (numberOf v ≡ 11))
 
-  within : length s ≤ mostBytes → (p : Parsed) → parsed s ≡ p → Left (andThen (judgedLines p) (judgedLists p a b))
+  within : length s ≤ mostBytes → (p : Parsed) → parsed s ≡ p → NeverEight (andThen (judgedLines p) (judgedLists p a b))
   within h (misfit k) e = inr (inl refl)
   within h (job n es gs) e =
       let f = lists-fit n es gs h e in
       inl (rw (le-leb (length es) a (f .0), le-leb (length gs) b (f .1)))
 
-  left : Left (judgedReading s a b)
+  left : NeverEight (judgedReading s a b)
   unfolding judgedReading
   left = go (leb (length s) mostBytes) refl
     where
-      go : (t : Bool) → leb (length s) mostBytes ≡ t → Left (andThen (pick t Accepted LongText) (andThen (judgedLines (parsed s)) (judgedLists (parsed s) a b)))
+      go : (t : Bool) → leb (length s) mostBytes ≡ t → NeverEight (andThen (pick t Accepted LongText) (andThen (judgedLines (parsed s)) (judgedLists (parsed s) a b)))
       go true e = within (leb-true (length s) mostBytes e) (parsed s) refl
       go false e = inr (inr refl)
 

@@ -16,7 +16,7 @@ use Rattle.reading.specs.Parsing.{readHead, Parsed, misfit, job, endOf, 
 use Rattle.spots.proofs.Numbers.{never-some}
 use Rattle.reading.proofs.Fronts.{front-job, job-fronts, back, front-back, front-none, front-more}
 use Rattle.reading.proofs.Lines.{head-forth}
-use Rattle.reading.proofs.Runs.{Taken, taken, parsed-forth, text-parsed}
+use Rattle.reading.proofs.Runs.{TakenJob, taken, parsed-forth, text-parsed}
 
 pub two : {B : Type 0} {n k : ℕ} {es gs : List ℕ} → misfit k ≡ job n es gs → B
 two e = let z : _≡_ {A = ℕ} 0 1 = cc e in absurd (omega arith)
@@ -32,7 +32,7 @@ pub job-found : (s : List ℕ) (n : ℕ) (es gs : List ℕ) → parsed s ≡ job
 unfolding parsed bodyOf endOf
 job-found s n es gs e = go (readHead s .rest) refl e
   where
-    end : (m : ℕ) (cs hs l : List ℕ) → Taken s m cs hs l → endOf m cs hs l ≡ job n es gs → FoundJob s n es gs
+    end : (m : ℕ) (cs hs l : List ℕ) → TakenJob s m cs hs l → endOf m cs hs l ≡ job n es gs → FoundJob s n es gs
     end m cs hs [] k e =
         let p : m ≡ n = cc e in
         let q : cs ≡ es = cc e in
@@ -62,7 +62,7 @@ first-misfit s e = record {
 }
 
 -- what is left behind the runs begins with a line of neither sort
-later-misfit : (s : List ℕ) (n : ℕ) (es gs : List ℕ) (x : ℕ) (t : List ℕ) → Taken s n es gs (x ∷ t) → Misfit s (2 + length es + length gs)
+later-misfit : (s : List ℕ) (n : ℕ) (es gs : List ℕ) (x : ℕ) (t : List ℕ) → TakenJob s n es gs (x ∷ t) → Misfit s (2 + length es + length gs)
 unfolding endOf firstLines
 later-misfit s n es gs x t k = record { counted = omega arith; before = before; here = here }
   where
@@ -81,7 +81,7 @@ pub misfit-first : (s : List ℕ) (k : ℕ) → parsed s ≡ misfit k → Misfit
 unfolding parsed bodyOf endOf
 misfit-first s k e = go (readHead s .rest) refl e
   where
-    end : (m : ℕ) (cs hs l : List ℕ) → Taken s m cs hs l → endOf m cs hs l ≡ misfit k → Misfit s k
+    end : (m : ℕ) (cs hs l : List ℕ) → TakenJob s m cs hs l → endOf m cs hs l ≡ misfit k → Misfit s k
     end m cs hs [] t e = two (sym e)
     end m cs hs (x ∷ l) t e = let z : 2 + length cs + length hs ≡ k = cc e in subst (Misfit s) z (later-misfit s m cs hs x l t)
 

@@ -95,7 +95,7 @@ unfolding endOf
 text-parsed n es gs h a b = ap parsed (sym (append-nil (textOf n es gs))) ∙ parsed-forth n es gs [] h a b (λ _. one-nil false) (one-nil true)
 
 -- the text is that of a job, and behind it stands what no line of a job begins
-pub record Taken (s : List ℕ) (n : ℕ) (es gs t : List ℕ) : Type 0 where
+pub record TakenJob (s : List ℕ) (n : ℕ) (es gs t : List ℕ) : Type 0 where
   pub same : s ≡ textOf n es gs ++ t
   pub few : n ≤ mostFirst
   pub couplers : All (FitsLine false) es
@@ -104,7 +104,7 @@ pub record Taken (s : List ℕ) (n : ℕ) (es gs t : List ℕ) : Type 0 where
   pub stop-coupler : gs ≡ [] → readOne false t .rest ≡ none
 
 pub taken : (s t : List ℕ) → readHead s .rest ≡ some t
-    → Taken s (readHead s .value) (runOf false t .records) (runOf true (runOf false t .left) .records) (runOf true (runOf false t .left) .left)
+    → TakenJob s (readHead s .value) (runOf false t .records) (runOf true (runOf false t .left) .records) (runOf true (runOf false t .left) .left)
 unfolding textOf recordsText
 taken s t e =
     let h = head-back s t e in

@@ -13,6 +13,7 @@ unfoldable pub sumTo : ℕ → (ℕ → ℕ) → ℕ
 sumTo zero f = 0
 sumTo (suc n) f = sumTo n f + f n
 
+-- 1 where a test is passed, 0 where it is not
 abbrev pub one : Bool → ℕ
 one true = 1
 one false = 0

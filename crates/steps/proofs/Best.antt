@@ -40,24 +40,24 @@ module _ (may : List Bool) (worth : List ℕ) where
       go false h = ltb-false q (firstOf f 20 0) h
 
   -- what the best of those below worth w is
-  pub record Best (w r : ℕ) : Type 0 where
+  pub record IsBest (w r : ℕ) : Type 0 where
     pub below : r < 20
     pub taken : getD may r false ≡ true
     pub most : (q : ℕ) → q < 20 → getD may q false ≡ true → getD worth q 0 < w → getD worth q 0 ≤ getD worth r 0
     pub lowest : (q : ℕ) → q < 20 → getD may q false ≡ true → getD worth q 0 ≡ getD worth r 0 → r ≤ q
 
-  pub best-is : (w q : ℕ) → q < 20 → getD may q false ≡ true → getD worth q 0 < w → Best w (bestOf may worth w)
+  pub best-is : (w q : ℕ) → q < 20 → getD may q false ≡ true → getD worth q 0 < w → IsBest w (bestOf may worth w)
   best-is zero q l m h = absurd (omega arith)
   best-is (suc w) q l m h = go (ltb (worthAt may worth w) 20) refl (best-is w q l m)
     where
       v : ℕ
       v = worthAt may worth w
 
-      go : (b : Bool) → ltb (worthAt may worth w) 20 ≡ b → (getD worth q 0 < w → Best w (bestOf may worth w)) → Best (suc w) (bestOf may worth (suc w))
+      go : (b : Bool) → ltb (worthAt may worth w) 20 ≡ b → (getD worth q 0 < w → IsBest w (bestOf may worth w)) → IsBest (suc w) (bestOf may worth (suc w))
       go true e ih =
           let l20 : v < 20 = ltb-true v 20 e in
           let f = worth-found w l20 in
-          subst (Best (suc w)) (sym (best-hit may worth (suc w) w v refl refl l20))
+          subst (IsBest (suc w)) (sym (best-hit may worth (suc w) w v refl refl l20))
           (record {
             below = l20;
             taken = f .0;
@@ -69,7 +69,7 @@ module _ (may : List Bool) (worth : List ℕ) where
           let under : (j : ℕ) → j < 20 → getD may j false ≡ true → getD worth j 0 < suc w → getD worth j 0 < w =
           λ j (a : j < 20) b (c : getD worth j 0 < suc w). lower j a b c (ℕ-discrete (getD worth j 0) w) far in
           let r = ih (under q l m h) in
-          subst (Best (suc w)) (sym (best-miss may worth (suc w) w refl far))
+          subst (IsBest (suc w)) (sym (best-miss may worth (suc w) w refl far))
           (record { below = r .below; taken = r .taken; most = λ j a b c. r .most j a b (under j a b c); lowest = r .lowest })
         where
           lower : (j : ℕ) → j < 20 → getD may j false ≡ true → getD worth j 0 < suc w → Dec (getD worth j 0 ≡ w) → 20 ≤ v → getD worth j 0 < w

@@ -116,7 +116,7 @@ module _ (near : List ℕ) (Q : ℕ) (angles : List ℕ) (low : Q < 2 ^ 20) (r m
 
   -- ---- behind the striking off
 
-  pub record Moved (p : Piece) : Type 0 where
+  pub record Crossed (p : Piece) : Type 0 where
     pub lays : Laying near Q angles xs (p .laid) (p .cols)
     pub cnots : cnotsOf (p .laid) ≤ 2
     pub chosen : (k : ℕ) → getD sel k false ≡ true → (getD (p .cols) k 0 ≡ 0) ⊎ (Sub (getD (p .cols) k 0) Q × Many (getD (p .cols) k 0))
@@ -162,7 +162,7 @@ module _ (near : List ℕ) (Q : ℕ) (angles : List ℕ) (low : Q < 2 ^ 20) (r m
     cleared k z true s = ap (λ (x : ℕ). bit x r) (off-single near Q angles ws fit k s) ∙ bit-of-zero r
     cleared k z false s = ap (λ (x : ℕ). bit x r) (still-at k (λ t. never t s)) ∙ z
 
-    moved-of : Moved (followedBy c (strikeOff angles))
+    moved-of : Crossed (followedBy c (strikeOff angles))
     unfolding followedBy
     moved-of =
         let s = strikes-off near Q angles ws fit in
@@ -175,6 +175,6 @@ module _ (near : List ℕ) (Q : ℕ) (angles : List ℕ) (low : Q < 2 ^ 20) (r m
           freed = (w .0, w .1, w .2, cleared (w .0) (w .3) (singleOf (getD ws (w .0) 0)) refl);
         }
 
-  pub moved-is : Moved (moved angles r m (rowOf sel xs m) xs)
+  pub moved-is : Crossed (moved angles r m (rowOf sel xs m) xs)
   unfolding moved
   moved-is = moved-of (crossed r m (rowOf sel xs m) xs) crossed-freed

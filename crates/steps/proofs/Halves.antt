@@ -15,7 +15,7 @@ use Rattle.steps.specs.Selection.{zerosOf, onesOf}
 use Rattle.steps.specs.Choice.{without}
 use Rattle.steps.proofs.Apart.{Many, many-live, Reached, reached-trans, reached-wider, reached-zero, reached-live, reached-outside, reached-sub, Safe, safe-narrow, reached-safe, safe-many, safe-rest}
 use Rattle.steps.proofs.Splits.{in-zeros, zeros-in, in-ones, zeros-out, ones-out, split-cases}
-use Rattle.steps.proofs.Meets.{rest-out, rest-in, rest-sub, StepReady, Done}
+use Rattle.steps.proofs.Meets.{rest-out, rest-in, rest-sub, StepReady, StepDone}
 use Rattle.sets.proofs.Deciding.{never}
 
 module _ (near : List ℕ) (Q : ℕ) (angles : List ℕ) (low : Q < 2 ^ 20) (r : ℕ) (hr : In r Q) (sel : List Bool) (ys : List ℕ)
@@ -58,7 +58,7 @@ module _ (near : List ℕ) (Q : ℕ) (angles : List ℕ) (low : Q < 2 ^ 20) (r :
           go (inr c) (inr b) = guarded k c b
 
   -- behind the base step B of the zeros
-  module _ (B : Piece) (first : Done near S angles z ys B) where
+  module _ (B : Piece) (first : StepDone near S angles z ys B) where
     abbrev us : List ℕ
     us = B .cols
 
@@ -99,7 +99,7 @@ module _ (near : List ℕ) (Q : ℕ) (angles : List ℕ) (low : Q < 2 ^ 20) (r :
             go (inr (inr t)) = absurd (never t e)
 
     -- behind the ones step O of the ones
-    module _ (O : Piece) (second : Done near Q angles p us O) where
+    module _ (O : Piece) (second : StepDone near Q angles p us O) where
       pub halves-struck : (k : ℕ) → getD sel k false ≡ true → getD (O .cols) k 0 ≡ 0
       halves-struck k s = go (split-cases r sel ys k (places k s) s)
         where

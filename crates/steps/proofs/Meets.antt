@@ -62,7 +62,7 @@ pub record StepReady (Q : ℕ) (sel : List Bool) (xs : List ℕ) : Type 0 where
   pub aside : (k : ℕ) → getD sel k false ≡ false → Safe Q (getD xs k 0)
 
 -- every selected column is struck off, and the others are turned by CNOTs inside Q only
-pub record Done (near : List ℕ) (Q : ℕ) (angles : List ℕ) (sel : List Bool) (xs : List ℕ) (p : Piece) : Type 0 where
+pub record StepDone (near : List ℕ) (Q : ℕ) (angles : List ℕ) (sel : List Bool) (xs : List ℕ) (p : Piece) : Type 0 where
   pub lays : Laying near Q angles xs (p .laid) (p .cols)
   pub struck : (k : ℕ) → getD sel k false ≡ true → getD (p .cols) k 0 ≡ 0
   pub others : (k : ℕ) → getD sel k false ≡ false → Reached Q (getD xs k 0) (getD (p .cols) k 0)
@@ -71,10 +71,10 @@ pub record Done (near : List ℕ) (Q : ℕ) (angles : List ℕ) (sel : List Bool
 -- a step that meets all this on every connected set of at most q qubits, and of which `says` is true there
 abbrev pub StepMeets : List ℕ → List ℕ → ℕ → Step → Claim → Type 0
 StepMeets near angles q step says =
-    (Q : ℕ) (sel : List Bool) (xs : List ℕ) → Q < 2 ^ 20 → Joined near Q → ones Q ≤ q → StepReady Q sel xs → Done near Q angles sel xs (step Q sel xs) × says Q sel xs
+    (Q : ℕ) (sel : List Bool) (xs : List ℕ) → Q < 2 ^ 20 → Joined near Q → ones Q ≤ q → StepReady Q sel xs → StepDone near Q angles sel xs (step Q sel xs) × says Q sel xs
 
 -- "A step without columns does nothing"
-pub done-idle : (near : List ℕ) (Q : ℕ) (angles : List ℕ) (sel : List Bool) (xs : List ℕ) → StepReady Q sel xs → countOf sel ≡ 0 → Done near Q angles sel xs (idle xs)
+pub done-idle : (near : List ℕ) (Q : ℕ) (angles : List ℕ) (sel : List Bool) (xs : List ℕ) → StepReady Q sel xs → countOf sel ≡ 0 → StepDone near Q angles sel xs (idle xs)
 done-idle near Q angles sel xs r e =
     record {
       lays = laying-none near Q angles xs;

@@ -133,21 +133,21 @@ module _ (q : ℕ) (sel : List Bool) (xs : List ℕ) where
 
 module _ (sel : List Bool) (xs : List ℕ) where
   -- z has the ones of each row among the first k columns
-  pub record Rows (k : ℕ) (z : List ℕ) : Type 0 where
+  pub record RowsCounted (k : ℕ) (z : List ℕ) : Type 0 where
     pub wide : length z ≡ 20
     pub ones : Filled 0 (λ q. rowTo q sel xs k) 20 z
 
-  pub rows-none : Rows 0 (replicate 20 0)
+  pub rows-none : RowsCounted 0 (replicate 20 0)
   rows-none = record { wide = length-replicate {A = ℕ} 20 0; ones = λ q l. getD-replicate 20 q 0 0 l ∙ row-none q sel xs }
 
-  pub rows-few : (k : ℕ) (z : List ℕ) → k ≤ 256 → Rows k z → Few z
+  pub rows-few : (k : ℕ) (z : List ℕ) → k ≤ 256 → RowsCounted k z → Few z
   rows-few k z l r q = go (decLt q 20)
     where
       go : Dec (q < 20) → getD z q 0 ≤ 256
       go (yes h) = omega (arith, row-small q sel xs k (getD z q 0) (r .ones q h))
       go (no h) = omega (arith, List·getD-eq-default z 0 {n = q} (omega (arith, r .wide)))
 
-  pub rows-tallied : (k x : ℕ) (z z′ : List ℕ) → getD sel k false ≡ true → x ≡ getD xs k 0 → z′ ≡ talliedOf x z → Rows k z → Rows (k + 1) z′
+  pub rows-tallied : (k x : ℕ) (z z′ : List ℕ) → getD sel k false ≡ true → x ≡ getD xs k 0 → z′ ≡ talliedOf x z → RowsCounted k z → RowsCounted (k + 1) z′
   unfolding talliedOf
   rows-tallied k x z z′ e ex ez r = record {
     wide = ap length ez ∙ tab-length 20 (λ q. getD z q 0 + one (has x q));
@@ -156,13 +156,13 @@ module _ (sel : List Bool) (xs : List ℕ) where
         (ap (λ (y : List ℕ). getD y q 0) ez ∙ tab-at 20 (λ q. getD z q 0 + one (has x q)) q 0 l);
   }
 
-  pub rows-passed : (k : ℕ) (z : List ℕ) → getD sel k false ≡ false → Rows k z → Rows (k + 1) z
+  pub rows-passed : (k : ℕ) (z : List ℕ) → getD sel k false ≡ false → RowsCounted k z → RowsCounted (k + 1) z
   rows-passed k z e r = record {
     wide = r .wide;
     ones = λ q l. row-next q sel xs k (getD z q 0) (getD z q 0) (getD xs k 0) false (one-no q (getD xs k 0) (getD sel k false) e) refl (r .ones q l) (omega arith);
   }
 
-  pub rows-all : (n k : ℕ) (z : List ℕ) → n ≡ min (length xs) 256 → n ≤ k → k ≤ n → Rows k z → z ≡ tab 20 (rowOf sel xs)
+  pub rows-all : (n k : ℕ) (z : List ℕ) → n ≡ min (length xs) 256 → n ≤ k → k ≤ n → RowsCounted k z → z ≡ tab 20 (rowOf sel xs)
   rows-all n k z en h l r = filled-all 0 (rowOf sel xs) 20 20 z (r .wide) (omega arith) (λ q b. row-all q sel xs n k (getD z q 0) en h l (r .ones q b))
 
 -- ---- equal entries

@@ -23,8 +23,8 @@ use Rattle.steps.proofs.Unfolding.{baseOn, base-idle, base-on, onesThen
 use Rattle.steps.proofs.Apart.{Safe, reached-trans, reached-safe}
 use Rattle.steps.proofs.Splits.{count-some, split-count, ones-fewer}
 use Rattle.steps.proofs.Bound.{bound-base, bound-ones}
-use Rattle.steps.proofs.Meets.{rest-is, rest-low, rest-ones, StepReady, Done, StepMeets, done-idle, ready-two}
-use Rattle.steps.proofs.Crossing.{Moved, moved-is}
+use Rattle.steps.proofs.Meets.{rest-is, rest-low, rest-ones, StepReady, StepDone, StepMeets, done-idle, ready-two}
+use Rattle.steps.proofs.Crossing.{Crossed, moved-is}
 use Rattle.steps.proofs.Chosen.{spare-found, partner-found, Beside, beside-is}
 use Rattle.steps.proofs.Halves.{zeros-ready, ones-have, ones-ready, halves-struck, halves-others, halves-lay}
 use Rattle.tallies.proofs.Tallies.{cnots-append}
@@ -44,7 +44,7 @@ module _ (near : List ℕ) (angles : List ℕ) (sy : Symm near) where
     abbrev pub OnesMeets : ℕ → Type 0
     OnesMeets n =
         (sel : List Bool) (xs : List ℕ) → StepReady Q sel xs → ((k : ℕ) → getD sel k false ≡ true → In r (getD xs k 0)) → countOf sel ≤ n
-        → Done near Q angles sel xs (onesStep n below near angles Q r sel xs) × OnesGoesOn n below Below near angles Q r sel xs
+        → StepDone near Q angles sel xs (onesStep n below near angles Q r sel xs) × OnesGoesOn n below Below near angles Q r sel xs
 
     -- one ones step, where the next one meets it
     module _ (n : ℕ) (next : OnesMeets n) (sel : List Bool) (xs : List ℕ) (ready : StepReady Q sel xs) (has-r : (k : ℕ) → getD sel k false ≡ true → In r (getD xs k 0)) (l : countOf sel ≤ suc n) (ne : countOf sel ≢ 0) where
@@ -63,7 +63,7 @@ module _ (near : List ℕ) (angles : List ℕ) (sy : Symm near) where
       abbrev M : Piece
       M = moved angles r m (rowOf sel xs m) xs
 
-      mv : Moved near Q angles low r m hr (b .inside) (b .other) (b .to) (sy r m (b .to)) sel xs ready has-r (count-some sel ne) M
+      mv : Crossed near Q angles low r m hr (b .inside) (b .other) (b .to) (sy r m (b .to)) sel xs ready has-r (count-some sel ne) M
       mv = moved-is near Q angles low r m hr (b .inside) (b .other) (b .to) (sy r m (b .to)) sel xs ready has-r (count-some sel ne)
 
       abbrev ys : List ℕ
@@ -87,21 +87,21 @@ module _ (near : List ℕ) (angles : List ℕ) (sy : Symm near) where
       aside : Aside
       aside k e = reached-safe (mv .aside k e) (ready .aside k e)
 
-      below-meets : Done near S angles z ys B × Below S z ys
+      below-meets : StepDone near S angles z ys B × Below S z ys
       below-meets = meets S z ys (rest-low Q r low hr) jr few (zeros-ready near Q angles low r hr sel ys (ready .places) (mv .chosen) aside)
 
-      first : Done near S angles z ys B
+      first : StepDone near S angles z ys B
       first = below-meets .0
 
       fewer : countOf p < countOf sel
       fewer = let w = mv .freed in ones-fewer r sel ys (w .0) (w .1) (w .2) (w .3)
 
-      next-meets : Done near Q angles p (B .cols) O × OnesGoesOn n below Below near angles Q r p (B .cols)
+      next-meets : StepDone near Q angles p (B .cols) O × OnesGoesOn n below Below near angles Q r p (B .cols)
       next-meets =
           next p (B .cols) (ones-ready near Q angles low r hr sel ys (ready .places) (mv .chosen) aside B first)
           (ones-have near Q angles low r hr sel ys (ready .places) (mv .chosen) aside B first) (omega (arith, fewer, l))
 
-      second : Done near Q angles p (B .cols) O
+      second : StepDone near Q angles p (B .cols) O
       second = next-meets .0
 
       bound : cnotsOf (M .laid ++ (B .laid ++ O .laid)) ≤ 2 * ones S * countOf sel
@@ -110,7 +110,7 @@ module _ (near : List ℕ) (angles : List ℕ) (sy : Symm near) where
           (subst (λ (u : ℕ). cnotsOf (O .laid) ≤ 2 * u * countOf p) (less-one Q r low hr) (second .cnots)) (split-count r sel ys) fewer in
           omega (arith, c, cnots-append (M .laid) (B .laid ++ O .laid), cnots-append (B .laid) (O .laid))
 
-      done : Done near Q angles sel xs (onesOn below near angles Q r sel xs n m)
+      done : StepDone near Q angles sel xs (onesOn below near angles Q r sel xs n m)
       unfolding onesOn onesThen followedBy
       done =
           record {
@@ -120,18 +120,18 @@ module _ (near : List ℕ) (angles : List ℕ) (sy : Symm near) where
             cnots = subst (λ (u : ℕ). cnotsOf (M .laid ++ (B .laid ++ O .laid)) ≤ 2 * u * countOf sel) (sym (less-one Q r low hr)) bound;
           }
 
-      ones-done : Done near Q angles sel xs (onesStep (suc n) below near angles Q r sel xs)
-      ones-done = subst (Done near Q angles sel xs) (sym (ones-on below near angles Q r sel xs n ne)) done
+      ones-done : StepDone near Q angles sel xs (onesStep (suc n) below near angles Q r sel xs)
+      ones-done = subst (StepDone near Q angles sel xs) (sym (ones-on below near angles Q r sel xs n ne)) done
 
-    ones-none : (n : ℕ) (sel : List Bool) (xs : List ℕ) → StepReady Q sel xs → countOf sel ≡ 0 → Done near Q angles sel xs (onesStep n below near angles Q r sel xs)
-    ones-none n sel xs ready e = subst (Done near Q angles sel xs) (sym (ones-idle below near angles Q r sel xs n e)) (done-idle near Q angles sel xs ready e)
+    ones-none : (n : ℕ) (sel : List Bool) (xs : List ℕ) → StepReady Q sel xs → countOf sel ≡ 0 → StepDone near Q angles sel xs (onesStep n below near angles Q r sel xs)
+    ones-none n sel xs ready e = subst (StepDone near Q angles sel xs) (sym (ones-idle below near angles Q r sel xs n e)) (done-idle near Q angles sel xs ready e)
 
     pub ones-meets : (n : ℕ) → OnesMeets n
     unfolding OnesGoesOn
     ones-meets zero sel xs ready has-r l = let e : countOf sel ≡ 0 = omega arith in (ones-none 0 sel xs ready e, e)
     ones-meets (suc n) sel xs ready has-r l = go (ℕ-discrete (countOf sel) 0) (ones-meets n)
       where
-        go : Dec (countOf sel ≡ 0) → OnesMeets n → Done near Q angles sel xs (onesStep (suc n) below near angles Q r sel xs) × OnesGoesOn (suc n) below Below near angles Q r sel xs
+        go : Dec (countOf sel ≡ 0) → OnesMeets n → StepDone near Q angles sel xs (onesStep (suc n) below near angles Q r sel xs) × OnesGoesOn (suc n) below Below near angles Q r sel xs
         go (yes e) next = (ones-none (suc n) sel xs ready e, λ ne. absurd (ne e))
         go (no ne) next = (
           ones-done n next sel xs ready has-r l ne,
@@ -171,19 +171,19 @@ module _ (near : List ℕ) (angles : List ℕ) (sy : Symm near) where
     abbrev Ob : Piece
     Ob = onesStep (countOf pb) (baseStep q near angles) near angles Q r pb (Bb .cols)
 
-    below-meets-b : Done near (without Q r) angles zb xs Bb × BaseGoesOn q near angles (without Q r) zb xs
+    below-meets-b : StepDone near (without Q r) angles zb xs Bb × BaseGoesOn q near angles (without Q r) zb xs
     below-meets-b = meets (without Q r) zb xs (rest-low Q r low hr-b) jr-b few-b (zeros-ready near Q angles low r hr-b sel xs (ready .places) (λ k e. inr (ready .chosen k e)) (ready .aside))
 
-    first-b : Done near (without Q r) angles zb xs Bb
+    first-b : StepDone near (without Q r) angles zb xs Bb
     first-b = below-meets-b .0
 
-    ones-meets-b : Done near Q angles pb (Bb .cols) Ob × OnesGoesOn (countOf pb) (baseStep q near angles) (BaseGoesOn q near angles) near angles Q r pb (Bb .cols)
+    ones-meets-b : StepDone near Q angles pb (Bb .cols) Ob × OnesGoesOn (countOf pb) (baseStep q near angles) (BaseGoesOn q near angles) near angles Q r pb (Bb .cols)
     ones-meets-b =
         ones-meets q (baseStep q near angles) (BaseGoesOn q near angles) meets Q r low hr-b j jr-b few-b (countOf pb) pb (Bb .cols)
         (ones-ready near Q angles low r hr-b sel xs (ready .places) (λ k e. inr (ready .chosen k e)) (ready .aside) Bb first-b)
         (ones-have near Q angles low r hr-b sel xs (ready .places) (λ k e. inr (ready .chosen k e)) (ready .aside) Bb first-b) (omega arith)
 
-    second-b : Done near Q angles pb (Bb .cols) Ob
+    second-b : StepDone near Q angles pb (Bb .cols) Ob
     second-b = ones-meets-b .0
 
     bound-b : cnotsOf (Bb .laid ++ Ob .laid) ≤ 2 * ones (without Q r) * countOf sel
@@ -192,7 +192,7 @@ module _ (near : List ℕ) (angles : List ℕ) (sy : Symm near) where
         (subst (λ (u : ℕ). cnotsOf (Ob .laid) ≤ 2 * u * countOf pb) (less-one Q r low hr-b) (second-b .cnots)) (split-count r sel xs) in
         omega (arith, c, cnots-append (Bb .laid) (Ob .laid))
 
-    done-b : Done near Q angles sel xs (baseOn near angles Q sel xs q r)
+    done-b : StepDone near Q angles sel xs (baseOn near angles Q sel xs q r)
     unfolding baseOn followedBy
     done-b =
         record {
@@ -202,22 +202,22 @@ module _ (near : List ℕ) (angles : List ℕ) (sy : Symm near) where
           cnots = subst (λ (u : ℕ). cnotsOf (Bb .laid ++ Ob .laid) ≤ 2 * u * countOf sel) (sym (less-one Q r low hr-b)) bound-b;
         }
 
-    base-done : Done near Q angles sel xs (baseStep (suc q) near angles Q sel xs)
-    base-done = subst (Done near Q angles sel xs) (sym (base-on near angles Q sel xs q ne)) done-b
+    base-done : StepDone near Q angles sel xs (baseStep (suc q) near angles Q sel xs)
+    base-done = subst (StepDone near Q angles sel xs) (sym (base-on near angles Q sel xs q ne)) done-b
 
-  base-none : (q Q : ℕ) (sel : List Bool) (xs : List ℕ) → StepReady Q sel xs → countOf sel ≡ 0 → Done near Q angles sel xs (baseStep q near angles Q sel xs)
-  base-none q Q sel xs ready e = subst (Done near Q angles sel xs) (sym (base-idle near angles Q sel xs q e)) (done-idle near Q angles sel xs ready e)
+  base-none : (q Q : ℕ) (sel : List Bool) (xs : List ℕ) → StepReady Q sel xs → countOf sel ≡ 0 → StepDone near Q angles sel xs (baseStep q near angles Q sel xs)
+  base-none q Q sel xs ready e = subst (StepDone near Q angles sel xs) (sym (base-idle near angles Q sel xs q e)) (done-idle near Q angles sel xs ready e)
 
   pub base-meets : (q : ℕ) → StepMeets near angles q (baseStep q near angles) (BaseGoesOn q near angles)
   unfolding BaseGoesOn
   base-meets zero Q sel xs low j few ready = go (ℕ-discrete (countOf sel) 0)
     where
-      go : Dec (countOf sel ≡ 0) → Done near Q angles sel xs (baseStep 0 near angles Q sel xs) × (countOf sel ≡ 0)
+      go : Dec (countOf sel ≡ 0) → StepDone near Q angles sel xs (baseStep 0 near angles Q sel xs) × (countOf sel ≡ 0)
       go (yes e) = (base-none 0 Q sel xs ready e, e)
       go (no ne) = absurd (omega (arith, ready-two Q sel xs ready ne, few))
   base-meets (suc q) Q sel xs low j few ready = go (ℕ-discrete (countOf sel) 0) (base-meets q)
     where
-      go : Dec (countOf sel ≡ 0) → StepMeets near angles q (baseStep q near angles) (BaseGoesOn q near angles) → Done near Q angles sel xs (baseStep (suc q) near angles Q sel xs) × BaseGoesOn (suc q) near angles Q sel xs
+      go : Dec (countOf sel ≡ 0) → StepMeets near angles q (baseStep q near angles) (BaseGoesOn q near angles) → StepDone near Q angles sel xs (baseStep (suc q) near angles Q sel xs) × BaseGoesOn (suc q) near angles Q sel xs
       go (yes e) below = (base-none (suc q) Q sel xs ready e, λ ne. absurd (ne e))
       go (no ne) below = (
         base-done q below Q sel xs low j few ready ne,

@@ -27,7 +27,7 @@ use Rattle.steps.specs.Steps.{baseStep, stepsFor}
 use Rattle.steps.specs.Neighbours.{BaseGoesOn, GoesOn}
 use Rattle.steps.proofs.Apart.{Many, many-of, reached-zero}
 use Rattle.steps.proofs.Splits.{never-true, live-in, live-out}
-use Rattle.steps.proofs.Meets.{StepReady, Done}
+use Rattle.steps.proofs.Meets.{StepReady, StepDone}
 use Rattle.steps.proofs.Stepping.{base-meets}
 use Rattle.sets.proofs.Deciding.{never}
 use Rattle.tallies.proofs.Tallies.{cnots-append}
@@ -89,10 +89,10 @@ module _ (near : List ℕ) (Q : ℕ) (ps angles : List ℕ) (low : Q < 2 ^ 20) (
   unfolding sizeOf
   size-is = refl
 
-  meets : Done near Q angles sel ys B × BaseGoesOn (sizeOf Q) near angles Q sel ys
+  meets : StepDone near Q angles sel ys B × BaseGoesOn (sizeOf Q) near angles Q sel ys
   meets = base-meets near angles sy (sizeOf Q) Q sel ys low j (omega (arith, size-is)) ready
 
-  done : Done near Q angles sel ys B
+  done : StepDone near Q angles sel ys B
   done = meets .0
 
   struck : (k : ℕ) → getD (B .cols) k 0 ≡ 0

@@ -14,7 +14,7 @@ use Rattle.laying.specs.declared.lay.Answer.{Answer}
 use Rattle.laying.specs.declared.lay.Answer.the-variants.{Laid, Refused}
 use Rattle.judging.specs.Tests.{verdictOf}
 use Rattle.laying.specs.Answers.{circuitOf, answered, outputOf}
-use Rattle.laying.proofs.Said.{Counted, laid-says, refused-says, output-front}
+use Rattle.laying.proofs.Said.{CountsSaid, laid-says, refused-says, output-front}
 use Rattle.stretches.specs.Asked.{Accepts}
 use Rattle.stretches.specs.Laid.{stretchRecords}
 
@@ -24,7 +24,7 @@ module _ (n : ℕ) (xs s old laid : List ℕ) (lent : length old ≡ largest) (a
   alone-accepted z v d = refused-says n xs s (length old) v (sym e ∙ d) .0 (ap (λ (room : ℕ). numberOf (verdictOf n xs s room)) lent ∙ z)
 
   module _ (k c t d f : ℕ) (l : a ≡ Laid k c t d f) where
-    pub alone-counts : Counted n xs s (length old) k c t d f
+    pub alone-counts : CountsSaid n xs s (length old) k c t d f
     alone-counts = laid-says n xs s (length old) k c t d f (sym e ∙ l)
 
     pub alone-count : k ≡ length (stretchRecords n xs s)

@@ -36,28 +36,28 @@ use Rattle.stretches.proofs.Demands.{accepted-passed, all-hadamards}
 -- ---- gates on 20 qubits or fewer, with bad ones between them
 
 -- the good gates of a list, which are all that count
-record Sound (gs : List Gate) : Type 0 where
+record SoundPart (gs : List Gate) : Type 0 where
   sound : List Gate
   part : Sublist sound gs
   good : All (Good mostQubits) sound
   cnots : cnotsOf sound ≡ cnotsOf gs
 
-sound-good : (gs hs : List Gate) → All (Good mostQubits) gs → Sound hs → Sound (gs ++ hs)
+sound-good : (gs hs : List Gate) → All (Good mostQubits) gs → SoundPart hs → SoundPart (gs ++ hs)
 unfolding All cnotsOf tally
 sound-good [] hs a s = s
 sound-good (g ∷ gs) hs a s =
     let t = sound-good gs hs (a .1) s in
     record { sound = g ∷ t .sound; part = with g (t .part); good = (a .0, t .good); cnots = omega (arith, t .cnots) }
 
-sound-bad : (gs : List Gate) → Sound gs → Sound (Bad ∷ gs)
+sound-bad : (gs : List Gate) → SoundPart gs → SoundPart (Bad ∷ gs)
 unfolding cnotsOf tally
 sound-bad gs s = record { sound = s .sound; part = without Bad (s .part); good = s .good; cnots = omega (arith, s .cnots) }
 
-sound-none : Sound []
+sound-none : SoundPart []
 unfolding All
 sound-none = record { sound = []; part = none; good = tt; cnots = refl }
 
-sound-depth : (gs : List Gate) → Sound gs → depthOf gs ≡ 0 ↔ cnotsOf gs ≡ 0
+sound-depth : (gs : List Gate) → SoundPart gs → depthOf gs ≡ 0 ↔ cnotsOf gs ≡ 0
 sound-depth gs s = (λ e. sym (s .cnots) ∙ depth-none (s .sound) (s .good) .0 (omega (arith, e, depth-part (s .part))), λ e. omega (arith, e, depth-few gs))
 
 -- ---- what is laid
@@ -66,16 +66,16 @@ module _ (n : ℕ) (couplers : List ℕ) (few : n ≤ mostQubits) where
   stretch-good : (s : List ℕ) → Accepts n couplers s → All (Good mostQubits) (gatesOf n (stretchRecords n couplers s))
   stretch-good s a = all-map (Good n) (Good mostQubits) (λ g h. good-up n mostQubits g few h) (gatesOf n (stretchRecords n couplers s)) (stretch-faithful n couplers s largest a .good)
 
-  woven-sound : (ss : List (List ℕ)) (hs : List ℕ) → All (Accepts n couplers) ss → All (λ x. isHadamard n x ≡ true) hs → Sound (gatesOf n (weave (map (stretchRecords n couplers) ss) hs))
+  woven-sound : (ss : List (List ℕ)) (hs : List ℕ) → All (Accepts n couplers) ss → All (λ x. isHadamard n x ≡ true) hs → SoundPart (gatesOf n (weave (map (stretchRecords n couplers) ss) hs))
   unfolding weave All
   woven-sound [] hs a b = sound-none
-  woven-sound (s ∷ ss) [] a b = subst Sound (append-nil (gatesOf n (stretchRecords n couplers s))) (sound-good (gatesOf n (stretchRecords n couplers s)) [] (stretch-good s (a .0)) sound-none)
+  woven-sound (s ∷ ss) [] a b = subst SoundPart (append-nil (gatesOf n (stretchRecords n couplers s))) (sound-good (gatesOf n (stretchRecords n couplers s)) [] (stretch-good s (a .0)) sound-none)
   woven-sound (s ∷ ss) (h ∷ hs) a b =
       let R : List ℕ = stretchRecords n couplers s in
       let W : List ℕ = weave (map (stretchRecords n couplers) ss) hs in
-      subst Sound (sym (map-append (gateOf n) R (h ∷ W)))
+      subst SoundPart (sym (map-append (gateOf n) R (h ∷ W)))
       (sound-good (gatesOf n R) (gatesOf n (h ∷ W)) (stretch-good s (a .0))
-      (subst (λ (g : Gate). Sound (g ∷ gatesOf n W)) (sym (hadamard-bad n h (b .0))) (sound-bad (gatesOf n W) (woven-sound ss hs (a .1) (b .1)))))
+      (subst (λ (g : Gate). SoundPart (g ∷ gatesOf n W)) (sym (hadamard-bad n h (b .0))) (sound-bad (gatesOf n W) (woven-sound ss hs (a .1) (b .1)))))
 
 module _ (n : ℕ) (couplers gates : List ℕ) (room : ℕ) where
   abbrev answer : Answer
@@ -87,7 +87,7 @@ module _ (n : ℕ) (couplers gates : List ℕ) (room : ℕ) where
   abbrev laid : List Gate
   laid = gatesOf n (jobRecords n couplers gates)
 
-  laid-sound : numberOf verdict ≡ 0 → Sound laid
+  laid-sound : numberOf verdict ≡ 0 → SoundPart laid
   unfolding jobRecords
   laid-sound z = let p = accepted-passed n couplers gates room z in woven-sound n couplers (p .few) (stretchesOf n gates) (hadamardsOf n gates) (p .accepts) (all-hadamards n couplers gates p)
 

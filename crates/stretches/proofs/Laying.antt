@@ -57,7 +57,7 @@ module _ (n : ℕ) (couplers xs : List ℕ) where
   abbrev later : ℕ → List ℕ
   later k = laidFrom n couplers xs k
 
-  pub record Laying (out₀ : List ℕ) (k : ℕ) (out : List ℕ) (at phase : ℕ) : Type 0 where
+  pub record LayingJob (out₀ : List ℕ) (k : ℕ) (out : List ℕ) (at phase : ℕ) : Type 0 where
     pub within : k ≤ length xs + 1
     pub accepts : All (Accepts n couplers) (restFrom n xs k)
     pub size : length out ≡ length out₀
@@ -71,7 +71,7 @@ module _ (n : ℕ) (couplers xs : List ℕ) where
   phases-small [] = omega arith
   phases-small (s ∷ ss) = omega arith
 
-  pub laying-none : (out : List ℕ) → All (Accepts n couplers) (stretchesOf n xs) → Laying out 0 out 0 0
+  pub laying-none : (out : List ℕ) → All (Accepts n couplers) (stretchesOf n xs) → LayingJob out 0 out 0 0
   unfolding jobPhase phases
   laying-none out c = record {
     within = omega arith;
@@ -83,7 +83,7 @@ module _ (n : ℕ) (couplers xs : List ℕ) where
     due = ap (λ (ss : List (List ℕ)). (0 + phasesOf n ss) % 131072) (rest-start n xs) ∙ omega (arith, phases-small (stretchesOf n xs));
   }
 
-  pub laying-end : (out₀ : List ℕ) (k : ℕ) (out : List ℕ) (at phase : ℕ) → length xs < k → Laying out₀ k out at phase
+  pub laying-end : (out₀ : List ℕ) (k : ℕ) (out : List ℕ) (at phase : ℕ) → length xs < k → LayingJob out₀ k out at phase
       → (at ≡ length J) × (phase ≡ jobPhase n xs) × (out ≡ sets out₀ 0 J)
   unfolding phasesOf phases
   laying-end out₀ k out at phase l r =
@@ -94,7 +94,7 @@ module _ (n : ℕ) (couplers xs : List ℕ) where
         sym (ap (sets out at) e) ∙ r .memory,
       )
 
-  module _ (out₀ : List ℕ) (k : ℕ) (out : List ℕ) (at phase : ℕ) (r : Laying out₀ k out at phase) (l : k ≤ length xs) (s : List ℕ) (e : s ≡ stretchAt n xs k) where
+  module _ (out₀ : List ℕ) (k : ℕ) (out : List ℕ) (at phase : ℕ) (r : LayingJob out₀ k out at phase) (l : k ≤ length xs) (s : List ℕ) (e : s ≡ stretchAt n xs k) where
     abbrev L : List ℕ
     L = stretchRecords n couplers s
 
@@ -137,7 +137,7 @@ module _ (n : ℕ) (couplers xs : List ℕ) where
       phase-small = omega (arith, d)
 
       module _ (out′ out″ : List ℕ) (at′ at″ : ℕ) (h : List ℕ) (hd : h ≡ H) (a : out′ ≡ sets out at L) (b : at′ ≡ at + length L) (a′ : out″ ≡ sets out′ at′ h) (b′ : at″ ≡ at′ + length h) where
-        pub laying-next : Laying out₀ next out″ at″ phase′
+        pub laying-next : LayingJob out₀ next out″ at″ phase′
         laying-next = record {
           within = omega (arith, lent-within n xs k s e l);
           accepts = all-tail (Accepts n couplers) s (restFrom n xs next) all;

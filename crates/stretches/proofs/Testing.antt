@@ -102,23 +102,23 @@ module _ (n : ℕ) (couplers : List ℕ) where
   abbrev Six : List ℕ → Type 0
   Six s = numberOf (judgedSix n couplers s) ≡ 0
 
-  abbrev Reaches : List ℕ → Type 0
-  Reaches s = Reachable n couplers (gatesOf n s)
+  abbrev CanReach : List ℕ → Type 0
+  CanReach s = Reachable n couplers (gatesOf n s)
 
   -- of a stretch whose first gate has the place k, past test 6
-  reach-at : (k : ℕ) (s : List ℕ) → Six s → Tests (judgedReachAt n isls k s) 7 (Reaches s) (Reaches s → ⊥) (λ p. p ≡ k)
+  reach-at : (k : ℕ) (s : List ℕ) → Six s → Tests (judgedReachAt n isls k s) 7 (CanReach s) (CanReach s → ⊥) (λ p. p ≡ k)
   unfolding judgedReachAt
   reach-at k s z = record { decided = go (eqb (numberOf reach) 0) refl; apart = λ p f. f p; refuses = omega arith }
     where
       reach : Verdict
       reach = judgedReach n isls (gatesOf n s)
 
-      go : (b : Bool) → eqb (numberOf reach) 0 ≡ b → let v = pick b Accepted (Unreachable k) in ((numberOf v ≡ 0) × Reaches s) ⊎ ((numberOf v ≡ 7) × (Reaches s → ⊥) × (placeOf v ≡ k))
+      go : (b : Bool) → eqb (numberOf reach) 0 ≡ b → let v = pick b Accepted (Unreachable k) in ((numberOf v ≡ 0) × CanReach s) ⊎ ((numberOf v ≡ 7) × (CanReach s → ⊥) × (placeOf v ≡ k))
       go true e = inl (refl, row-passes (reach-tests n couplers s largest z) .exactly .0 (eqb-true (numberOf reach) 0 e))
       go false e = inr (refl, λ r. eqb-false (numberOf reach) 0 e (row-passes (reach-tests n couplers s largest z) .exactly .1 r), refl)
 
   -- of stretches with a Hadamard between each and the next
-  reach-from : (k : ℕ) (ss : List (List ℕ)) → All Six ss → Tests (judgedReachFrom n isls k ss) 7 (All Reaches ss) (All Reaches ss → ⊥) (UnreachedFrom n couplers k ss)
+  reach-from : (k : ℕ) (ss : List (List ℕ)) → All Six ss → Tests (judgedReachFrom n isls k ss) 7 (All CanReach ss) (All CanReach ss → ⊥) (UnreachedFrom n couplers k ss)
   unfolding judgedReachFrom UnreachedFrom All
   reach-from k [] z = tests-end 7 (omega arith)
   reach-from k (s ∷ ss) z = tests-then (reach-at k s (z .0)) (reach-from (k + length s + 1) ss (z .1)) (λ p f a. (a, f))
@@ -140,7 +140,7 @@ module _ (n : ℕ) (couplers : List ℕ) where
           → Tests (pick b (judgedReach n isls (gatesOf n gates)) (judgedReachFrom n isls 0 (stretchesOf n gates))) 7 (ReachableJob n couplers gates) (ReachableJob n couplers gates → ⊥) (Unreached n couplers gates)
       go true e =
           let one = none-one n gates (eqb-true (length hs) 0 e) in
-          tests-as (reach-tests n couplers gates largest (all-head Six gates [] (subst (All Six) one z))) (λ r. subst (All Reaches) (sym one) (all-one Reaches gates r)) (λ r. all-head Reaches gates [] (subst (All Reaches) one r))
+          tests-as (reach-tests n couplers gates largest (all-head Six gates [] (subst (All Six) one z))) (λ r. subst (All CanReach) (sym one) (all-one CanReach gates r)) (λ r. all-head CanReach gates [] (subst (All CanReach) one r))
           (λ p f a. record { one = λ x. a; more = λ x. absurd (x (empty hs (eqb-true (length hs) 0 e))) })
       go false e = tests-as (reach-from 0 (stretchesOf n gates) z) (λ r. r) (λ r. r) (λ p f a. record { one = λ x. absurd (eqb-false (length hs) 0 e (ap length x)); more = λ x. a })
 

@@ -68,34 +68,34 @@ part-between (x ∷ f) g h = without x (part-between f g h)
 -- ---- no part is deeper than the whole
 
 -- on no wire are the layers L later than the layers M
-data Below : List ℕ → List ℕ → Type 0 where
-  no-wire : Below [] []
-  wire : {x y : ℕ} {L M : List ℕ} → x ≤ y → Below L M → Below (x ∷ L) (y ∷ M)
+data NotLater : List ℕ → List ℕ → Type 0 where
+  no-wire : NotLater [] []
+  wire : {x y : ℕ} {L M : List ℕ} → x ≤ y → NotLater L M → NotLater (x ∷ L) (y ∷ M)
 
-below-same : (L : List ℕ) → Below L L
+below-same : (L : List ℕ) → NotLater L L
 below-same [] = no-wire
 below-same (x ∷ L) = wire (le-refl x) (below-same L)
 
-below-at : {L M : List ℕ} → Below L M → (k : ℕ) → getD L k 0 ≤ getD M k 0
+below-at : {L M : List ℕ} → NotLater L M → (k : ℕ) → getD L k 0 ≤ getD M k 0
 below-at no-wire k = omega arith
 below-at (wire h b) zero = h
 below-at (wire h b) (suc k) = below-at b k
 
-below-highest : {L M : List ℕ} → Below L M → highest L ≤ highest M
+below-highest : {L M : List ℕ} → NotLater L M → highest L ≤ highest M
 unfolding highest
 below-highest no-wire = omega arith
 below-highest (wire h b) = omega (arith, h, below-highest b)
 
-below-set : {L M : List ℕ} (k v w : ℕ) → Below L M → v ≤ w → Below (set L k v) (set M k w)
+below-set : {L M : List ℕ} (k v w : ℕ) → NotLater L M → v ≤ w → NotLater (set L k v) (set M k w)
 below-set k v w no-wire l = no-wire
 below-set zero v w (wire h b) l = wire l b
 below-set (suc k) v w (wire h b) l = wire h (below-set k v w b l)
 
-below-put : {L M : List ℕ} (k w : ℕ) → Below L M → getD L k 0 ≤ w → Below L (set M k w)
-below-put {L} {M} k w b l = subst (λ (N : List ℕ). Below N (set M k w)) (set-getD L k 0) (below-set k (getD L k 0) w b l)
+below-put : {L M : List ℕ} (k w : ℕ) → NotLater L M → getD L k 0 ≤ w → NotLater L (set M k w)
+below-put {L} {M} k w b l = subst (λ (N : List ℕ). NotLater N (set M k w)) (set-getD L k 0) (below-set k (getD L k 0) w b l)
 
 -- a gate keeps the order of the layers it finds
-below-layered : {L M : List ℕ} (g : Gate) → Below L M → Below (layered g L) (layered g M)
+below-layered : {L M : List ℕ} (g : Gate) → NotLater L M → NotLater (layered g L) (layered g M)
 unfolding layered raised
 below-layered {L} {M} (Cnot c t) b =
     let v : ℕ = suc (max (getD L c 0) (getD L t 0)) in
@@ -107,7 +107,7 @@ below-layered (X q) b = b
 below-layered Bad b = b
 
 -- no gate makes a layer earlier
-below-later : {L M : List ℕ} (g : Gate) → Below L M → Below L (layered g M)
+below-later : {L M : List ℕ} (g : Gate) → NotLater L M → NotLater L (layered g M)
 unfolding layered raised
 below-later {L} {M} (Cnot c t) b =
     let w : ℕ = suc (max (getD M c 0) (getD M t 0)) in
@@ -116,7 +116,7 @@ below-later (Rotation q a) b = b
 below-later (X q) b = b
 below-later Bad b = b
 
-layers-part : {part gs : List Gate} {L M : List ℕ} → Sublist part gs → Below L M → Below (layersFrom part L) (layersFrom gs M)
+layers-part : {part gs : List Gate} {L M : List ℕ} → Sublist part gs → NotLater L M → NotLater (layersFrom part L) (layersFrom gs M)
 unfolding layersFrom
 layers-part none b = b
 layers-part (with g p) b = layers-part p (below-layered g b)

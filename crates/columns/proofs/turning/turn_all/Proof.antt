@@ -1,13 +1,13 @@
 -- `columns::turning::turn_all` meets its contract: the columns passed are turned, the others stand as they did. Assumes nothing.
 use Prim.Native.Nat.{_≤_, _-_}
 use lib.ListN.{length}
-use Rattle.columns.proofs.Turns.{Turned, turned-none, turned-next, turned-all}
+use Rattle.columns.proofs.Turns.{TurnedUpTo, turned-none, turned-next, turned-all}
 use borrow.Author.Needs.{needs}
 use Rattle.columns.proofs.turning.turn_all.Statement.{statement}
 use Rattle.columns.proofs.turning.turn_all.Tie as tie
 
 abbrev Inv-loop : tie.InvT-loop
-Inv-loop cols₀ control target k₀ k-end cols k = (k ≤ length cols₀) × Turned control target cols₀ k cols
+Inv-loop cols₀ control target k₀ k-end cols k = (k ≤ length cols₀) × TurnedUpTo control target cols₀ k cols
 
 abbrev μ-loop : tie.MeasureT-loop
 μ-loop cols₀ control target k₀ k-end cols k = length cols₀ - k

@@ -1,13 +1,13 @@
 -- `nearest::orders::from_all` meets its contract: the rows so far. Assumes nothing.
 use Prim.Native.Nat.{_-_, _≤_}
-use Rattle.nearest.proofs.Tabled.{Rows, rows-start, rows-next, rows-all}
+use Rattle.nearest.proofs.Tabled.{RowsListed, rows-start, rows-next, rows-all}
 use borrow.Author.Needs.{needs}
 use native.Mathlib.Omega.{arith}
 use Rattle.nearest.proofs.orders.from_all.Statement.{statement}
 use Rattle.nearest.proofs.orders.from_all.Tie as tie
 
 abbrev Inv-loop : tie.InvT-loop
-Inv-loop near set qubit₀ len₀ v₀ qubit len v = (v ≤ 20) × Rows near set v qubit len
+Inv-loop near set qubit₀ len₀ v₀ qubit len v = (v ≤ 20) × RowsListed near set v qubit len
 
 abbrev μ-loop : tie.MeasureT-loop
 μ-loop near set qubit₀ len₀ v₀ qubit len v = 20 - v

@@ -3,13 +3,13 @@ use mathlib.Core.Path.{_≡_, refl, sym, _∙_, subst}
 use mathlib.Core.Logic.{⊎-elim}
 use Prim.Native.Nat.{_-_, _≤_, min}
 use lib.ListN.{length}
-use Rattle.steps.proofs.Selecting.{Rows, rows-none, rows-few, rows-tallied, rows-passed, rows-all}
+use Rattle.steps.proofs.Selecting.{RowsCounted, rows-none, rows-few, rows-tallied, rows-passed, rows-all}
 use borrow.Author.Needs.{needs}
 use Rattle.steps.proofs.selection.rows.Statement.{statement}
 use Rattle.steps.proofs.selection.rows.Tie as tie
 
 abbrev Inv-loop : tie.InvT-loop
-Inv-loop cols sel z₀ n k₀ z k = (k ≤ n) × (n ≡ min (length cols) 256) × Rows sel cols k z
+Inv-loop cols sel z₀ n k₀ z k = (k ≤ n) × (n ≡ min (length cols) 256) × RowsCounted sel cols k z
 
 abbrev μ-loop : tie.MeasureT-loop
 μ-loop cols sel z₀ n k₀ z k = n - k
@@ -44,7 +44,7 @@ loop-again c =
       search needs,
       at .inv .1,
       ⊎-elim (λ w. rows-tallied _ _ (at .k) _ (at .z) _ (w .0 .taken) refl (w .3 ∙ w .2 .ensures) (at .inv .2))
-          (λ w. subst (Rows _ _ _) (sym (w .1)) (rows-passed _ _ (at .k) (at .z) (w .0 .left) (at .inv .2))) (c .if1 .came),
+          (λ w. subst (RowsCounted _ _ _) (sym (w .1)) (rows-passed _ _ (at .k) (at .z) (w .0 .left) (at .inv .2))) (c .if1 .came),
     )
 
 returns : tie.Need-returns Inv-loop μ-loop

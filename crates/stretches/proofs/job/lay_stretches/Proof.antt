@@ -3,7 +3,7 @@ use Prim.Native.Nat.{_+_, _-_}
 use lib.ListN.{length}
 use native.Mathlib.Omega.{arith}
 use Rattle.stretches.proofs.Judging.{lent-within}
-use Rattle.stretches.proofs.Laying.{Laying, laying-none, laying-accepts, laying-fits, behind-fits, laying-next, laying-end}
+use Rattle.stretches.proofs.Laying.{LayingJob, laying-none, laying-accepts, laying-fits, behind-fits, laying-next, laying-end}
 use borrow.Author.Needs.{needs}
 use Rattle.stretches.proofs.job.lay_stretches.Statement.{statement}
 use Rattle.stretches.proofs.job.lay_stretches.Tie as tie
@@ -14,7 +14,7 @@ use Rattle.stretches.proofs.job.lay_stretch.Reads as lay-stretch-reads
 use Rattle.stretches.proofs.job.store_records.Reads as store-records-reads
 
 abbrev Inv-loop : tie.InvT-loop
-Inv-loop n couplers gates out₀ at₀ phase₀ from₀ out at phase from = Laying n couplers gates out₀ from out at phase
+Inv-loop n couplers gates out₀ at₀ phase₀ from₀ out at phase from = LayingJob n couplers gates out₀ from out at phase
 
 abbrev μ-loop : tie.MeasureT-loop
 μ-loop n couplers gates out₀ at₀ phase₀ from₀ out at phase from = length gates + 1 - from
