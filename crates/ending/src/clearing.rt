@@ -7,6 +7,7 @@ use gathering::gather::Order;
 ghost use mathlib.Core.Path.{_≡_};
 ghost use Prim.Native.Nat.{_≤_, _<_};
 ghost use mathlib.Core.Bool.{not};
+ghost use Rattle.gates.specs.Limits.{mostQubits};
 ghost use Rattle.gathering.specs.Order.{orderOf, orderIn};
 ghost use Rattle.gathering.specs.Gather.{movesIn, cnotsFrom, turns, mostMoves};
 ghost use Rattle.ending.specs.Mirror.{seen};
@@ -34,7 +35,7 @@ pub struct Standing {
 
 // The asked row of v, or its mirror row.
 fn row(asked: [u32; Job::QUBITS], mirror: [u32; Job::QUBITS], v: usize, mirrored: bool) -> u32
-    requires { ⌜ v < 20 ⌝ }
+    requires { ⌜ v < mostQubits ⌝ }
     ensures { λ r. ⌜ r ≡ rowAt asked mirror v mirrored ⌝ }
 {
     if mirrored { mirror[v] } else { asked[v] }
@@ -74,7 +75,7 @@ pub(crate) fn lead(
     mirror: [u32; Job::QUBITS],
     choice: Clearing,
 ) -> Moves
-    requires { ⌜ choice .qubit < 20 ⌝ }
+    requires { ⌜ choice .qubit < mostQubits ⌝ }
     ensures { λ r. ⌜ r ≡ movesIn (seen (choice .mirrored) (firstMoves near set asked mirror choice)) ⌝ }
 {
     let v = choice.qubit;
@@ -90,7 +91,7 @@ pub(crate) fn trail(
     mirror: [u32; Job::QUBITS],
     choice: Clearing,
 ) -> Moves
-    requires { ⌜ choice .qubit < 20 ⌝ }
+    requires { ⌜ choice .qubit < mostQubits ⌝ }
     ensures { λ r. ⌜ r ≡ movesIn (seen (not (choice .mirrored)) (secondMoves near set asked mirror choice)) ⌝ }
 {
     let v = choice.qubit;
@@ -108,7 +109,7 @@ fn cost(
     order: Order,
     choice: Clearing,
 ) -> usize
-    requires { ⌜ (choice .qubit < 20) × (order ≡ orderIn (orderOf near set (choice .qubit))) ⌝ }
+    requires { ⌜ (choice .qubit < mostQubits) × (order ≡ orderIn (orderOf near set (choice .qubit))) ⌝ }
     ensures { λ r. ⌜ r ≡ costOf near set asked mirror choice ⌝ }
 {
     let v = choice.qubit;
@@ -146,7 +147,7 @@ fn better(
     v: usize,
     best: Best,
 ) -> Best
-    requires { ⌜ v < 20 ⌝ }
+    requires { ⌜ v < mostQubits ⌝ }
     ensures { λ r. ⌜ r ≡ cheapestIn (costOf near set asked mirror) best (choicesAt near set v) ⌝ }
 {
     if spares::spare::spare(near, set, v) {
@@ -190,7 +191,7 @@ pub(crate) fn taken(
     mirror: [u32; Job::QUBITS],
     choice: Clearing,
 ) -> Standing
-    requires { ⌜ choice .qubit < 20 ⌝ }
+    requires { ⌜ choice .qubit < mostQubits ⌝ }
     ensures { λ r. ⌜ r ≡ takenOf asked mirror (outOf near set asked mirror choice) ⌝ }
 {
     let first = lead(near, set, asked, mirror, choice);

@@ -13,6 +13,7 @@ ghost use mathlib.Core.List.{[], _∷_};
 ghost use Prim.Native.Nat.{_≤_, _<_};
 ghost use lib.Dec.{ltb};
 ghost use lib.ListN.{length};
+ghost use Rattle.gates.specs.Limits.{mostQubits};
 ghost use Rattle.gates.specs.Layout.{gatesOf};
 ghost use Rattle.emitting.specs.Emit.{Emits};
 ghost use Rattle.gathering.specs.Gather.{cnotsFrom, mostMoves};
@@ -49,7 +50,7 @@ fn put_out(
     out: &mut [u32],
     at: usize,
 ) -> usize
-    requires { ⌜ choice .qubit < 20 ⌝ }
+    requires { ⌜ choice .qubit < mostQubits ⌝ }
     ensures { λ r. ⌜ Emits (now (out .entry)) at (outOf near set asked mirror choice) (now (out .exit)) r ⌝ }
 {
     let first = clearing::lead(near, set, asked, mirror, choice);
@@ -122,7 +123,7 @@ fn put_cnot_of(out: &mut [u32], at: usize, g: Gate) -> usize
 
 // The CNOTs of the records in reverse.
 fn put_back(out: &mut [u32], at: usize, laid: &[u32]) -> usize
-    ensures { λ r. ⌜ Emits (now (out .entry)) at (backOf (gatesOf 20 (now (laid .entry)))) (now (out .exit)) r ⌝ }
+    ensures { λ r. ⌜ Emits (now (out .entry)) at (backOf (gatesOf mostQubits (now (laid .entry)))) (now (out .exit)) r ⌝ }
 {
     let mut next = at;
     let mut k = laid.len();
@@ -149,7 +150,7 @@ fn one(g: Gate) -> usize
 }
 
 fn cnots(laid: &[u32]) -> usize
-    ensures { λ r. ⌜ r ≡ length (backOf (gatesOf 20 (now (laid .entry)))) ⌝ }
+    ensures { λ r. ⌜ r ≡ length (backOf (gatesOf mostQubits (now (laid .entry)))) ⌝ }
 {
     let mut n = 0;
     for i in 0..laid.len() {
@@ -168,7 +169,7 @@ fn back_is_shorter(
     laid: &[u32],
     onward: usize,
 ) -> bool
-    ensures { λ r. ⌜ r ≡ ltb (length (backFirst near set asked mirror (gatesOf 20 (now (laid .entry))))) onward ⌝ }
+    ensures { λ r. ⌜ r ≡ ltb (length (backFirst near set asked mirror (gatesOf mostQubits (now (laid .entry))))) onward ⌝ }
 {
     let back = cnots(laid);
     if back < onward {
@@ -188,7 +189,7 @@ pub fn close(
     out: &mut [u32],
     at: usize,
 ) -> usize
-    ensures { λ r. ⌜ Emits (now (out .entry)) at (closingOf near set asked mirror (gatesOf 20 (now (laid .entry)))) (now (out .exit)) r ⌝ }
+    ensures { λ r. ⌜ Emits (now (out .entry)) at (closingOf near set asked mirror (gatesOf mostQubits (now (laid .entry)))) (now (out .exit)) r ⌝ }
 {
     let asked_now = rows::replayed_all(asked, laid, false);
     let mirror_now = rows::replayed_all(mirror, laid, true);

@@ -7,6 +7,7 @@ use gathering::gather;
 ghost use mathlib.Core.Path.{_≡_};
 ghost use mathlib.Core.List.{[], _∷_, map};
 ghost use Prim.Native.Nat.{_≤_};
+ghost use Rattle.gates.specs.Limits.{mostQubits};
 ghost use Rattle.gates.specs.Layout.{gatesOf};
 ghost use Rattle.gathering.specs.Gather.{cnotsFrom, turns, mostMoves};
 ghost use Rattle.ending.specs.Mirror.{seen};
@@ -73,7 +74,7 @@ pub(crate) fn replayed_all(
     laid: &[u32],
     mirror: bool,
 ) -> [u32; Job::QUBITS]
-    ensures { λ r. ⌜ r ≡ map (turns (seen mirror (gatesOf 20 (now (laid .entry))))) rows ⌝ }
+    ensures { λ r. ⌜ r ≡ map (turns (seen mirror (gatesOf mostQubits (now (laid .entry))))) rows ⌝ }
 {
     let mut all = rows;
     for i in 0..laid.len() {

@@ -7,12 +7,13 @@ use verdicts::verdict;
 use verdicts::verdict::Verdict;
 ghost use mathlib.Core.Path.{_≡_};
 ghost use Prim.Native.Nat.{_≤_};
+ghost use Rattle.gates.specs.Limits.{mostQubits};
 ghost use Rattle.gates.specs.Layout.{gatesOf};
 ghost use Rattle.judging.specs.Tests.{judgedMeaning, verdictOn};
 
 // Tests 6, 7 and 8.
 fn judge_inside(n: usize, islands: [u32; Job::QUBITS], gates: &[u32], room: usize) -> Verdict
-    requires { ⌜ n ≤ 20 ⌝ }
+    requires { ⌜ n ≤ mostQubits ⌝ }
     ensures { λ r. ⌜ r ≡ judgedMeaning n islands (gatesOf n (now (gates .entry))) room ⌝ }
 {
     let told = told::tell(gates, n);

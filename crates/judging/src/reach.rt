@@ -4,11 +4,12 @@ use share::own;
 ghost use mathlib.Core.Path.{_≡_};
 ghost use Prim.Native.Nat.{_≤_, _<_};
 ghost use lib.ListN.{getD, take};
+ghost use Rattle.gates.specs.Limits.{mostQubits, mostParities};
 ghost use Rattle.sets.specs.Size.{lowestOf};
 ghost use Rattle.judging.specs.Tests.{leavesAt, strayAt, scatters, scattered};
 
 fn leaves(islands: [u32; Job::QUBITS], parity: [u32; Job::QUBITS], i: usize) -> bool
-    requires { ⌜ i < 20 ⌝ }
+    requires { ⌜ i < mostQubits ⌝ }
     ensures { λ r. ⌜ r ≡ leavesAt islands parity i ⌝ }
 {
     if own::inside(islands[i], parity[i]) {
@@ -20,7 +21,7 @@ fn leaves(islands: [u32; Job::QUBITS], parity: [u32; Job::QUBITS], i: usize) -> 
 
 // The lowest wire whose parity leaves its island; n where there is none.
 pub(crate) fn stray(n: usize, islands: [u32; Job::QUBITS], parity: [u32; Job::QUBITS]) -> usize
-    requires { ⌜ n ≤ 20 ⌝ }
+    requires { ⌜ n ≤ mostQubits ⌝ }
     ensures { λ r. ⌜ r ≡ strayAt n islands parity ⌝ }
 {
     for i in 0..n {
@@ -54,7 +55,7 @@ pub(crate) fn some_scattered(
     parity: [u32; Job::PARITIES],
     len: usize,
 ) -> bool
-    requires { ⌜ len ≤ 256 ⌝ }
+    requires { ⌜ len ≤ mostParities ⌝ }
     ensures { λ r. ⌜ r ≡ scattered islands (take len parity) ⌝ }
 {
     for k in 0..len {

@@ -6,6 +6,7 @@ ghost use mathlib.Core.Path.{_≡_};
 ghost use mathlib.Core.Bool.{true};
 ghost use Prim.Native.Nat.{_+_, _-_, _*_, _≤_, _<_, min};
 ghost use lib.ListN.{length, getD, drop};
+ghost use Rattle.gates.specs.Limits.{mostQubits};
 ghost use Rattle.sets.specs.Bit.{has};
 ghost use Rattle.gathering.specs.Gather.{gatherFrom};
 ghost use Rattle.nearest.specs.Choice.{triedAt, overQubits, chosen, outAt, leastOf, detourOf};
@@ -85,7 +86,7 @@ fn count(
     x: u32,
     most: usize,
 ) -> usize
-    requires { ⌜ (from ≤ 400) × (1 ≤ len) × (len ≤ 20) × Whenever whole (Whole (now near) (now order) from (len - 1) set x) ⌝ }
+    requires { ⌜ (from ≤ mostQubits * mostQubits) × (1 ≤ len) × (len ≤ mostQubits) × Whenever whole (Whole (now near) (now order) from (len - 1) set x) ⌝ }
     ensures { λ r. ⌜ r ≡ min most (length (gatherFrom (now (near .entry)) (drop from (now (order .entry))) (len - 1) set x)) ⌝ }
 {
     let mut k = len - 1;
@@ -121,7 +122,7 @@ fn tried(
     v: usize,
     b: Choice,
 ) -> Choice
-    requires { ⌜ AllOrderly (now near) set (now order) (now len) × (v < 20) × (has x v ≡ true) × Whenever whole (Works (now near) set x) ⌝ }
+    requires { ⌜ AllOrderly (now near) set (now order) (now len) × (v < mostQubits) × (has x v ≡ true) × Whenever whole (Works (now near) set x) ⌝ }
     ensures { λ r. ⌜ r ≡ triedAt (now (near .entry)) set k x v b ⌝ }
 {
     let n = count(
@@ -156,7 +157,7 @@ fn over_qubits(
     b: Choice,
 ) -> Choice
     requires { ⌜ AllOrderly (now near) set (now order) (now len) × Whenever whole (Works (now near) set x) ⌝ }
-    ensures { λ r. ⌜ r ≡ overQubits (now (near .entry)) set k x 20 0 b ⌝ }
+    ensures { λ r. ⌜ r ≡ overQubits (now (near .entry)) set k x mostQubits 0 b ⌝ }
 {
     let mut best = b;
     let mut left = x;
@@ -183,7 +184,7 @@ fn over_column(
     b: Choice,
 ) -> Choice
     requires { ⌜ AllOrderly (now near) set (now order) (now len) × Whenever sure (Sure (now near) set) ⌝ }
-    ensures { λ r. ⌜ r ≡ overQubits (now (near .entry)) set k x 20 0 b ⌝ }
+    ensures { λ r. ⌜ r ≡ overQubits (now (near .entry)) set k x mostQubits 0 b ⌝ }
 {
     if sure {
         if x & set == x {

@@ -5,6 +5,7 @@ use columns::turning;
 use gates::job::Job;
 ghost use mathlib.Core.Path.{_≡_};
 ghost use lib.ListN.{take};
+ghost use Rattle.gates.specs.Limits.{mostParities};
 ghost use Rattle.emitting.specs.Emit.{Emits};
 ghost use Rattle.columns.specs.Pieces.{held, wrote};
 ghost use Rattle.nearest.specs.Nearest.{rounds, nearestFor};
@@ -29,7 +30,7 @@ fn all_rounds(
     at: usize,
 ) -> usize
     requires { ⌜ AllOrderly near set (now order) (now len) × Whenever sure (Sure near set) ⌝ }
-    ensures { λ r. ⌜ held (now (cols .exit)) (now (out .exit)) r ≡ wrote (now (out .entry)) at (rounds 256 near (now (angles .entry)) set (now (cols .entry))) ⌝ }
+    ensures { λ r. ⌜ held (now (cols .exit)) (now (out .exit)) r ≡ wrote (now (out .entry)) at (rounds mostParities near (now (angles .entry)) set (now (cols .entry))) ⌝ }
 {
     let mut a = at;
     let mut left = Job::PARITIES;

@@ -4,6 +4,7 @@ use gathering::gather;
 ghost use mathlib.Core.Path.{_≡_};
 ghost use Prim.Native.Nat.{_*_, _<_};
 ghost use lib.Seq.{sets};
+ghost use Rattle.gates.specs.Limits.{mostQubits};
 ghost use Rattle.nearest.specs.Orders.{AllOrderly};
 
 const ROOM: usize = Job::QUBITS * Job::QUBITS;
@@ -15,8 +16,8 @@ pub struct Orders {
 }
 
 fn with_row(qubit: [usize; ROOM], v: usize, row: [usize; Job::QUBITS]) -> [usize; ROOM]
-    requires { ⌜ v < 20 ⌝ }
-    ensures { λ z. ⌜ z ≡ sets qubit (20 * v) row ⌝ }
+    requires { ⌜ v < mostQubits ⌝ }
+    ensures { λ z. ⌜ z ≡ sets qubit (mostQubits * v) row ⌝ }
 {
     let mut z = qubit;
     for k in 0..Job::QUBITS {

@@ -3,6 +3,7 @@
 use gates::job::Job;
 use spares::spare;
 ghost use Prim.Native.Nat.{_<_};
+ghost use Rattle.gates.specs.Limits.{mostQubits};
 ghost use Rattle.chip.specs.Graph.{Symm};
 ghost use Rattle.nearest.specs.Sure.{Sure, Answered, Mutual, Whenever};
 
@@ -11,7 +12,7 @@ const ABOVE: u32 = 1048576;
 
 // u, where v is a neighbour of it, is one of v.
 fn answered(near: [u32; Job::QUBITS], u: usize, v: usize) -> bool
-    requires { ⌜ (u < 20) × (v < 20) ⌝ }
+    requires { ⌜ (u < mostQubits) × (v < mostQubits) ⌝ }
     ensures { λ r. ⌜ Whenever r (Answered near u v) ⌝ }
 {
     if sets::holds(near[u], v) {
@@ -21,7 +22,7 @@ fn answered(near: [u32; Job::QUBITS], u: usize, v: usize) -> bool
 }
 
 fn mutual_at(near: [u32; Job::QUBITS], u: usize) -> bool
-    requires { ⌜ u < 20 ⌝ }
+    requires { ⌜ u < mostQubits ⌝ }
     ensures { λ r. ⌜ Whenever r (Mutual near u) ⌝ }
 {
     if ABOVE <= near[u] {

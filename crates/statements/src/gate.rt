@@ -12,6 +12,7 @@ ghost use mathlib.Core.List.{List};
 ghost use mathlib.Core.Option.{some};
 ghost use Prim.Native.Nat.{ℕ, _≤_};
 ghost use lib.ListN.{drop};
+ghost use Rattle.statements.specs.Limits.{mostQubit};
 ghost use Rattle.words.specs.Words.{words};
 ghost use Rattle.words.specs.Places.{wordsAt, gotWords};
 ghost use Rattle.statements.specs.Forms.{halfTaken};
@@ -117,7 +118,7 @@ fn half_taken(version: Version, angle: u32) -> u32
 
 // The rotation's record has its angle modulo one turn.
 fn rotated(turn: Turning, phase: u32) -> Stated
-    requires { ⌜ turn .qubit ≤ 255 ⌝ }
+    requires { ⌜ turn .qubit ≤ mostQubit ⌝ }
     ensures { λ r. ⌜ ((s : List ℕ) → saidAt s r ≡ rotated phase (turnAt s turn)) ⌝ }
 {
     let next = turn.next;

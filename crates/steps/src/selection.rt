@@ -4,7 +4,7 @@ use gates::job::Job;
 ghost use mathlib.Core.Path.{_≡_};
 ghost use Prim.Native.Nat.{_+_, _≤_};
 ghost use Rattle.sets.specs.Bit.{has};
-ghost use Rattle.gates.specs.Limits.{mostQubits};
+ghost use Rattle.gates.specs.Limits.{mostQubits, mostParities};
 ghost use Rattle.sets.specs.Tables.{tab, one};
 ghost use Rattle.steps.specs.Selection.{countOf, zeroAt, oneAt, zerosOf, onesOf, liveOf, rowOf, Few, talliedOf};
 
@@ -85,7 +85,7 @@ pub fn live(cols: &[u32]) -> [bool; Job::PARITIES]
 
 // One more where x has 1 at q.
 fn plus(n: usize, x: u32, q: usize) -> usize
-    requires { ⌜ n ≤ 256 ⌝ }
+    requires { ⌜ n ≤ mostParities ⌝ }
     ensures { λ r. ⌜ r ≡ n + one (has x q) ⌝ }
 {
     if sets::holds(x, q) { n + 1 } else { n }

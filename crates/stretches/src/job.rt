@@ -12,6 +12,7 @@ ghost use mathlib.Core.Path.{_≡_};
 ghost use Prim.Native.Nat.{_≤_, _+_};
 ghost use lib.ListN.{length};
 ghost use lib.Seq.{sets};
+ghost use Rattle.gates.specs.Limits.{mostQubits};
 ghost use Rattle.gates.specs.Layout.{gatesOf};
 ghost use Rattle.circuit.specs.Phase.{phaseOf};
 ghost use Rattle.meaning.specs.Borne.{terms};
@@ -24,7 +25,7 @@ ghost use Rattle.stretches.specs.Laid.{stretchRecords, jobRecords, jobPh
 
 // B of a stretch.
 fn bound_of(n: usize, stretch: &[u32]) -> usize
-    requires { ⌜ (n ≤ 20) × Counted n (now stretch) ⌝ }
+    requires { ⌜ (n ≤ mostQubits) × Counted n (now stretch) ⌝ }
     ensures { λ r. ⌜ r ≡ boundOf n (length (terms (gatesOf n (now (stretch .entry))))) ⌝ }
 {
     let told = told::tell(stretch, n);
@@ -37,7 +38,7 @@ fn bound_of(n: usize, stretch: &[u32]) -> usize
 
 // Test 8: each stretch takes its B from the room, and each Hadamard one record.
 fn judge_room(n: usize, gates: &[u32], room: usize) -> Verdict
-    requires { ⌜ (n ≤ 20) × All (Counted n) (stretchesOf n (now gates)) ⌝ }
+    requires { ⌜ (n ≤ mostQubits) × All (Counted n) (stretchesOf n (now gates)) ⌝ }
     ensures { λ r. ⌜ r ≡ judgedBound n (now (gates .entry)) room ⌝ }
 {
     let mut left = room;

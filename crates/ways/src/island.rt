@@ -5,6 +5,7 @@ use gates::gate;
 use gates::job::Job;
 use share::own::Own;
 use tallies::tally;
+ghost use Rattle.gates.specs.Limits.{mostQubits};
 ghost use Rattle.gates.specs.Layout.{gatesOf};
 ghost use Rattle.emitting.specs.Emit.{Emits};
 ghost use Rattle.share.specs.OwnTable.{shareIn};
@@ -13,7 +14,7 @@ ghost use Rattle.ways.specs.Memory.{inMemory, islandInMemory};
 
 // The gates of the records once more.
 pub fn replay(laid: &[u32], out: &mut [u32], at: usize) -> usize
-    ensures { λ r. ⌜ Emits (now (out .entry)) at (gatesOf 20 (now (laid .entry))) (now (out .exit)) r ⌝ }
+    ensures { λ r. ⌜ Emits (now (out .entry)) at (gatesOf mostQubits (now (laid .entry))) (now (out .exit)) r ⌝ }
 {
     let mut next = at;
     for k in 0..laid.len() {
@@ -24,7 +25,7 @@ pub fn replay(laid: &[u32], out: &mut [u32], at: usize) -> usize
 
 // The gates that lay the terms, and the closing behind them.
 fn closed(own: Own, laid: &[u32], out: &mut [u32]) -> usize
-    ensures { λ r. ⌜ Emits (now (out .entry)) 0 (withClosing (shareIn own) (gatesOf 20 (now (laid .entry)))) (now (out .exit)) r ⌝ }
+    ensures { λ r. ⌜ Emits (now (out .entry)) 0 (withClosing (shareIn own) (gatesOf mostQubits (now (laid .entry)))) (now (out .exit)) r ⌝ }
 {
     let near = own.near;
     let asked = own.asked;
