@@ -1,5 +1,7 @@
 // Angles as signed multiples of pi, kept modulo 131,072: two turns of units, or one turn of half
 // units. It knows numbers alone.
+#![tactic(auto)]
+
 ghost use Rattle.std.specs.Prelude.{◌≡◌, ◌*◌, ◌/◌, ◌≤◌};
 ghost use Rattle.angles.specs.Units.{is_over, most_times, angle_in, pi_in, reduced_of, signed_of};
 

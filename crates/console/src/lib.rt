@@ -1,5 +1,7 @@
 // What the two programs for jobs print for a text: it is read, judged, and laid stretch by stretch;
 // the first refusal decides. It knows texts and laying, and no operating system.
+#![tactic(auto)]
+
 use gates::job::Job;
 use reading::read;
 use tallies::tally;

@@ -1,5 +1,7 @@
 // The counting program: a job's text from standard input, one line about the laid job to standard output.
 // It knows `console`, and alone with the other programs the operating system.
+#![tactic(auto)]
+
 use libc::{STDIN_FILENO, STDOUT_FILENO};
 
 fn main() {

@@ -1,5 +1,7 @@
 // The X gates of an island: one on each of its wires that is asked to end flipped. It knows
 // circuits, and nothing of what is laid before them.
+#![tactic(auto)]
+
 ghost use Rattle.std.specs.Prelude.{◌≡◌};
 ghost use Rattle.emitting.specs.Emit.{Emits};
 ghost use Rattle.flips.specs.Xs.{asks_flip, xs_on};

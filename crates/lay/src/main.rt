@@ -1,5 +1,7 @@
 // The laying program: a job's text from standard input, the laid job's to standard output, stretch by stretch.
 // It knows `console`, and alone with the other programs the operating system.
+#![tactic(auto)]
+
 use libc::{STDIN_FILENO, STDOUT_FILENO};
 
 fn main() {

@@ -1,5 +1,7 @@
 // The lines of a text, written one by one where there is room. It knows records, and not how a text
 // is read.
+#![tactic(auto)]
+
 pub mod letter;
 pub mod pattern;
 pub mod print;

@@ -1,5 +1,7 @@
 // The second way, nearest first: from an island's terms to CNOTs and rotations. It knows columns
 // and gatherings, and neither the steps nor endings.
+#![tactic(auto)]
+
 ghost use Rattle.std.specs.Prelude.{◌≡◌, take};
 ghost use Rattle.gates.specs.Limits.{most_parities};
 ghost use Rattle.emitting.specs.Emit.{Emits};

@@ -1,5 +1,7 @@
 // The program for circuits: a circuit's text from standard input, the laid circuit's to standard output, stretch by stretch, last its common phase. Its argument names the
 // couplers' file. It knows `qasm_console`, and alone with the other programs the operating system.
+#![tactic(auto)]
+
 use circuit::wires;
 use console::{COUPLER_LINES, GATE_LINES, INPUT};
 use libc::{STDERR_FILENO, STDIN_FILENO, STDOUT_FILENO};

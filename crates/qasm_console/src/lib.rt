@@ -1,6 +1,8 @@
 // What the program `qasm` prints for a couplers' text and a circuit's: both are read, the circuit
 // is judged, and laid stretch by stretch. It knows circuits' texts and laying, and no operating
 // system.
+#![tactic(auto)]
+
 use tallies::tally;
 
 pub mod printing;

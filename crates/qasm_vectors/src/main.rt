@@ -1,6 +1,8 @@
 // The stored circuits: for each pair of texts of the bundle on standard input, a couplers' and a circuit's, what `qasm` prints. Then too little is lent: what reading
 // the circuit's text answers and, where it accepts, what writing the circuit answers, an `x` line each. An acceptance is number 0 at place 0. Between them stands, where it
 // is not 0, the common phase that was read, a `p` line. It knows what `qasm` knows, and the entry points.
+#![tactic(auto)]
+
 ghost use Rattle.std.specs.Prelude.{◌≤◌, length};
 
 use circuit::wires;

@@ -1,5 +1,7 @@
 // Too little lent: for each text of the bundle on standard input, what reading, laying and writing answer, an `x` line each. An acceptance is number 0 at place 0.
 // It calls the entry points themselves, for `console` lends enough.
+#![tactic(auto)]
+
 ghost use Rattle.std.specs.Prelude.{◌≤◌, length};
 
 use console::{COUPLER_LINES, GATE_LINES};

@@ -1,5 +1,7 @@
 // Sets of qubits as numbers, qubit i adding 2^i, and the lists, tables and searches that all crates
 // use; parities, columns and asked rows are such sets. It knows nothing of gates.
+#![tactic(auto)]
+
 ghost use Rattle.std.specs.Prelude.{◌≡◌};
 ghost use Rattle.sets.specs.Bit.{has};
 ghost use Rattle.sets.specs.Size.{size_of, lowest_of, single_of, only_of};

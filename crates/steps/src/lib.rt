@@ -1,5 +1,7 @@
 // The first way, the steps of document 000, Figure 1: from an island's terms to CNOTs and
 // rotations. It knows columns and spare qubits, and neither the other way nor endings.
+#![tactic(auto)]
+
 ghost use Rattle.std.specs.Prelude.{◌≡◌, take};
 ghost use Rattle.emitting.specs.Emit.{Emits};
 ghost use Rattle.columns.specs.Pieces.{held, wrote};

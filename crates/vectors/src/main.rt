@@ -1,5 +1,7 @@
 // The stored jobs: for each text of the bundle on standard input, what the laying and then the counting program print.
 // Neither prints the common phase that an acceptance returns, which is the sum over the stretches: where it is not 0, a `p` line with it follows. It knows what `lay` and `count` know.
+#![tactic(auto)]
+
 ghost use Rattle.std.specs.Prelude.{◌≤◌, length};
 
 use circuit::wires;
