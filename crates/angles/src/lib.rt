@@ -6,14 +6,14 @@ ghost use Rattle.std.specs.Prelude.{◌≡◌, ◌*◌, ◌/◌, ◌≤◌};
 ghost use Rattle.angles.specs.Units.{is_over, most_times, angle_in, pi_in, reduced_of, signed_of};
 
 // In what an angle counts: units, or the half units of a common phase.
-#[derive(Drop)]
+#[derive(Clone, Copy)]
 pub enum Scale {
     Units,
     Halves,
 }
 
 // minus k * pi / over
-#[derive(Drop)]
+#[derive(Clone, Copy)]
 pub struct Multiple {
     pub minus: bool,
     pub k: u32,

@@ -44,7 +44,7 @@ pub fn near(couplers: &[u32], n: usize) -> [u32; Job::QUBITS]
 }
 
 // The first `len` records, the others are 0.
-#[derive(Drop)]
+#[derive(Clone, Copy)]
 pub struct Ordered {
     pub records: [u32; Job::COUPLERS],
     pub len: usize,

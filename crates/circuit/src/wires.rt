@@ -10,7 +10,7 @@ ghost use Rattle.gates.specs.declared.gate.Gate.TheVariants.{X};
 use gates::gate::Gate;
 use gates::job::Job;
 
-#[derive(Drop)]
+#[derive(Clone, Copy)]
 pub struct Wires {
     pub parity: [u32; Job::QUBITS],
     // 1 where a wire is flipped, else 0.

@@ -23,7 +23,7 @@ use tallies::tally;
 use verdicts::verdict;
 
 // What is counted so far, and the layer of the last CNOT on each wire.
-#[derive(Drop)]
+#[derive(Clone, Copy)]
 struct Counts {
     cnots: usize,
     rotations: usize,

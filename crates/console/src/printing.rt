@@ -28,7 +28,7 @@ use text::write::Writing;
 use verdicts::verdict;
 
 // What was read, what is printed first, and where the first part begins, which is above the number of gates where the text or the job is refused.
-#[derive(Drop)]
+#[derive(Clone, Copy)]
 pub struct Begun {
     pub job: Job,
     pub bytes: usize,
@@ -36,14 +36,14 @@ pub struct Begun {
 }
 
 // The front of a job, and where its first part begins.
-#[derive(Drop)]
+#[derive(Clone, Copy)]
 struct Front {
     bytes: usize,
     from: usize,
 }
 
 // A part: how many bytes are printed, where the next one begins, and its share of the common phase.
-#[derive(Drop)]
+#[derive(Clone, Copy)]
 pub struct LaidPart {
     pub bytes: usize,
     pub next: usize,
@@ -51,7 +51,7 @@ pub struct LaidPart {
 }
 
 // What is printed for a stretch, and its common phase.
-#[derive(Drop)]
+#[derive(Clone, Copy)]
 pub struct Printed {
     pub bytes: usize,
     pub phase: u32,

@@ -14,21 +14,21 @@ use gathering::gather::{Moves, Order};
 
 // A qubit to take out, and the order: its asked row is cleared first and then its mirror row, or its
 // mirror row first.
-#[derive(Drop)]
+#[derive(Clone, Copy)]
 pub(crate) struct Clearing {
     pub(crate) qubit: usize,
     pub(crate) mirrored: bool,
 }
 
 // The cheapest choice so far, and how many CNOTs it has.
-#[derive(Drop)]
+#[derive(Clone, Copy)]
 pub(crate) enum Best {
     Nothing,
     Take { choice: Clearing, cost: usize },
 }
 
 // Asked rows and mirror rows of an island.
-#[derive(Drop)]
+#[derive(Clone, Copy)]
 pub struct Standing {
     pub asked: [u32; Job::QUBITS],
     pub mirror: [u32; Job::QUBITS],

@@ -2,7 +2,7 @@
 ghost use Rattle.std.specs.Prelude.{◌≡◌};
 ghost use Rattle.gates.specs.Layout.{coupler_of, is_wrong};
 
-#[derive(Drop)]
+#[derive(Clone, Copy)]
 pub enum Coupler {
     Ends { a: usize, b: usize },
     Wrong,

@@ -2,7 +2,7 @@
 ghost use Rattle.std.specs.Prelude.{◌≡◌};
 ghost use Rattle.gates.specs.Layout.{gate_of, record_of, is_bad};
 
-#[derive(Drop)]
+#[derive(Clone, Copy)]
 pub enum Gate {
     Cnot { control: usize, target: usize },
     Rotation { qubit: usize, angle: u32 },

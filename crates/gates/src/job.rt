@@ -1,6 +1,6 @@
 // A job: the number of its qubits, and how many records its two lists hold. The lists themselves
 // are lent beside it.
-#[derive(Drop)]
+#[derive(Clone, Copy)]
 pub struct Job {
     pub qubits: usize,
     pub couplers: usize,

@@ -25,7 +25,7 @@ use verdicts::verdict::Verdict;
 use ways::island;
 
 // What laying answers: the counts of the laid gates, or why there are none.
-#[derive(Drop)]
+#[derive(Clone, Copy)]
 pub enum Answer {
     Laid {
         records: usize,
@@ -41,7 +41,7 @@ pub enum Answer {
 }
 
 // The number of records laid, and the job's common phase.
-#[derive(Drop)]
+#[derive(Clone, Copy)]
 struct Outcome {
     records: usize,
     phase: u32,

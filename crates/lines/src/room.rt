@@ -5,7 +5,7 @@ ghost use Rattle.lines.specs.Leeway.{room_after};
 
 use crate::letter;
 
-#[derive(Drop)]
+#[derive(Clone, Copy)]
 pub enum Leeway {
     Left(usize),
     Over,

@@ -8,7 +8,7 @@ use gates::gate::Gate;
 use table::sums;
 use table::sums::Sums;
 
-#[derive(Drop)]
+#[derive(Clone, Copy)]
 pub struct Meaning {
     pub wires: Wires,
     pub sums: Sums,
@@ -17,7 +17,7 @@ pub struct Meaning {
 }
 
 // The meaning of the first `fed` gates: of all, or of those before the 257th parity.
-#[derive(Drop)]
+#[derive(Clone, Copy)]
 pub struct Told {
     pub meaning: Meaning,
     pub fed: usize,

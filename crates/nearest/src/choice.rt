@@ -15,7 +15,7 @@ use gathering::gather;
 pub const FAR: usize = gather::MOST + 1;
 
 // A column, one of its qubits, and how many moves gather it there.
-#[derive(Drop)]
+#[derive(Clone, Copy)]
 pub struct Choice {
     pub column: usize,
     pub qubit: usize,
@@ -23,7 +23,7 @@ pub struct Choice {
 }
 
 // How many moves take a qubit out of a set, and what they leave of it.
-#[derive(Drop)]
+#[derive(Clone, Copy)]
 struct Out {
     moves: usize,
     left: u32,

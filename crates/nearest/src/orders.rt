@@ -10,7 +10,7 @@ use gathering::gather;
 const ROOM: usize = Job::QUBITS * Job::QUBITS;
 
 // The order from v stands from 20 v on, and its length at v.
-#[derive(Drop)]
+#[derive(Clone, Copy)]
 pub struct Orders {
     pub qubit: [usize; ROOM],
     pub len: [usize; Job::QUBITS],

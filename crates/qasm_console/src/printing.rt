@@ -29,7 +29,7 @@ use verdicts::verdict::Verdict;
 use versions::Version;
 
 // A front that was printed, and what comes behind it: the circuit, whose first part begins at `from`, and the common phase that was read.
-#[derive(Drop)]
+#[derive(Clone, Copy)]
 pub struct BegunCircuit {
     pub version: Version,
     pub job: Job,

@@ -16,7 +16,7 @@ use versions::Version;
 use words::{byte, word};
 
 // What a circuit's text holds beside the records of its gates: how many they are, and the common phase in half units.
-#[derive(Drop)]
+#[derive(Clone, Copy)]
 pub struct Circuit {
     pub version: Version,
     pub qubits: usize,
@@ -24,7 +24,7 @@ pub struct Circuit {
     pub phase: u32,
 }
 
-#[derive(Drop)]
+#[derive(Clone, Copy)]
 pub enum CircuitReading {
     Read { circuit: Circuit },
     Refused { verdict: Verdict },

@@ -11,7 +11,7 @@ use statements::gate;
 use versions::Version;
 
 // How many gates there are, what all statements add to the common phase, and the place behind them.
-#[derive(Drop)]
+#[derive(Clone, Copy)]
 pub(crate) struct GateCount {
     pub count: usize,
     pub phase: u32,

@@ -36,7 +36,7 @@ const ROOM: usize = 100;
 const LINE: usize = 32;
 
 // The pair that comes in: `held` bytes of it are there, and the text that is not closed yet begins at `start`. It is the circuit's where that is not 0.
-#[derive(Drop)]
+#[derive(Clone, Copy)]
 struct Pair {
     start: usize,
     held: usize,

@@ -10,7 +10,7 @@ use verdicts::verdict::Verdict;
 
 pub const MOST_BYTES: usize = 65536;
 
-#[derive(Drop)]
+#[derive(Clone, Copy)]
 pub enum Reading {
     Read { job: Job },
     Refused { verdict: Verdict },

@@ -6,7 +6,7 @@ ghost use Rattle.lines.specs.Lent.{onto};
 use crate::line;
 use spots::spot::Spot;
 
-#[derive(Drop)]
+#[derive(Clone, Copy)]
 pub(crate) struct LineCount {
     pub count: usize,
     pub next: usize,

@@ -6,7 +6,7 @@ ghost use Rattle.share.specs.OwnTable.{masked_sum, masked_sums, own_table, own_o
 use gates::job::Job;
 use table::sums::Sums;
 
-#[derive(Drop)]
+#[derive(Clone, Copy)]
 pub struct Own {
     pub near: [u32; Job::QUBITS],
     pub set: u32,

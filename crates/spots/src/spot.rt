@@ -5,14 +5,14 @@ ghost use Rattle.spots.specs.Numbers.{skipped, digit_of, read_number};
 ghost use Rattle.spots.specs.Places.{rest_at, got_of};
 
 // A place in the text, or none where what was looked for did not stand there.
-#[derive(Drop)]
+#[derive(Clone, Copy)]
 pub enum Spot {
     At(usize),
     Lost,
 }
 
 // A number that was read, and the place behind it.
-#[derive(Drop)]
+#[derive(Clone, Copy)]
 pub struct Fetched {
     pub value: u32,
     pub next: Spot,

@@ -17,7 +17,7 @@ use words::{take, word};
 pub(crate) const MOST_QUBIT: u32 = 255;
 
 // What a statement says: a gate's record, or none; what it adds to the common phase; and the place behind it.
-#[derive(Drop)]
+#[derive(Clone, Copy)]
 pub struct Stated {
     pub gate: bool,
     pub record: u32,
@@ -26,7 +26,7 @@ pub struct Stated {
 }
 
 // A rotation's qubit and angle, modulo two turns, and the place behind it.
-#[derive(Drop)]
+#[derive(Clone, Copy)]
 struct Turning {
     qubit: u32,
     angle: u32,

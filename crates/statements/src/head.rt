@@ -35,7 +35,7 @@ pub fn include(text: &[u8], from: Spot, version: Version) -> Spot
 }
 
 // Where the register's name stands, its size, and what is behind the statement.
-#[derive(Drop)]
+#[derive(Clone, Copy)]
 pub struct Declared {
     pub from: usize,
     pub to: usize,

@@ -59,7 +59,7 @@ fn judge_room(n: usize, gates: &[u32], room: usize) -> Verdict
 }
 
 // Where the records laid end, and the common phase of what they were laid for.
-#[derive(Drop)]
+#[derive(Clone, Copy)]
 struct Part {
     next: usize,
     phase: u32,

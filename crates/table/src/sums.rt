@@ -4,7 +4,7 @@ ghost use Rattle.table.specs.Table.{rank_of, moved_in, tabled, added, added_to, 
 
 use gates::job::Job;
 
-#[derive(Drop)]
+#[derive(Clone, Copy)]
 pub struct Sums {
     pub parity: [u32; Job::PARITIES],
     pub sum: [u32; Job::PARITIES],
@@ -13,7 +13,7 @@ pub struct Sums {
 
 // What adding an angle comes to: how many entries the table has then; `full` where the parity would
 // be the 257th, and then nothing has changed.
-#[derive(Drop)]
+#[derive(Clone, Copy)]
 pub struct Grown {
     pub len: usize,
     pub full: bool,

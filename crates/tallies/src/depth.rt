@@ -9,7 +9,7 @@ use gates::gate::Gate;
 use gates::job::Job;
 
 // The layer of the last CNOT on each wire, 0 where there is none yet.
-#[derive(Drop)]
+#[derive(Clone, Copy)]
 pub struct Layers {
     last: [usize; Job::QUBITS],
 }

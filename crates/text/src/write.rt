@@ -10,7 +10,7 @@ use lines::{put, records, room};
 use verdicts::verdict;
 use verdicts::verdict::Verdict;
 
-#[derive(Drop)]
+#[derive(Clone, Copy)]
 pub enum Writing {
     Written { bytes: usize },
     Refused { verdict: Verdict },

@@ -5,7 +5,7 @@ ghost use Rattle.verdicts.specs.Verdicts.{number_of, place_of, judged_qubits, wr
 use gates::job::Job;
 use gates::{coupler, gate, hadamard};
 
-#[derive(Drop)]
+#[derive(Clone, Copy)]
 pub enum Verdict {
     Accepted,
     Qubits,

@@ -1,7 +1,7 @@
 // The versions of OpenQASM that are read and written. It knows nothing else.
 #![tactic(auto)]
 
-#[derive(Drop)]
+#[derive(Clone, Copy)]
 pub enum Version {
     Two,
     Three,

@@ -69,7 +69,7 @@ pub fn number(text: &[u8], from: Spot, most: u32) -> Fetched
 }
 
 // Where a name stands.
-#[derive(Drop)]
+#[derive(Clone, Copy)]
 pub struct NameSpan {
     pub from: usize,
     pub to: usize,
