@@ -1,0 +1,8 @@
+-- `angles::most_times` meets its contract. Assumes nothing.
+use Rattle.angles.proofs.most_times.Goals as goal
+
+pub returns-in-Units : goal.returns-in-Units
+returns-in-Units c = rw c.enum_told-1.given.1
+
+pub returns-in-Halves : goal.returns-in-Halves
+returns-in-Halves c = rw c.enum_told-in-Halves-1.given.1

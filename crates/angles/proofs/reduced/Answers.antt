@@ -1,0 +1,22 @@
+-- `angles::reduced` meets its contract. Assumes nothing.
+use native.Mathlib.Omega.{arith}
+use Rattle.angles.proofs.Signs.{quotient_fits, more-fits, more-casts, more-count, whole-casts, whole-count}
+use Rattle.angles.proofs.reduced.Goals as goal
+
+pub nonzero_rem-rest : goal.nonzero_rem-rest
+nonzero_rem-rest c = (omega arith, quotient_fits c.args.count c.ranges.count)
+
+pub overflow_add-result : goal.overflow_add-result
+overflow_add-result c = more-fits c.args.count c.ranges.count
+
+pub overflow_cast-result : goal.overflow_cast-result
+overflow_cast-result c = more-casts c.args.count c.ranges.count
+
+pub returns-then-rest-lt0 : goal.returns-then-rest-lt0
+returns-then-rest-lt0 c = more-count c.args.count c.ranges.count c.if-rest-lt0.true
+
+pub overflow_cast-result-2 : goal.overflow_cast-result-2
+overflow_cast-result-2 c = whole-casts c.args.count c.ranges.count c.if-rest-lt0.false
+
+pub returns : goal.returns
+returns-then-rest-lt0 c = whole-count c.args.count c.ranges.count c.if-rest-lt0.false

@@ -1,0 +1,8 @@
+-- `chip::search::neighbours` meets its contract. Assumes nothing.
+use mathlib.Core.Path.{sym}
+use lib.ListN.{get_or-eq_default}
+use borrow.Author.Rules.{rules}
+use Rattle.chip.proofs.search.neighbours.Goals as goal
+
+pub returns-else-u-lt-QUBITS : goal.returns-else-u-lt-QUBITS
+returns-else-u-lt-QUBITS c = sym (get_or-eq_default c.args.t1 0 {n = c.args.u} (search rules))

@@ -1,0 +1,20 @@
+-- `console::printing::print_head` meets its contract: the couplers are those in order, and the writer accepts. Assumes nothing.
+use mathlib.Core.Path.{ap, ◌∙◌}
+use Rattle.tallies.specs.Tally.{bound_of}
+use Rattle.chip.specs.Ordered.{ordered_of}
+use Rattle.console.proofs.Writing.{order_is, order-long, order-fits, job-written, never-refused}
+use Rattle.console.proofs.printing.print_head.Goals as goal
+
+pub slice_bounds-records-end : goal.slice_bounds-records-end
+slice_bounds-records-end c = order-fits _ _ c.in_order-ordered.ensures
+
+pub slice_bounds-write-end : goal.slice_bounds-write-end
+slice_bounds-write-end c = order-long _ _ c.in_order-ordered.ensures
+
+pub returns-in-Written : goal.returns-in-Written
+unfolding bound_of
+returns-in-Written c = job-written _ _ _ _ _ _ _ (order_is _ _ (c.in_order-ordered.ensures ∙ ap ordered_of c.near.ensures)) c.write-arg2.given.0.1 c.requires c.write.ensures.0 c.write.ensures.1 _ c.bytes-1.given.1
+
+pub returns-in-Refused : goal.returns-in-Refused
+unfolding bound_of
+returns-in-Refused c = absurd (never-refused _ _ _ _ _ _ _ (order_is _ _ (c.in_order-ordered.ensures ∙ ap ordered_of c.near.ensures)) c.write-arg2.given.0.1 c.requires c.write.ensures.0 c.write.ensures.1 _ c.verdict-1.given.1)

@@ -1,0 +1,20 @@
+-- `qasm_lines::room::after_gate` meets its contract: it is the line of the record's pattern and numbers. Assumes nothing.
+use mathlib.Core.Path.{sym, ap, ◌∙◌}
+use Prim.Native.Nat.{◌/◌}
+use native.Mathlib.Omega.{arith}
+use lib.ListN.{length}
+use lib.Seq.{length-take-le}
+use Rattle.lines.specs.Leeway.{room_after}
+use Rattle.qasm_lines.proofs.Spelt.{pattern-most, gate-line}
+use Rattle.qasm_lines.proofs.room.after_gate.Goals as goal
+
+pub slice_bounds-line-end : goal.slice_bounds-line-end
+slice_bounds-line-end c = omega (arith, c.length_of-bytes.ensures, pattern-most c.args.version (c.args.x / 16777216))
+
+pub slice_bounds-after_pattern-end : goal.slice_bounds-after_pattern-end
+slice_bounds-after_pattern-end c = sym (length-take-le _ _ (omega (arith, c.length_of-bytes.ensures, pattern-most c.args.version (c.args.x / 16777216), c.pattern_of-line.type_inv)))
+
+pub returns : goal.returns
+returns c =
+    let a = c.args in
+    c.after_pattern.ensures ∙ ap (λ bs. room_after a.room (length bs)) (gate-line a.version a.x c.pattern_of-line.result c.pattern_of-line.ensures c.length_of-bytes.ensures c.Numbers-of.ensures)

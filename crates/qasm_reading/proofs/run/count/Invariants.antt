@@ -1,0 +1,10 @@
+use lib.ListN.{length, drop}
+use Rattle.words.specs.Words.{words}
+use Rattle.qasm_reading.proofs.Loops.{CountingGates}
+use Rattle.qasm_reading.proofs.run.count.Given as goal
+
+abbrev pub invariant-loop-q : goal.invariant-loop-q
+invariant-loop-q l = CountingGates l.version l.name (words (drop l.from l.text)) l.n l.phase (words (drop l.at l.text))
+
+abbrev pub decreases-loop-q : goal.decreases-loop-q
+decreases-loop-q l = length (words (drop l.at l.text))

@@ -1,0 +1,58 @@
+-- `reading::run::fill` meets its contract: what is filled in and what is left make up the run. Assumes nothing.
+use mathlib.Core.Path.{◌≡◌, sym, ap, ◌∙◌, subst}
+use mathlib.Core.Option.{some}
+use native.Mathlib.Omega.{arith}
+use Prim.Native.Nat.{◌+◌, ◌<◌}
+use lib.ListN.{length, drop, set}
+use Rattle.reading.specs.Parsing.{read_one}
+use Rattle.spots.specs.Places.{rest_at}
+use Rattle.reading.proofs.Lines.{one-short}
+use Rattle.reading.proofs.Loops.{FillingLines, fill_start, fill_step, fill-room, fill_done}
+use Rattle.reading.proofs.run.fill.Goals as goal
+
+module _ (c : tie.After-known-told invariant-loop decreases-loop) where
+  step : (read_one c.args.gates (drop c.loop-q.at c.args.text.now)).rest
+      ≡ some (drop c.next-1.given.0.0 c.args.text.now)
+  step = sym (ap (λ g. g.rest) c.one-p.ensures) ∙ ap (rest_at c.args.text.now) c.next-1.given.1
+
+  room : c.loop-q.n < length c.loop-q.out
+  room =
+      let l = c in
+      let s = l.before in
+      let a = s.args in
+      fill-room a.gates (drop a.from a.text.now) a.out.now l.loop-q.out l.loop-q.n (drop l.loop-q.at a.text.now) (drop c.next-1.given.0.0 a.text.now) l.loop-q.invariant step s.requires
+
+pub loop-q-init : goal.loop-q-init
+loop-q-init c =
+    let a = c.args in
+    fill_start a.gates (drop a.from a.text.now) a.out.now
+
+pub shape_of-out-in-Lost : goal.shape_of-out-in-Lost
+shape_of-out-in-Lost c = c.loop-q.invariant.size
+
+pub returns-in-Lost : goal.returns-in-Lost
+returns-in-Lost c =
+    let l = c in
+    let a = l.args in
+    fill_done a.gates (drop a.from a.text.now) a.out.now l.loop-q.out l.loop-q.n (drop l.loop-q.at a.text.now) l.loop-q.invariant
+    (sym (ap (λ g. g.rest) c.one-p.ensures) ∙ ap (rest_at a.text.now) c.enum_told-1.given.1)
+
+pub offset_bounds-out-n : goal.offset_bounds-out-n
+offset_bounds-out-n c = omega (arith, room c, c.loop-q.invariant.size, c.well-formed)
+
+pub bounds-out-n : goal.bounds-out-n
+bounds-out-n c = room c
+
+pub overflow_add-n : goal.overflow_add-n
+overflow_add-n c = omega (arith, room c, c.loop-q.invariant.size, c.well-formed)
+
+pub loop-q-smaller : goal.loop-q-smaller
+loop-q-smaller c = one-short _ _ _ (step c)
+
+pub loop-q-preserved : goal.loop-q-preserved
+loop-q-preserved c =
+    let l = c in
+    let a = l.args in
+    subst (λ v. FillingLines a.gates (drop a.from a.text.now) a.out.now (set l.loop-q.out l.loop-q.n v) (l.loop-q.n + 1) (drop c.next-1.given.0.0 a.text.now))
+    (sym (ap (λ g. g.value) c.one-p.ensures))
+    (fill_step a.gates (drop a.from a.text.now) a.out.now l.loop-q.out l.loop-q.n (drop l.loop-q.at a.text.now) (drop c.next-1.given.0.0 a.text.now) l.loop-q.invariant (step c) (room c))

@@ -1,0 +1,12 @@
+-- An answer is printed: safe, and it ends. Assumes nothing.
+use Prim.Native.Nat.{ℕ}
+use lib.ListN.{replicate}
+use Rattle.lines.specs.Lines.{refusal_text}
+use Rattle.lines.proofs.Writes.{fitted-within, fitted-long}
+use Rattle.scant.proofs.say.Goals as goal
+
+pub slice_bounds-out-end : goal.slice_bounds-out-end
+slice_bounds-out-end c = fitted-within (refusal_text _ _) (replicate {A = ℕ} 32 0) _ _ c.refusal-k.ensures
+
+pub slice_bounds-write_all-end : goal.slice_bounds-write_all-end
+slice_bounds-write_all-end c = fitted-long (refusal_text _ _) (replicate {A = ℕ} 32 0) _ _ c.refusal-k.ensures

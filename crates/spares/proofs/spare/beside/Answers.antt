@@ -1,0 +1,29 @@
+-- `spares::spare::beside` meets its contract: what is gathered, with the neighbours of the members from u on. Assumes nothing.
+use mathlib.Core.Path.{sym, ap, ◌∙◌}
+use Prim.Native.Nat.{ℕ, ◌+◌, ◌-◌}
+use mathlib.Core.Logic.{⊎_elim}
+use lib.Bits.{bit_or}
+use Rattle.chip.proofs.Rounds.{from_on, nbrs-with, nbrs-without, nbrs-start, nbrs-end}
+use borrow.Author.Rules.{rules}
+use native.Mathlib.Omega.{arith}
+use Rattle.spares.proofs.spare.beside.Goals as goal
+
+pub loop-u-init : goal.loop-u-init
+loop-u-init c = (search rules, nbrs-start _ _)
+
+pub loop-u-preserved : goal.loop-u-preserved
+loop-u-preserved c =
+    let at = c.loop-u in
+    let a = c.args in (
+      search rules,
+      ⊎_elim
+          (λ w. ap (λ (n : ℕ). bit_or n (from_on a.t1 a.set (at.u + 1))) w.1 ∙ sym (nbrs-with a.t1 a.set at.u at.all (search rules) (sym c.holds.ensures ∙ w.0.taken)) ∙ at.invariant.1)
+          (λ w. ap (λ (n : ℕ). bit_or n (from_on a.t1 a.set (at.u + 1))) w.1 ∙ sym (nbrs-without a.t1 a.set at.u at.all (search rules) (sym c.holds.ensures ∙ w.0.left)) ∙ at.invariant.1)
+          c.if-holds.branch,
+    )
+
+pub returns : goal.returns
+returns c =
+    let at = c.loop-u in
+    let a = c.args in
+    sym (nbrs-end a.t1 a.set at.u at.all (omega (arith, c.well-formed.0))) ∙ at.invariant.1

@@ -1,0 +1,10 @@
+-- `spots::spot::number` meets its contract, case by case. Assumes nothing.
+use Rattle.spots.specs.Numbers.{read_number}
+use Rattle.spots.proofs.spot.number.Goals as goal
+
+pub returns-in-Lost : goal.returns-in-Lost
+unfolding read_number
+returns-in-Lost c = rw c.enum_told-1.given.1
+
+pub returns-in-At : goal.returns-in-At
+returns-in-At c = rw c.from-1.given.1 c.number_at.ensures

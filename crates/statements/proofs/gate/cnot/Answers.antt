@@ -1,0 +1,20 @@
+-- `statements::gate::cnot` meets its contract. Assumes nothing.
+use mathlib.Core.Path.{ap}
+use native.Mathlib.Omega.{arith}
+use Rattle.words.specs.Words.{Word}
+use Rattle.words.specs.Places.{words_at}
+use Rattle.spots.specs.Numbers.{Got}
+use Rattle.statements.proofs.Chains.{qubit-le, cnot-chain}
+use Rattle.statements.proofs.gate.cnot.Goals as goal
+
+pub overflow_mul-result : goal.overflow_mul-result
+overflow_mul-result c = omega (arith, qubit-le (words_at c.args.text.now c.take-p0.result) c.args.name.now, ap (λ (g : Got Word). g.value) c.qubit-a.ensures)
+
+pub overflow_add-result : goal.overflow_add-result
+overflow_add-result c = omega (arith, qubit-le (words_at c.args.text.now c.take-p0.result) c.args.name.now, ap (λ (g : Got Word). g.value) c.qubit-a.ensures)
+
+pub overflow_add-result-2 : goal.overflow_add-result-2
+overflow_add-result-2 c = omega (arith, qubit-le (words_at c.args.text.now c.take-p0.result) c.args.name.now, ap (λ (g : Got Word). g.value) c.qubit-a.ensures, qubit-le (words_at c.args.text.now c.mark-p1.result) c.args.name.now, ap (λ (g : Got Word). g.value) c.qubit-b.ensures)
+
+pub returns : goal.returns
+returns c = cnot-chain (words_at c.args.text.now c.args.from) c.args.name.now c.take-p0.ensures c.qubit-a.ensures c.mark-p1.ensures c.qubit-b.ensures c.mark-end.ensures

@@ -1,0 +1,19 @@
+-- `steps::selection::live` meets its contract: the places passed are marked. Assumes nothing.
+use mathlib.Core.Path.{refl, ◌∙◌}
+use Prim.Native.Nat.{◌-◌}
+use lib.ListN.{length-set}
+use Rattle.sets.proofs.Tabling.{marked-none, marked_next}
+use Rattle.steps.proofs.Selecting.{live_all}
+use borrow.Author.Rules.{rules}
+use Rattle.steps.proofs.selection.live.Goals as goal
+
+pub loop-k-init : goal.loop-k-init
+loop-k-init c = (search rules, c.at_most-n.ensures, search rules, marked-none _ 256)
+
+pub loop-k-preserved : goal.loop-k-preserved
+loop-k-preserved c =
+    let at = c.loop-k in
+    (search rules, at.invariant.1, length-set at.z _ _ ∙ at.invariant.2, marked_next _ at.k at.z _ (search rules) refl at.invariant.3)
+
+pub returns : goal.returns
+returns c = let at = c.loop-k in live_all _ _ at.k at.invariant.1 (search rules) _ at.invariant.2 at.invariant.3

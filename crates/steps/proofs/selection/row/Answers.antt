@@ -1,0 +1,27 @@
+-- `steps::selection::row` meets its contract: the ones of the places passed are counted. Assumes nothing.
+use mathlib.Core.Path.{refl, sym, ◌∙◌}
+use Prim.Native.Nat.{◌-◌}
+use mathlib.Core.Bool.{true, false}
+use native.Mathlib.Omega.{arith}
+use mathlib.Core.Logic.{⊎_elim}
+use Rattle.steps.proofs.Selecting.{row-none, row_next, row_small, row-all}
+use borrow.Author.Rules.{rules}
+use Rattle.steps.proofs.selection.row.Goals as goal
+
+pub loop-k-init : goal.loop-k-init
+loop-k-init c = (search rules, c.at_most-n.ensures, row-none _ _ _)
+
+pub overflow_add-ones : goal.overflow_add-ones
+overflow_add-ones c = omega (arith, c.loop-k.invariant.1, row_small _ _ _ _ _ c.loop-k.invariant.2)
+
+pub loop-k-preserved : goal.loop-k-preserved
+loop-k-preserved c =
+    let at = c.loop-k in (
+      search rules,
+      at.invariant.1,
+      ⊎_elim (λ w. row_next _ _ _ at.k at.ones _ _ true (sym w.0.taken ∙ c.is_one.ensures) refl at.invariant.2 w.1)
+          (λ w. row_next _ _ _ at.k at.ones _ _ false (sym w.0.left ∙ c.is_one.ensures) refl at.invariant.2 (omega (arith, w.1))) c.if-is_one.branch,
+    )
+
+pub returns : goal.returns
+returns c = row-all _ _ _ _ c.loop-k.k _ c.loop-k.invariant.1 (search rules) (search rules) c.loop-k.invariant.2

@@ -1,0 +1,11 @@
+use mathlib.Core.Path.{◌≡◌}
+use Prim.Native.Nat.{◌-◌, ◌≤◌, min}
+use lib.ListN.{length}
+use Rattle.steps.proofs.Selecting.{row_to}
+use Rattle.steps.proofs.selection.row.Given as goal
+
+abbrev pub invariant-loop-k : goal.invariant-loop-k
+invariant-loop-k l = (l.k ≤ l.n) × (l.n ≡ min (length l.cols) 256) × (l.ones ≡ row_to l.q l.sel l.cols l.k)
+
+abbrev pub decreases-loop-k : goal.decreases-loop-k
+decreases-loop-k l = l.n - l.k

@@ -1,0 +1,20 @@
+-- `words::byte::is_blank` meets its contract. Assumes nothing.
+use borrow.Author.Tests.{eq-eqb, ne_eqb}
+use Rattle.words.specs.Bytes.{blank}
+use Rattle.words.proofs.byte.is_blank.Goals as goal
+
+pub returns-then-x-eq32 : goal.returns-then-x-eq32
+unfolding blank
+returns-then-x-eq32 c = rw (eq-eqb _ _ c.if-x-eq32.true)
+
+pub returns-then-x-eq9 : goal.returns-then-x-eq9
+unfolding blank
+returns-then-x-eq9 c = rw (ne_eqb _ _ c.if-x-eq32.false, eq-eqb _ _ c.if-x-eq9.true)
+
+pub returns-then-x-eq13 : goal.returns-then-x-eq13
+unfolding blank
+returns-then-x-eq13 c = rw (ne_eqb _ _ c.if-x-eq32.false, ne_eqb _ _ c.if-x-eq9.false, eq-eqb _ _ c.if-x-eq13.true)
+
+pub returns : goal.returns
+unfolding blank
+returns-then-x-eq32 c = rw (ne_eqb _ _ c.if-x-eq32.false, ne_eqb _ _ c.if-x-eq9.false, ne_eqb _ _ c.if-x-eq13.false)

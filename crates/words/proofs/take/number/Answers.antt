@@ -1,0 +1,26 @@
+-- `words::take::number` meets its contract. Assumes nothing.
+use mathlib.Core.Path.{sym, ap, ◌∙◌}
+use Rattle.spots.specs.Places.{rest_at}
+use Rattle.words.specs.Taking.{numbered}
+use Rattle.words.specs.Places.{part}
+use Rattle.words.proofs.Takes.{word-number-none, word-number-lost, word-number-more, word-number-all}
+use Rattle.words.proofs.take.number.Goals as goal
+
+pub returns-then-text-start : goal.returns-then-text-start
+returns-then-text-start c = rw c.from-1.given.1 (word-number-none _ (c.next-b.ensures.none_left c.if-text-start.true) c.args.most)
+
+pub slice_bounds-w-end : goal.slice_bounds-w-end
+slice_bounds-w-end c = c.next-b.ensures.inside c.if-text-start.false
+
+pub returns-then-e-w : goal.returns-then-e-w
+returns-then-e-w c = rw c.from-1.given.1 (word-number-more _ _ _ (c.next-b.ensures.found c.if-text-start.false) c.args.most c.number_at-p.result.value c.stop-1.given.0.0 (sym c.number_at-p.ensures ∙ ap (λ p. record { value = c.number_at-p.result.value; rest = rest_at (part c.next-b.result.from c.next-b.result.to c.args.text.now) p }) c.stop-1.given.1) c.if-e-w.true)
+
+pub returns-in-Lost : goal.returns-in-Lost
+unfolding numbered
+returns-in-Lost c = rw c.enum_told-1.given.1
+
+pub returns-in-Lost-stop : goal.returns-in-Lost-stop
+returns-in-Lost-stop c = rw (c.from-1.given.1, c.enum_told-in-Lost-stop-1.given.1) (word-number-lost _ _ _ (c.next-b.ensures.found c.if-text-start.false) c.args.most c.number_at-p.result.value (sym c.number_at-p.ensures ∙ ap (λ p. record { value = c.number_at-p.result.value; rest = rest_at (part c.next-b.result.from c.next-b.result.to c.args.text.now) p }) c.enum_told-in-Lost-stop-1.given.1))
+
+pub returns-else-e-w : goal.returns-else-e-w
+returns-else-e-w c = rw c.from-1.given.1 (word-number-all _ _ _ (c.next-b.ensures.found c.if-text-start.false) c.args.most c.number_at-p.result.value c.stop-1.given.0.0 (sym c.number_at-p.ensures ∙ ap (λ p. record { value = c.number_at-p.result.value; rest = rest_at (part c.next-b.result.from c.next-b.result.to c.args.text.now) p }) c.stop-1.given.1) c.if-e-w.false)
