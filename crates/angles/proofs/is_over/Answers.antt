@@ -10,4 +10,4 @@ returns-then-d-eq0 c = rw (le-ltb 0 c.args.d (omega arith))
 
 pub returns : goal.returns
 unfolding is_over
-returns-then-d-eq0 c = let d = c.args.d in rw (lt-ltb 0 d (omega arith), c.pi.ensures)
+returns c = let d = c.args.d in rw (lt-ltb 0 d (omega arith), c.pi.ensures)

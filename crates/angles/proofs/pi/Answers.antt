@@ -2,7 +2,7 @@
 use Rattle.angles.proofs.pi.Goals as goal
 
 pub returns-in-Units : goal.returns-in-Units
-returns-in-Units c = rw c.enum_told-1.given.1
+returns-in-Units c = rw c.in-Units.is
 
 pub returns-in-Halves : goal.returns-in-Halves
-returns-in-Halves c = rw c.enum_told-in-Halves-1.given.1
+returns-in-Halves c = rw c.in-Halves.is

@@ -19,4 +19,4 @@ pub overflow_cast-result-2 : goal.overflow_cast-result-2
 overflow_cast-result-2 c = whole-casts c.args.count c.ranges.count c.if-rest-lt0.false
 
 pub returns : goal.returns
-returns-then-rest-lt0 c = whole-count c.args.count c.ranges.count c.if-rest-lt0.false
+returns c = whole-count c.args.count c.ranges.count c.if-rest-lt0.false

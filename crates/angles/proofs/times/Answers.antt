@@ -17,6 +17,6 @@ returns-then-minus c =
     minus_is s.args.k s.args.each s.ranges.k s.requires ∙ ap (λ m. signed_of m (s.args.k * s.args.each)) (sym c.if-minus.true)
 
 pub returns : goal.returns
-returns-then-minus c =
+returns c =
     let s = c in
     plus-is s.args.k s.args.each s.ranges.k s.requires ∙ ap (λ m. signed_of m (s.args.k * s.args.each)) (sym c.if-minus.false)

@@ -17,4 +17,4 @@ pub loop-left-preserved : goal.loop-left-preserved
 loop-left-preserved c = (c.gather_next-a.auto.1.1.0 ∙ c.loop-left.invariant.0, c.gather_next-a.auto.1.1.1.1.0 ∙ c.loop-left.invariant.1, round-next _ _ _ c.loop-left.left _ _ _ _ _ _ _ c.loop-left-test.true c.choose-c.ensures c.if-c-ge-FAR.false c.gather_next-a.ensures ∙ c.loop-left.invariant.2)
 
 pub returns : goal.returns
-returns-then-c-ge-FAR c = round-end _ _ _ c.loop-left.left _ _ _ (search rules) ∙ c.loop-left.invariant.2
+returns c = round-end _ _ _ c.loop-left.left _ _ _ (search rules) ∙ c.loop-left.invariant.2

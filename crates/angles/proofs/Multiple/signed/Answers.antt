@@ -13,10 +13,10 @@ returns-then-self-eq0 c = let s = c.args in none_is s.scale s.self.minus s.self.
 pub times-requires : goal.times-requires
 times-requires c =
     let s = c.args in
-    λ _. subst (λ m. m / s.self.over ≤ 65536) (sym c.pi.ensures) (each-small s.scale s.self.over)
+    subst (λ m. m / s.self.over ≤ 65536) (sym c.pi.ensures) (each-small s.scale s.self.over)
 
 pub returns : goal.returns
-returns-then-self-eq0 c =
+returns c =
     let p = c.pi in
     let s = c.args.self in
     to_z-of_z w64 c.times.result (record { sfits = c.times.type_inv }) ∙ c.times.ensures ∙ ap (λ m. signed_of s.minus (s.k * (m / s.over))) p.ensures

@@ -5,8 +5,8 @@ use Rattle.chip.proofs.couplers.added.Goals as goal
 
 pub returns-in-Ends : goal.returns-in-Ends
 unfolding add_of
-returns-in-Ends c = c.linked.ensures ∙ sym (ap (λ x. add_of x c.args.near) c.c-1.given.1)
+returns-in-Ends c = c.linked.ensures ∙ sym (ap (λ x. add_of x c.args.near) c.in-Ends.is)
 
 pub returns-in-Wrong : goal.returns-in-Wrong
 unfolding add_of
-returns-in-Wrong c = sym (ap (λ x. add_of x c.args.near) c.enum_told-1.given.1)
+returns-in-Wrong c = sym (ap (λ x. add_of x c.args.near) c.in-Wrong.is)

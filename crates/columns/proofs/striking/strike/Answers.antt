@@ -45,4 +45,4 @@ loop-q-preserved c =
     )
 
 pub returns : goal.returns
-returns-then-s-eq0 c = from_end _ 20 c.loop-q.q _ _ _ (search rules) ∙ c.loop-q.invariant.4
+returns c = from_end _ 20 c.loop-q.q _ _ _ (search rules) ∙ c.loop-q.invariant.4

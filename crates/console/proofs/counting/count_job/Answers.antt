@@ -17,4 +17,4 @@ count_stretches-counts-requires c = let p = job-passed _ _ _ (passed c.judge-ver
 
 pub returns : goal.returns
 unfolding bound_of
-returns-then-number-ne0 c = prints-same (counted-text _ _ _ (passed c.judge-verdict.ensures c.number.ensures c.if-number-ne0.false) _ _ _ c.count_stretches-counts.ensures.0 c.count_stretches-counts.ensures.1 (c.highest.ensures ∙ c.count_stretches-counts.ensures.2)) (text-whole most_printed c.args.out.now _ _ c.counts-arg-1.given.0.1 _ (counted-fits _ _ _ (passed c.judge-verdict.ensures c.number.ensures c.if-number-ne0.false) _ _ _ c.count_stretches-counts.ensures.0 c.count_stretches-counts.ensures.1 (c.highest.ensures ∙ c.count_stretches-counts.ensures.2)) c.counts.ensures)
+returns c = prints-same (counted-text _ _ _ (passed c.judge-verdict.ensures c.number.ensures c.if-number-ne0.false) _ _ _ c.count_stretches-counts.ensures.0 c.count_stretches-counts.ensures.1 (c.highest.ensures ∙ c.count_stretches-counts.ensures.2)) (text-whole most_printed c.args.out.now _ _ c.counts-arg-1.given.0.1 _ (counted-fits _ _ _ (passed c.judge-verdict.ensures c.number.ensures c.if-number-ne0.false) _ _ _ c.count_stretches-counts.ensures.0 c.count_stretches-counts.ensures.1 (c.highest.ensures ∙ c.count_stretches-counts.ensures.2)) c.counts.ensures)

@@ -12,4 +12,4 @@ pub print_head-requires : goal.print_head-requires
 print_head-requires c = head-accepted _ _ _ (passed c.judge-verdict.ensures c.number.ensures c.if-number-ne0.false)
 
 pub returns : goal.returns
-returns-then-number-ne0 c = (prints-same (front-passed _ _ _ (passed c.judge-verdict.ensures c.number.ensures c.if-number-ne0.false)) c.print_head.ensures, first-passed _ _ _ (passed c.judge-verdict.ensures c.number.ensures c.if-number-ne0.false))
+returns c = (prints-same (front-passed _ _ _ (passed c.judge-verdict.ensures c.number.ensures c.if-number-ne0.false)) c.print_head.ensures, first-passed _ _ _ (passed c.judge-verdict.ensures c.number.ensures c.if-number-ne0.false))

@@ -13,8 +13,8 @@ slice_bounds-write-end c = order-long _ _ c.in_order-ordered.ensures
 
 pub returns-in-Written : goal.returns-in-Written
 unfolding bound_of
-returns-in-Written c = job-written _ _ _ _ _ _ _ (order_is _ _ (c.in_order-ordered.ensures ∙ ap ordered_of c.near.ensures)) c.write-arg2.given.0.1 c.requires c.write.ensures.0 c.write.ensures.1 _ c.bytes-1.given.1
+returns-in-Written c = job-written _ _ _ _ _ _ _ (order_is _ _ (c.in_order-ordered.ensures ∙ ap ordered_of c.near.ensures)) c.write-arg2.given.0.1 c.requires c.write.ensures.0 c.write.ensures.1 _ c.in-Written.is
 
 pub returns-in-Refused : goal.returns-in-Refused
 unfolding bound_of
-returns-in-Refused c = absurd (never-refused _ _ _ _ _ _ _ (order_is _ _ (c.in_order-ordered.ensures ∙ ap ordered_of c.near.ensures)) c.write-arg2.given.0.1 c.requires c.write.ensures.0 c.write.ensures.1 _ c.verdict-1.given.1)
+returns-in-Refused c = absurd (never-refused _ _ _ _ _ _ _ (order_is _ _ (c.in_order-ordered.ensures ∙ ap ordered_of c.near.ensures)) c.write-arg2.given.0.1 c.requires c.write.ensures.0 c.write.ensures.1 _ c.in-Refused.is)

@@ -9,16 +9,16 @@ use Rattle.console.proofs.printing.print_part.Goals as goal
 
 pub slice_bounds-laid-end : goal.slice_bounds-laid-end
 unfolding bound_of
-slice_bounds-laid-end c = alone-fits _ _ _ _ _ (length-replicate {A = ℕ} largest 0) _ c.lay.ensures.0 c.lay.ensures.1 _ _ _ _ _ c.records-1.given.1
+slice_bounds-laid-end c = alone-fits _ _ _ _ _ (length-replicate {A = ℕ} largest 0) _ c.lay.ensures.0 c.lay.ensures.1 _ _ _ _ _ c.in-Laid.is
 
 pub slice_bounds-put_records-end-in-Laid : goal.slice_bounds-put_records-end-in-Laid
 unfolding bound_of
-slice_bounds-put_records-end-in-Laid c = alone-long _ _ _ _ _ (length-replicate {A = ℕ} largest 0) _ c.lay.ensures.0 c.lay.ensures.1 _ _ _ _ _ c.records-1.given.1
+slice_bounds-put_records-end-in-Laid c = alone-long _ _ _ _ _ (length-replicate {A = ℕ} largest 0) _ c.lay.ensures.0 c.lay.ensures.1 _ _ _ _ _ c.in-Laid.is
 
 pub returns-in-Laid : goal.returns-in-Laid
 unfolding bound_of
-returns-in-Laid c = (prints-same (laid_said _ _ _ _ (length-replicate {A = ℕ} largest 0) _ c.lay.ensures.0 _ c.lay.ensures.1 _ _ _ _ _ c.records-1.given.1 _) (records-printed _ _ _ c.args.out.now _ _ _ _ c.put_records-arg-1.given.0.1 (alone-is _ _ _ _ _ (length-replicate {A = ℕ} largest 0) _ c.lay.ensures.0 c.lay.ensures.1 _ _ _ _ _ c.records-1.given.1) (records-few _ _ _ _ (length-replicate {A = ℕ} largest 0) _ c.lay.ensures.0 _ c.lay.ensures.1 _ _ _ _ _ c.records-1.given.1) c.requires c.put_records-at.ensures.0 c.put_records-at.ensures.1 c.put_records-bytes.ensures.0 c.put_records-bytes.ensures.1), laid-share _ _ _ _ (length-replicate {A = ℕ} largest 0) _ c.lay.ensures.0 _ c.lay.ensures.1 _ _ _ _ _ c.records-1.given.1)
+returns-in-Laid c = (prints-same (laid_said _ _ _ _ (length-replicate {A = ℕ} largest 0) _ c.lay.ensures.0 _ c.lay.ensures.1 _ _ _ _ _ c.in-Laid.is _) (records-printed _ _ _ c.args.out.now _ _ _ _ c.put_records-arg-1.given.0.1 (alone-is _ _ _ _ _ (length-replicate {A = ℕ} largest 0) _ c.lay.ensures.0 c.lay.ensures.1 _ _ _ _ _ c.in-Laid.is) (records-few _ _ _ _ (length-replicate {A = ℕ} largest 0) _ c.lay.ensures.0 _ c.lay.ensures.1 _ _ _ _ _ c.in-Laid.is) c.requires c.put_records-at.ensures.0 c.put_records-at.ensures.1 c.put_records-bytes.ensures.0 c.put_records-bytes.ensures.1), laid-share _ _ _ _ (length-replicate {A = ℕ} largest 0) _ c.lay.ensures.0 _ c.lay.ensures.1 _ _ _ _ _ c.in-Laid.is)
 
 pub returns-in-Refused : goal.returns-in-Refused
 unfolding bound_of
-returns-in-Refused c = (prints-same (refused-said _ _ _ (replicate largest 0) (length-replicate {A = ℕ} largest 0) _ c.lay.ensures.0 _ c.verdict-1.given.1 _) c.print_refusal.ensures, refused-share _ _ _ (replicate largest 0) (length-replicate {A = ℕ} largest 0) _ c.lay.ensures.0 _ c.verdict-1.given.1)
+returns-in-Refused c = (prints-same (refused-said _ _ _ (replicate largest 0) (length-replicate {A = ℕ} largest 0) _ c.lay.ensures.0 _ c.in-Refused.is _) c.print_refusal.ensures, refused-share _ _ _ (replicate largest 0) (length-replicate {A = ℕ} largest 0) _ c.lay.ensures.0 _ c.in-Refused.is)

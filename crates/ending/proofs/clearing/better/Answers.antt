@@ -8,4 +8,4 @@ pub returns-then-spare : goal.returns-then-spare
 returns-then-spare c = c.cheaper-then-spare.ensures ∙ ap (cheaper_of _ _) c.cheaper.ensures ∙ better-spare _ _ _ _ _ _ (sym c.spare.ensures ∙ c.if-spare.true) _ _ c.cost-n.ensures c.cost-m.ensures
 
 pub returns : goal.returns
-returns-then-spare c = better-not _ _ _ _ _ _ (sym c.spare.ensures ∙ c.if-spare.false)
+returns c = better-not _ _ _ _ _ _ (sym c.spare.ensures ∙ c.if-spare.false)

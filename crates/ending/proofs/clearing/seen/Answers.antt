@@ -8,4 +8,4 @@ returns-then-mirrored c = rw c.if-mirrored.true
 
 pub returns : goal.returns
 unfolding seen_of
-returns-then-mirrored c = rw c.if-mirrored.false
+returns c = rw c.if-mirrored.false

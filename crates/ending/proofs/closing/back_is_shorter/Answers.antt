@@ -7,4 +7,4 @@ pub returns-then-back-onward : goal.returns-then-back-onward
 returns-then-back-onward c = back-shorter _ _ _ _ (gates_of 20 c.args.laid.now) _ _ c.cnots-back.ensures _ c.length_of.ensures c.if-back-onward.true
 
 pub returns : goal.returns
-returns-then-back-onward c = back-longer _ _ _ _ (gates_of 20 c.args.laid.now) _ _ c.cnots-back.ensures c.if-back-onward.false
+returns c = back-longer _ _ _ _ (gates_of 20 c.args.laid.now) _ _ c.cnots-back.ensures c.if-back-onward.false

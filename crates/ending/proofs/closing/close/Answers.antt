@@ -11,7 +11,7 @@ returns-then-back_is_shorter c =
     c.put_back-next.ensures.0 c.put_back-next.ensures.1 c.ending.ensures.0 c.ending.ensures.1
 
 pub returns : goal.returns
-returns-then-back_is_shorter c =
+returns c =
     written_same _ _ _ _ _ _
     (closing-onward _ _ _ _ (gates_of 20 c.args.laid.now) _ _ c.replayed_all-asked_now.ensures c.replayed_all-mirror_now.ensures _ c.length_of-onward.ensures _ c.back_is_shorter.ensures c.if-back_is_shorter.false)
     c.ending-2.ensures.0 c.ending-2.ensures.1

@@ -10,15 +10,15 @@ use Rattle.ending.proofs.closing.put_cnot_of.Goals as goal
 pub returns-in-Cnot : goal.returns-in-Cnot
 returns-in-Cnot c =
     let a = c.args in (
-      c.put_cnot.ensures.0 ∙ sym (ap (λ (g : Gate). emit a.out.now a.at (back_of (g ∷ []))) c.g-1.given.1),
-      c.put_cnot.ensures.1 ∙ sym (ap (λ (g : Gate). emit_at a.out.now a.at (back_of (g ∷ []))) c.g-1.given.1),
+      c.put_cnot.ensures.0 ∙ sym (ap (λ (g : Gate). emit a.out.now a.at (back_of (g ∷ []))) c.in-Cnot.is),
+      c.put_cnot.ensures.1 ∙ sym (ap (λ (g : Gate). emit_at a.out.now a.at (back_of (g ∷ []))) c.in-Cnot.is),
     )
 
 pub returns-in-Rotation : goal.returns-in-Rotation
-returns-in-Rotation c = written_none _ _ _ (ap (λ (g : Gate). back_of (g ∷ [])) c.enum_told-1.given.1)
+returns-in-Rotation c = written_none _ _ _ (ap (λ (g : Gate). back_of (g ∷ [])) c.in-Rotation.is)
 
 pub returns-in-X : goal.returns-in-X
-returns-in-X c = written_none _ _ _ (ap (λ (g : Gate). back_of (g ∷ [])) c.enum_told-in-X-1.given.1)
+returns-in-X c = written_none _ _ _ (ap (λ (g : Gate). back_of (g ∷ [])) c.in-X.is)
 
 pub returns-in-Bad : goal.returns-in-Bad
-returns-in-Bad c = written_none _ _ _ (ap (λ (g : Gate). back_of (g ∷ [])) c.enum_told-in-Bad-1.given.1)
+returns-in-Bad c = written_none _ _ _ (ap (λ (g : Gate). back_of (g ∷ [])) c.in-Bad.is)

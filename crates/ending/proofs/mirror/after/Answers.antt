@@ -8,16 +8,16 @@ use Rattle.ending.proofs.mirror.after.Goals as goal
 
 pub returns-in-Cnot : goal.returns-in-Cnot
 unfolding run step
-returns-in-Cnot c = c.joined.ensures ∙ sym (ap (λ (g : Gate). run (exchanged (g ∷ [])) c.args.rows) c.g-1.given.1)
+returns-in-Cnot c = c.joined.ensures ∙ sym (ap (λ (g : Gate). run (exchanged (g ∷ [])) c.args.rows) c.in-Cnot.is)
 
 pub returns-in-Rotation : goal.returns-in-Rotation
 unfolding run step
-returns-in-Rotation c = sym (ap (λ (g : Gate). run (exchanged (g ∷ [])) c.args.rows) c.enum_told-1.given.1)
+returns-in-Rotation c = sym (ap (λ (g : Gate). run (exchanged (g ∷ [])) c.args.rows) c.in-Rotation.is)
 
 pub returns-in-X : goal.returns-in-X
 unfolding run step
-returns-in-X c = sym (ap (λ (g : Gate). run (exchanged (g ∷ [])) c.args.rows) c.enum_told-in-X-1.given.1)
+returns-in-X c = sym (ap (λ (g : Gate). run (exchanged (g ∷ [])) c.args.rows) c.in-X.is)
 
 pub returns-in-Bad : goal.returns-in-Bad
 unfolding run step
-returns-in-Bad c = sym (ap (λ (g : Gate). run (exchanged (g ∷ [])) c.args.rows) c.enum_told-in-Bad-1.given.1)
+returns-in-Bad c = sym (ap (λ (g : Gate). run (exchanged (g ∷ [])) c.args.rows) c.in-Bad.is)

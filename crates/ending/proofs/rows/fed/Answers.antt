@@ -9,16 +9,16 @@ use Rattle.gathering.specs.Gather.{turns}
 use Rattle.ending.proofs.rows.fed.Goals as goal
 
 pub returns-then-mirror : goal.returns-then-mirror
-returns-then-mirror c = c.turned.ensures ∙ sym (ap₂ (λ (b : Bool) (g : Gate). turns (seen b (g ∷ [])) c.args.x) c.if-mirror.true c.g-1.given.1)
+returns-then-mirror c = c.turned.ensures ∙ sym (ap₂ (λ (b : Bool) (g : Gate). turns (seen b (g ∷ [])) c.args.x) c.if-mirror.true c.in-Cnot.is)
 
 pub returns-else-mirror : goal.returns-else-mirror
-returns-else-mirror c = c.turned-else-mirror.ensures ∙ sym (ap₂ (λ (b : Bool) (g : Gate). turns (seen b (g ∷ [])) c.args.x) c.if-mirror.false c.g-1.given.1)
+returns-else-mirror c = c.turned-else-mirror.ensures ∙ sym (ap₂ (λ (b : Bool) (g : Gate). turns (seen b (g ∷ [])) c.args.x) c.if-mirror.false c.in-Cnot.is)
 
 pub returns-in-Rotation : goal.returns-in-Rotation
-returns-in-Rotation c = sym (ap (λ (g : Gate). turns (seen c.args.mirror (g ∷ [])) c.args.x) c.enum_told-1.given.1 ∙ fed-rotation c.args.mirror _ _ _)
+returns-in-Rotation c = sym (ap (λ (g : Gate). turns (seen c.args.mirror (g ∷ [])) c.args.x) c.in-Rotation.is ∙ fed-rotation c.args.mirror _ _ _)
 
 pub returns-in-X : goal.returns-in-X
-returns-in-X c = sym (ap (λ (g : Gate). turns (seen c.args.mirror (g ∷ [])) c.args.x) c.enum_told-in-X-1.given.1 ∙ fed-x c.args.mirror _ _)
+returns-in-X c = sym (ap (λ (g : Gate). turns (seen c.args.mirror (g ∷ [])) c.args.x) c.in-X.is ∙ fed-x c.args.mirror _ _)
 
 pub returns-in-Bad : goal.returns-in-Bad
-returns-in-Bad c = sym (ap (λ (g : Gate). turns (seen c.args.mirror (g ∷ [])) c.args.x) c.enum_told-in-Bad-1.given.1 ∙ fed-bad c.args.mirror _)
+returns-in-Bad c = sym (ap (λ (g : Gate). turns (seen c.args.mirror (g ∷ [])) c.args.x) c.in-Bad.is ∙ fed-bad c.args.mirror _)

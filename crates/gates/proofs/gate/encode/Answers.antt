@@ -7,15 +7,15 @@ use Rattle.gates.proofs.gate.encode.Goals as goal
 
 pub returns-in-Cnot : goal.returns-in-Cnot
 unfolding packed record_of
-returns-in-Cnot c = sym (ap record_of c.g-1.given.1)
+returns-in-Cnot c = sym (ap record_of c.in-Cnot.is)
 
 pub returns-in-Rotation : goal.returns-in-Rotation
 unfolding packed record_of
-returns-in-Rotation c = sym (ap record_of c.g-in-Rotation-1.given.1)
+returns-in-Rotation c = sym (ap record_of c.in-Rotation.is)
 
 pub returns-in-X : goal.returns-in-X
 unfolding packed record_of
-returns-in-X c = omega (arith, ap record_of c.g-in-X-1.given.1)
+returns-in-X c = omega (arith, ap record_of c.in-X.is)
 
 pub returns-in-Bad : goal.returns-in-Bad
 unfolding record_of

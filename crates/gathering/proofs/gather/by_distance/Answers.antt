@@ -15,4 +15,4 @@ pub loop-len-preserved : goal.loop-len-preserved
 loop-len-preserved c = ordering-next _ _ _ _ _ _ _ c.loop-len.invariant _ _ _ _ c.loop-len-test.true c.layer-left.ensures c.if-left-eq0.false (search rules) c.lowest-u.ensures c.only-done-in-loop-len.ensures c.only-left.ensures
 
 pub returns : goal.returns
-returns-then-left-eq0 c = ordering-full _ _ _ _ _ _ _ c.loop-len.invariant c.loop-len-test.false
+returns c = ordering-full _ _ _ _ _ _ _ c.loop-len.invariant c.loop-len-test.false

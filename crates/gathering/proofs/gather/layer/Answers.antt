@@ -6,4 +6,4 @@ pub returns-then-left-eq0 : goal.returns-then-left-eq0
 returns-then-left-eq0 c = layer-next _ _ _ _ _ c.if-left-eq0.true c.grown.ensures
 
 pub returns : goal.returns
-returns-then-left-eq0 c = layer-same _ _ _ _ c.if-left-eq0.false
+returns c = layer-same _ _ _ _ c.if-left-eq0.false

@@ -19,4 +19,4 @@ pub returns-then-holds : goal.returns-then-holds
 returns-then-holds c = step-one _ _ _ _ _ _ _ _ (sym c.holds.ensures ∙ c.if-holds.true) c.if-inside-eq0.false c.lowest.ensures c.only-then-holds.ensures
 
 pub returns : goal.returns
-returns-then-beside-eq0 c = step-out _ _ _ _ _ _ (sym c.holds.ensures ∙ c.if-holds.false)
+returns c = step-out _ _ _ _ _ _ (sym c.holds.ensures ∙ c.if-holds.false)

@@ -28,5 +28,5 @@ returns-then-room-bound c = let a = c.args in
     told-short a.n a.islands a.gates.now a.room c.tell-told.result c.tell-told.ensures c.if-told-gates.false c.stray-wire.result c.stray-wire.ensures c.if-wire-n.false c.terms-terms.result c.terms-terms.ensures _ c.some_scattered.ensures c.if-some_scattered.false _ c.bound.ensures c.if-room-bound.true
 
 pub returns : goal.returns
-returns-then-told-gates c = let a = c.args in
+returns c = let a = c.args in
     told-pass a.n a.islands a.gates.now a.room c.tell-told.result c.tell-told.ensures c.if-told-gates.false c.stray-wire.result c.stray-wire.ensures c.if-wire-n.false c.terms-terms.result c.terms-terms.ensures _ c.some_scattered.ensures c.if-some_scattered.false _ c.bound.ensures c.if-room-bound.false

@@ -24,5 +24,5 @@ pub judge_inside-requires : goal.judge_inside-requires
 judge_inside-requires c = (qubits-few _ (passed c.judge_qubits-qubits.ensures c.number.ensures c.if-number-ne0.false)).1
 
 pub returns : goal.returns
-returns-then-number-ne0 c = let a = c.args in
+returns c = let a = c.args in
     c.judge_inside.ensures ∙ job-inside _ _ a.islands _ a.room (passed c.judge_qubits-qubits.ensures c.number.ensures c.if-number-ne0.false) (passed c.judge_couplers-listed.ensures c.number-2.ensures c.if-number-ne0-2.false) c.if-gates-gt-GATES.false (passed c.judge_gates-drawn.ensures c.number-3.ensures c.if-number-ne0-3.false)

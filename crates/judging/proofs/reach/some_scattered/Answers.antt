@@ -20,7 +20,7 @@ loop-k-preserved c =
     looking-next a.islands a.t2 a.len (search rules) c.requires at.k at.invariant (search rules) _ c.is_scattered.ensures c.if-is_scattered.false
 
 pub returns : goal.returns
-returns-then-is_scattered c =
+returns c =
     let at = c.loop-k in
     let a = c.args in
     looking-end a.islands a.t2 a.len (search rules) c.requires at.k at.invariant (search rules)

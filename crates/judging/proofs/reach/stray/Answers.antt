@@ -22,7 +22,7 @@ loop-i-preserved c =
     (search rules, sym (first_next _ _ at.i (search rules) (sym c.leaves.ensures ∙ c.if-leaves.false)) ∙ at.invariant.1)
 
 pub returns : goal.returns
-returns-then-leaves c =
+returns c =
     let at = c.loop-i in
     let e : at.i ≡ c.args.n = omega arith in
     sym e ∙ sym (first-end _ _ at.i (search rules)) ∙ at.invariant.1

@@ -43,7 +43,7 @@ slice_bounds-counted-end c = part-long _ _ _ c.lay_on-outcome.ensures.0.0 c.lay_
 
 pub returns : goal.returns
 unfolding bound_of
-returns-then-number-ne0 c = let a = c.args in
+returns c = let a = c.args in
     let v = verdict-found a.n a.couplers.now _ a.gates.now _ _ c.near-near.ensures c.islands-islands.ensures c.judge_on-verdict.result c.judge_on-verdict.ensures in
     let l = c.lay_on-outcome.ensures in
     let o = circuit-on a.n a.couplers.now a.gates.now a.out.now _ c.near-near.ensures in

@@ -15,4 +15,4 @@ pub loop-i-preserved : goal.loop-i-preserved
 loop-i-preserved c = seeking-next _ _ _ c.loop-i.invariant (search rules) (sym c.is_off.ensures ∙ c.if-is_off.false)
 
 pub returns : goal.returns
-returns-then-is_off c = seeking-end _ _ _ c.loop-i.invariant (search rules)
+returns c = seeking-end _ _ _ c.loop-i.invariant (search rules)

@@ -29,4 +29,4 @@ unfolding letter
 returns-then-kind-eq3 c = sym (ap letter c.if-kind-eq3.true)
 
 pub returns : goal.returns
-returns-then-kind-eq0 c = last c.args.kind c.if-kind-eq0.false c.if-kind-eq1.false c.if-kind-eq2.false c.if-kind-eq3.false
+returns c = last c.args.kind c.if-kind-eq0.false c.if-kind-eq1.false c.if-kind-eq2.false c.if-kind-eq3.false

@@ -11,6 +11,6 @@ returns-then-x-eq35 c =
     c.after.ensures ∙ ap (room_after a.left) (c.width.ensures ∙ ap length (filled-number a.x a.v c.if-x-eq35.true))
 
 pub returns : goal.returns
-returns-then-x-eq35 c =
+returns c =
     let a = c.args in
     c.after-2.ensures ∙ ap (λ bs. room_after a.left (length bs)) (filled-other a.x a.v c.if-x-eq35.false)

@@ -4,4 +4,4 @@ use lib.ListN.{get_or-eq_default}
 use Rattle.lines.proofs.pattern.number_at.Goals as goal
 
 pub returns : goal.returns
-returns-then-k-numbers c = sym (get_or-eq_default c.args.numbers.now 0 c.if-k-numbers.false)
+returns c = sym (get_or-eq_default c.args.numbers.now 0 c.if-k-numbers.false)

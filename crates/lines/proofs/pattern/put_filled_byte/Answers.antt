@@ -19,7 +19,7 @@ pub put-requires : goal.put-requires
 put-requires c = omega (arith, c.requires, ap length (filled-other c.args.x c.args.v c.if-x-eq35.false))
 
 pub returns : goal.returns
-returns-then-x-eq35 c =
+returns c =
     let a = c.args in
     let p = c.put in
     subst (λ bs. Wrote a.text.now a.at bs p.new.0 p.result) (filled-other a.x a.v c.if-x-eq35.false) p.ensures

@@ -46,7 +46,7 @@ loop-k-preserved c =
     )
 
 pub put-requires : goal.put-requires
-put-p-requires c =
+put-requires c =
     let l = c.loop-k in
     let a = c.args in
     let vs = a.numbers.now in

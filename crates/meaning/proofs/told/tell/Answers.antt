@@ -18,7 +18,7 @@ returns-then-grown c =
     let at = c.loop-i in
     let m : Meaning = record { wires = at.wires; sums = tabled at.parity at.sum at.len; phase = at.phase } in
     tell-full _ _ m at.i at.invariant (search rules) _ c.decode-g.ensures _
-    (fed-over m _ _ _ _ _ _ _ c.g-1.given.1 c.borne_on-p.ensures c.borne_on-f.ensures c.taken.ensures c.add-grown.ensures c.if-grown.true) c.if-grown.true
+    (fed-over m _ _ _ _ _ _ _ c.in-Rotation.is c.borne_on-p.ensures c.borne_on-f.ensures c.taken.ensures c.add-grown.ensures c.if-grown.true) c.if-grown.true
 
 pub loop-i-preserved : goal.loop-i-preserved
 loop-i-preserved c =
@@ -38,4 +38,4 @@ loop-i-preserved c =
     c.in-Cnot.branch
 
 pub returns : goal.returns
-returns-then-grown c = tell-all _ _ _ c.loop-i.i c.loop-i.invariant (search rules)
+returns c = tell-all _ _ _ c.loop-i.i c.loop-i.invariant (search rules)

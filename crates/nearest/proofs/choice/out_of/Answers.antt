@@ -17,6 +17,6 @@ returns-then-beside-eq0 c =
     out-alone _ _ _ own.0 c.if-beside-x-ne0.false c.if-beside-eq0.true
 
 pub returns : goal.returns
-returns-then-own-eq0 c =
+returns c =
     let own = own-some _ _ _ c.only.ensures c.if-own-eq0.false in
     out-two _ _ _ _ _ _ own.0 c.if-beside-x-ne0.false c.if-beside-eq0.false c.lowest-p.ensures c.only-2.ensures own.1

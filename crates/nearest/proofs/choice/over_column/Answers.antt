@@ -16,4 +16,4 @@ pub over_qubits-requires-2 : goal.over_qubits-requires-2
 over_qubits-requires-2 c = (c.requires.0, told-not _)
 
 pub returns : goal.returns
-returns-then-b-size c = c.over_qubits-2.ensures
+returns c = c.over_qubits-2.ensures

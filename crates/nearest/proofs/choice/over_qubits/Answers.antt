@@ -19,4 +19,4 @@ pub loop-left-preserved : goal.loop-left-preserved
 loop-left-preserved c = trying-next _ _ _ _ _ _ _ c.loop-left.invariant (search rules) c.loop-left-test.true _ c.lowest-v.ensures (search rules) _ c.only-left.ensures _ c.tried-best.ensures
 
 pub returns : goal.returns
-returns-then-v-ge-QUBITS c = trying-none _ _ _ _ _ _ _ c.loop-left.invariant c.loop-left-test.false
+returns c = trying-none _ _ _ _ _ _ _ c.loop-left.invariant c.loop-left-test.false

@@ -13,4 +13,4 @@ pub returns-then-n-b : goal.returns-then-n-b
 returns-then-n-b c = tried-nearer _ _ _ _ _ _ _ c.requires.2 (c.count-n.ensures ∙ ap (min _) (count-is _ _ _ _ c.requires.0 _ c.requires.1 _ _ c.slot.ensures)) c.if-n-b.true
 
 pub returns : goal.returns
-returns-then-n-b c = tried-farther _ _ _ _ _ _ _ c.requires.2 (c.count-n.ensures ∙ ap (min _) (count-is _ _ _ _ c.requires.0 _ c.requires.1 _ _ c.slot.ensures)) c.if-n-b.false
+returns c = tried-farther _ _ _ _ _ _ _ c.requires.2 (c.count-n.ensures ∙ ap (min _) (count-is _ _ _ _ c.requires.0 _ c.requires.1 _ _ c.slot.ensures)) c.if-n-b.false

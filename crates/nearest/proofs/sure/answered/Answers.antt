@@ -7,4 +7,4 @@ pub returns-then-holds : goal.returns-then-holds
 returns-then-holds c = answered-has _ _ _ _ c.holds-then-holds.ensures
 
 pub returns : goal.returns
-returns-then-holds c = answered-not _ _ _ _ (sym c.holds.ensures ∙ c.if-holds.false)
+returns c = answered-not _ _ _ _ (sym c.holds.ensures ∙ c.if-holds.false)

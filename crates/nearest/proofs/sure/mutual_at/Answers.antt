@@ -18,4 +18,4 @@ pub loop-v-preserved : goal.loop-v-preserved
 loop-v-preserved c = (search rules, search rules, mutual-next _ _ c.loop-v.v (c.answered.ensures (not-false _ c.if-not-answered.false)) c.loop-v.invariant.2)
 
 pub returns : goal.returns
-returns-then-near-u-ge-ABOVE c = λ t. mutual-all _ _ c.loop-v.v (search rules) c.loop-v.invariant.2
+returns c = λ t. mutual-all _ _ c.loop-v.v (search rules) c.loop-v.invariant.2

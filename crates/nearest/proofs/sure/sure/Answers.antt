@@ -9,4 +9,4 @@ pub returns-then-mutual : goal.returns-then-mutual
 returns-then-mutual c = sure-of _ _ c.if-set-ge-ABOVE.false (c.«mutual».ensures c.if-mutual.true) _ c.connected.ensures
 
 pub returns : goal.returns
-returns-then-set-ge-ABOVE c = told-not _
+returns c = told-not _

@@ -12,5 +12,5 @@ returns-then-number-ne0 c = let no = refused c.judge-verdict.ensures c.number.en
 
 pub returns : goal.returns
 unfolding bound_of
-returns-then-number-ne0 c = let z = passed c.judge-verdict.ensures c.number.ensures c.if-number-ne0.false in
+returns c = let z = passed c.judge-verdict.ensures c.number.ensures c.if-number-ne0.false in
     (prints-same (circuit-passed c.args.circuit _ _ z) (head-whole _ _ _ c.put_head-arg-1.given.0.1 _ _ _ _ z c.put_head.ensures), handed-passed c.args.circuit _ _ z)

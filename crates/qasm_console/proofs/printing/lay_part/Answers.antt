@@ -26,7 +26,7 @@ pub overflow_add-result-2 : goal.overflow_add-result-2
 overflow_add-result-2 c = search (rules, lent-within _ _ c.args.from _ c.stretch_at-stretch.ensures c.if-gates-from.false)
 
 pub returns : goal.returns
-returns-then-gates-from c = (
+returns c = (
   prints-same (part-text (gates_text _) _ _ _ c.args.from c.if-gates-from.false _ _ c.stretch_at-stretch.ensures c.hadamard_at.ensures) c.print_part-printed.ensures.0,
   part-next _ c.args.couplers.now _ c.args.from c.if-gates-from.false _ _ c.stretch_at-stretch.ensures c.hadamard_at.ensures,
   c.print_part-printed.ensures.1 ∙ part-share _ _ _ c.args.from c.if-gates-from.false _ _ c.stretch_at-stretch.ensures c.hadamard_at.ensures,

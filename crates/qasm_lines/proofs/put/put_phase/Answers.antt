@@ -19,7 +19,7 @@ pub slice_bounds-put_pattern-end : goal.slice_bounds-put_pattern-end
 slice_bounds-put_pattern-end c = sym (length-take-le _ _ (omega (arith, c.phase_length-bytes.ensures, phase-pattern-most c.args.version, c.phase_pattern-line.type_inv)))
 
 pub returns : goal.returns
-returns-then-g-eq0 c =
+returns c =
     let a = c.args in
     let p = c.put_pattern in
     subst (λ bs. Fitted a.text.now a.at bs p.new.0 p.result) (phase-line a.version a.phase c.phase_pattern-line.result c.if-g-eq0.false c.phase_pattern-line.ensures c.phase_length-bytes.ensures) p.ensures

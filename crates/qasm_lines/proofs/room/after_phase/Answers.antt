@@ -20,6 +20,6 @@ pub slice_bounds-after_pattern-end : goal.slice_bounds-after_pattern-end
 slice_bounds-after_pattern-end c = sym (length-take-le _ _ (omega (arith, c.phase_length-bytes.ensures, phase-pattern-most c.args.version, c.phase_pattern-line.type_inv)))
 
 pub returns : goal.returns
-returns-then-g-eq0 c =
+returns c =
     let a = c.args in
     c.after_pattern.ensures ∙ ap (λ bs. room_after a.room (length bs)) (phase-line a.version a.phase c.phase_pattern-line.result c.if-g-eq0.false c.phase_pattern-line.ensures c.phase_length-bytes.ensures)

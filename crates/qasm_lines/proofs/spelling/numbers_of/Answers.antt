@@ -6,4 +6,4 @@ pub returns-then-x-eq2 : goal.returns-then-x-eq2
 returns-then-x-eq2 c = numbers-turn c.args.x c.if-x-eq2.true
 
 pub returns : goal.returns
-returns-then-x-eq2 c = numbers-other c.args.x c.if-x-eq2.false
+returns c = numbers-other c.args.x c.if-x-eq2.false

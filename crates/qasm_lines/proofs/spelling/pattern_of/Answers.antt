@@ -6,13 +6,13 @@ pub returns-then-kind-eq1 : goal.returns-then-kind-eq1
 returns-then-kind-eq1 c = rw (pattern-cx c.args.version c.args.kind c.if-kind-eq1.true)
 
 pub returns-in-Two : goal.returns-in-Two
-returns-in-Two c = rw (pattern-turn c.args.version c.args.kind c.if-kind-eq2.true, c.enum_told-1.given.1)
+returns-in-Two c = rw (pattern-turn c.args.version c.args.kind c.if-kind-eq2.true, c.in-Two.is)
 
 pub returns-in-Three : goal.returns-in-Three
-returns-in-Three c = rw (pattern-turn c.args.version c.args.kind c.if-kind-eq2.true, c.enum_told-in-Three-1.given.1)
+returns-in-Three c = rw (pattern-turn c.args.version c.args.kind c.if-kind-eq2.true, c.in-Three.is)
 
 pub returns-then-kind-eq3 : goal.returns-then-kind-eq3
 returns-then-kind-eq3 c = rw (pattern-x c.args.version c.args.kind c.if-kind-eq3.true)
 
 pub returns : goal.returns
-returns-then-kind-eq1 c = rw (pattern-h c.args.version c.args.kind c.if-kind-eq1.false c.if-kind-eq2.false c.if-kind-eq3.false)
+returns c = rw (pattern-h c.args.version c.args.kind c.if-kind-eq1.false c.if-kind-eq2.false c.if-kind-eq3.false)

@@ -52,7 +52,7 @@ fill-requires c = omega (arith, c.count-g.ensures.0, c.if-gates-g.false)
 
 pub returns : goal.returns
 unfolding registered
-returns-then-bad_angle c = let a = c.args in
+returns c = let a = c.args in
     let s = a.text.now in
     let r = statement_run a.version a.name.now (words (drop a.at s)) in
     let l = words (drop c.count-g.result.next s) in

@@ -9,4 +9,4 @@ pub returns-then-has_end : goal.returns-then-has_end
 returns-then-has_end c = head-has c.args.text.now (words (drop c.args.at c.args.text.now)) (sym c.has_end.ensures ∙ c.if-has_end.true) c.Line-of.ensures
 
 pub returns : goal.returns
-returns-then-has_end c = head-not c.args.text.now (words (drop c.args.at c.args.text.now)) (sym c.has_end.ensures ∙ c.if-has_end.false)
+returns c = head-not c.args.text.now (words (drop c.args.at c.args.text.now)) (sym c.has_end.ensures ∙ c.if-has_end.false)

@@ -12,4 +12,4 @@ pub returns-then-start-text : goal.returns-then-start-text
 returns-then-start-text c = line_word c.args.text.now c.next-b.result.from _ _ _ c.if-start-text.true (c.next-b.ensures.found c.if-start-text.true) c.line_behind.ensures
 
 pub returns : goal.returns
-returns-then-start-text c = line-end c.args.text.now _ (c.next-b.ensures.none_left c.if-start-text.false)
+returns c = line-end c.args.text.now _ (c.next-b.ensures.none_left c.if-start-text.false)

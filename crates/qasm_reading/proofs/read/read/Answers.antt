@@ -16,7 +16,7 @@ pub returns-in-At : goal.returns-in-At
 unfolding parsed_circuit
 returns-in-At c = let s = c.args.text.now in
     let old = c.args.gates.now in
-    let e = parsed-two (words s) c.version-two.ensures _ (ap (words_at s) c.two-1.given.1) in (
+    let e = parsed-two (words s) c.version-two.ensures _ (ap (words_at s) c.in-At.is) in (
       c.behind_version.ensures.answer ∙ sym (reading-is s (length old) c.if-text-gt-MOST_BYTES.false ∙ ap (found_answer s (length old)) e),
       c.behind_version.ensures.list ∙ sym (ap (λ p. lent_after (circuit_verdict c.behind_version.result) (circuit_gates p) old) e),
     )
@@ -25,7 +25,7 @@ pub returns-in-At-three : goal.returns-in-At-three
 unfolding parsed_circuit
 returns-in-At-three c = let s = c.args.text.now in
     let old = c.args.gates.now in
-    let e = parsed-three (words s) c.version-two.ensures (ap (words_at s) c.enum_told-1.given.1) c.version-three.ensures _ (ap (words_at s) c.three-1.given.1) in (
+    let e = parsed-three (words s) c.version-two.ensures (ap (words_at s) c.in-Lost.is) c.version-three.ensures _ (ap (words_at s) c.in-At-three.is) in (
       c.behind_version-in-At-three.ensures.answer ∙ sym (reading-is s (length old) c.if-text-gt-MOST_BYTES.false ∙ ap (found_answer s (length old)) e),
       c.behind_version-in-At-three.ensures.list ∙ sym (ap (λ p. lent_after (circuit_verdict c.behind_version-in-At-three.result) (circuit_gates p) old) e),
     )
@@ -34,5 +34,5 @@ pub returns-in-Lost-three : goal.returns-in-Lost-three
 unfolding parsed_circuit
 returns-in-Lost-three c = let s = c.args.text.now in
     let old = c.args.gates.now in
-    let e = parsed-neither (words s) c.version-two.ensures (ap (words_at s) c.enum_told-1.given.1) c.version-three.ensures (ap (words_at s) c.enum_told-in-Lost-three-1.given.1) in
+    let e = parsed-neither (words s) c.version-two.ensures (ap (words_at s) c.in-Lost.is) c.version-three.ensures (ap (words_at s) c.in-Lost-three.is) in
     (sym (reading-is s (length old) c.if-text-gt-MOST_BYTES.false ∙ ap (found_answer s (length old)) e), refl)

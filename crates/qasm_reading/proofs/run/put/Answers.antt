@@ -22,5 +22,5 @@ returns-then-gate c = let a = c.args in
     sym (ap (λ (b : Bool). pick b (set a.out.now a.n a.x) a.out.now) c.if-gate.true)
 
 pub returns : goal.returns
-returns-then-gate c = let a = c.args in
+returns c = let a = c.args in
     sym (ap (λ (b : Bool). pick b (set a.out.now a.n a.x) a.out.now) c.if-gate.false)

@@ -7,9 +7,9 @@ use Rattle.qasm_text.proofs.write.fits.Goals as goal
 pub returns-in-Over : goal.returns-in-Over
 returns-in-Over c =
     let a = c.args in
-    sym (ap is_left c.enum_told-1.given.1) ∙ circuit-left a.version a.n a.gates.now a.phase a.room c.after_head-first.ensures c.after_gates-second.ensures c.after_phase-left.ensures
+    sym (ap is_left c.in-Over.is) ∙ circuit-left a.version a.n a.gates.now a.phase a.room c.after_head-first.ensures c.after_gates-second.ensures c.after_phase-left.ensures
 
 pub returns-in-Left : goal.returns-in-Left
 returns-in-Left c =
     let a = c.args in
-    sym (ap is_left c.enum_told-in-Left-1.given.1) ∙ circuit-left a.version a.n a.gates.now a.phase a.room c.after_head-first.ensures c.after_gates-second.ensures c.after_phase-left.ensures
+    sym (ap is_left c.in-Left.is) ∙ circuit-left a.version a.n a.gates.now a.phase a.room c.after_head-first.ensures c.after_gates-second.ensures c.after_phase-left.ensures

@@ -26,7 +26,7 @@ returns-then-fits c =
     sym (ap (λ t. pick t Accepted Room) (sym c.fits2.ensures ∙ c.if-fits.true)) ∙ judged-room a.version a.n a.gates.now a.phase a.room one two
 
 pub returns : goal.returns
-returns-then-number-ne0 c =
+returns c =
     let a = c.args in
     let one = passed c.judge_qubits-v1.ensures c.number.ensures c.if-number-ne0.false in
     let two = passed c.judge_drawn-v2.ensures c.number-2.ensures c.if-number-ne0-2.false in

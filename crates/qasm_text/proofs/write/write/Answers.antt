@@ -27,7 +27,7 @@ returns-then-number-eq0 c =
     (ap Written z ∙ writing-yes a.version a.n gs a.phase room yes', p.ensures.1 ∙ sets-onto (circuit_text a.version a.n gs a.phase) a.text.now (accepts a.version a.n gs a.phase room yes').fits)
 
 pub returns : goal.returns
-returns-then-number-eq0 c =
+returns c =
     let a = c.args in
     let v = c.judge-v in
     let no' : number_of v.result ≡ 0 → ⊥ = λ z. c.if-number-eq0.false (c.number.ensures ∙ z) in (

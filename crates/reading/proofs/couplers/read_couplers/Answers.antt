@@ -31,7 +31,7 @@ returns-then-couplers-e c =
     (listing-room s _ _ c.if-text-gt-MOST_BYTES.false w (omega (arith, c.count-e.ensures.0, c.if-couplers-e.true)), refl)
 
 pub returns : goal.returns
-returns-then-text-gt-MOST_BYTES c =
+returns c =
     let s = c.args.text.now in
     let w = listed-whole s (drop c.count-e.result.next s) c.count-e.ensures.1 (drop_of_length-le s c.if-e-text.false) in (
       listing-read s (length c.args.couplers.now) _ c.if-text-gt-MOST_BYTES.false w c.count-e.ensures.0 c.if-couplers-e.false,

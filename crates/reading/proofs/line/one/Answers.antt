@@ -10,14 +10,14 @@ returns-in-Lost c =
     let b = c in
     let a = b.args in
     let e = b.line-c.ensures in
-    c.other.ensures ∙ one-second a.gates (drop a.at a.text.now) b.if-gates.true (sym (ap (λ g. g.rest) e) ∙ ap (rest_at a.text.now) c.enum_told-1.given.1)
+    c.other.ensures ∙ one-second a.gates (drop a.at a.text.now) b.if-gates.true (sym (ap (λ g. g.rest) e) ∙ ap (rest_at a.text.now) c.in-Lost.is)
 
 pub returns-in-At : goal.returns-in-At
 returns-in-At c =
     let b = c in
     let a = b.args in
     let e = b.line-c.ensures in
-    e ∙ one-first a.gates (drop a.at a.text.now) b.if-gates.true (sym (ap (λ g. g.rest) e) ∙ ap (rest_at a.text.now) c.enum_told-in-At-1.given.1)
+    e ∙ one-first a.gates (drop a.at a.text.now) b.if-gates.true (sym (ap (λ g. g.rest) e) ∙ ap (rest_at a.text.now) c.in-At.is)
 
 pub returns-else-gates : goal.returns-else-gates
 returns-else-gates c =

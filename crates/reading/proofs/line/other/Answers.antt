@@ -10,8 +10,8 @@ returns-in-Lost-behind c =
     let a = c.args in
     let s = a.text.now in
     c.short.ensures
-    ∙ other-third (drop a.at s) (sym (ap (λ g. g.rest) c.line-r.ensures) ∙ ap (rest_at s) c.enum_told-1.given.1)
-    (sym (ap (λ g. g.rest) c.short-x.ensures) ∙ ap (rest_at s) c.enum_told-in-Lost-behind-1.given.1)
+    ∙ other-third (drop a.at s) (sym (ap (λ g. g.rest) c.line-r.ensures) ∙ ap (rest_at s) c.in-Lost.is)
+    (sym (ap (λ g. g.rest) c.short-x.ensures) ∙ ap (rest_at s) c.in-Lost-behind.is)
 
 pub returns-in-At-behind : goal.returns-in-At-behind
 returns-in-At-behind c =
@@ -19,12 +19,12 @@ returns-in-At-behind c =
     let s = a.text.now in
     let e = c.short-x.ensures in
     e
-    ∙ other-second (drop a.at s) (sym (ap (λ g. g.rest) c.line-r.ensures) ∙ ap (rest_at s) c.enum_told-1.given.1)
-    (sym (ap (λ g. g.rest) e) ∙ ap (rest_at s) c.enum_told-in-At-behind-1.given.1)
+    ∙ other-second (drop a.at s) (sym (ap (λ g. g.rest) c.line-r.ensures) ∙ ap (rest_at s) c.in-Lost.is)
+    (sym (ap (λ g. g.rest) e) ∙ ap (rest_at s) c.in-At-behind.is)
 
 pub returns-in-At : goal.returns-in-At
 returns-in-At c =
     let a = c.args in
     let s = a.text.now in
     let e = c.line-r.ensures in
-    e ∙ other-first (drop a.at s) (sym (ap (λ g. g.rest) e) ∙ ap (rest_at s) c.enum_told-in-At-1.given.1)
+    e ∙ other-first (drop a.at s) (sym (ap (λ g. g.rest) e) ∙ ap (rest_at s) c.in-At.is)

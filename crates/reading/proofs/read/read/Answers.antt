@@ -75,7 +75,7 @@ pub returns-in-Lost : goal.returns-in-Lost
 returns-in-Lost c =
     let h = c in
     let a = h.args in
-    (answer-line a.text.now _ _ _ h.if-text-gt-MOST_BYTES.false (parsed-first a.text.now (sym (ap (λ g. g.rest) h.head-h.ensures) ∙ ap (rest_at a.text.now) c.enum_told-1.given.1)), refl, refl)
+    (answer-line a.text.now _ _ _ h.if-text-gt-MOST_BYTES.false (parsed-first a.text.now (sym (ap (λ g. g.rest) h.head-h.ensures) ∙ ap (rest_at a.text.now) c.in-Lost.is)), refl, refl)
 
 pub returns-else-gates-g : goal.returns-else-gates-g
 returns-else-gates-g c =

@@ -11,8 +11,8 @@ use Rattle.reading.proofs.run.count.Goals as goal
 
 step : (c : tie.After-known-told invariant-loop decreases-loop)
     → (read_one c.args.gates (drop c.loop-q.at c.args.text.now)).rest
-    ≡ some (drop c.next-1.given.0.0 c.args.text.now)
-step c = sym (ap (λ g. g.rest) c.one-p.ensures) ∙ ap (rest_at c.args.text.now) c.next-1.given.1
+    ≡ some (drop c.in-At.q c.args.text.now)
+step c = sym (ap (λ g. g.rest) c.one-p.ensures) ∙ ap (rest_at c.args.text.now) c.in-At.is
 
 pub loop-q-init : goal.loop-q-init
 loop-q-init c = count-start c.args.gates (drop c.args.from c.args.text.now)
@@ -22,7 +22,7 @@ returns-in-Lost c =
     let l = c in
     let a = l.args in
     count-done a.gates (drop a.from a.text.now) l.loop-q.n (drop l.loop-q.at a.text.now) l.loop-q.invariant
-    (sym (ap (λ g. g.rest) c.one-p.ensures) ∙ ap (rest_at a.text.now) c.enum_told-1.given.1)
+    (sym (ap (λ g. g.rest) c.one-p.ensures) ∙ ap (rest_at a.text.now) c.in-Lost.is)
 
 pub overflow_add-n : goal.overflow_add-n
 overflow_add-n c =
@@ -37,4 +37,4 @@ pub loop-q-preserved : goal.loop-q-preserved
 loop-q-preserved c =
     let l = c in
     let a = l.args in
-    count-step a.gates (drop a.from a.text.now) l.loop-q.n (drop l.loop-q.at a.text.now) (drop c.next-1.given.0.0 a.text.now) l.loop-q.invariant (step c)
+    count-step a.gates (drop a.from a.text.now) l.loop-q.n (drop l.loop-q.at a.text.now) (drop c.in-At.q a.text.now) l.loop-q.invariant (step c)

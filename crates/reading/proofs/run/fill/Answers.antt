@@ -12,15 +12,15 @@ use Rattle.reading.proofs.run.fill.Goals as goal
 
 module _ (c : tie.After-known-told invariant-loop decreases-loop) where
   step : (read_one c.args.gates (drop c.loop-q.at c.args.text.now)).rest
-      ≡ some (drop c.next-1.given.0.0 c.args.text.now)
-  step = sym (ap (λ g. g.rest) c.one-p.ensures) ∙ ap (rest_at c.args.text.now) c.next-1.given.1
+      ≡ some (drop c.in-At.q c.args.text.now)
+  step = sym (ap (λ g. g.rest) c.one-p.ensures) ∙ ap (rest_at c.args.text.now) c.in-At.is
 
   room : c.loop-q.n < length c.loop-q.out
   room =
       let l = c in
       let s = l.before in
       let a = s.args in
-      fill-room a.gates (drop a.from a.text.now) a.out.now l.loop-q.out l.loop-q.n (drop l.loop-q.at a.text.now) (drop c.next-1.given.0.0 a.text.now) l.loop-q.invariant step s.requires
+      fill-room a.gates (drop a.from a.text.now) a.out.now l.loop-q.out l.loop-q.n (drop l.loop-q.at a.text.now) (drop c.in-At.q a.text.now) l.loop-q.invariant step s.requires
 
 pub loop-q-init : goal.loop-q-init
 loop-q-init c =
@@ -35,7 +35,7 @@ returns-in-Lost c =
     let l = c in
     let a = l.args in
     fill_done a.gates (drop a.from a.text.now) a.out.now l.loop-q.out l.loop-q.n (drop l.loop-q.at a.text.now) l.loop-q.invariant
-    (sym (ap (λ g. g.rest) c.one-p.ensures) ∙ ap (rest_at a.text.now) c.enum_told-1.given.1)
+    (sym (ap (λ g. g.rest) c.one-p.ensures) ∙ ap (rest_at a.text.now) c.in-Lost.is)
 
 pub offset_bounds-out-n : goal.offset_bounds-out-n
 offset_bounds-out-n c = omega (arith, room c, c.loop-q.invariant.size, c.well-formed)
@@ -53,6 +53,6 @@ pub loop-q-preserved : goal.loop-q-preserved
 loop-q-preserved c =
     let l = c in
     let a = l.args in
-    subst (λ v. FillingLines a.gates (drop a.from a.text.now) a.out.now (set l.loop-q.out l.loop-q.n v) (l.loop-q.n + 1) (drop c.next-1.given.0.0 a.text.now))
+    subst (λ v. FillingLines a.gates (drop a.from a.text.now) a.out.now (set l.loop-q.out l.loop-q.n v) (l.loop-q.n + 1) (drop c.in-At.q a.text.now))
     (sym (ap (λ g. g.value) c.one-p.ensures))
-    (fill_step a.gates (drop a.from a.text.now) a.out.now l.loop-q.out l.loop-q.n (drop l.loop-q.at a.text.now) (drop c.next-1.given.0.0 a.text.now) l.loop-q.invariant (step c) (room c))
+    (fill_step a.gates (drop a.from a.text.now) a.out.now l.loop-q.out l.loop-q.n (drop l.loop-q.at a.text.now) (drop c.in-At.q a.text.now) l.loop-q.invariant (step c) (room c))

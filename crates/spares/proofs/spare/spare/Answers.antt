@@ -17,6 +17,6 @@ returns-then-holds c =
 
 pub returns : goal.returns
 unfolding spare_of
-returns-then-holds c =
+returns c =
     let a = c.args in
     sym (ap (λ b. both b (connected_of a.near (bit_xor a.set (2 ^ a.q)))) (sym c.holds.ensures ∙ c.if-holds.false))

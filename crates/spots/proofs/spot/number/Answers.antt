@@ -4,7 +4,7 @@ use Rattle.spots.proofs.spot.number.Goals as goal
 
 pub returns-in-Lost : goal.returns-in-Lost
 unfolding read_number
-returns-in-Lost c = rw c.enum_told-1.given.1
+returns-in-Lost c = rw c.in-Lost.is
 
 pub returns-in-At : goal.returns-in-At
-returns-in-At c = rw c.from-1.given.1 c.number_at.ensures
+returns-in-At c = rw c.in-At.is c.number_at.ensures

@@ -8,13 +8,13 @@ pub returns-then-text-at : goal.returns-then-text-at
 returns-then-text-at c =
     let k = c in
     let a = k.args in
-    rw k.from-1.given.1 (skip-end a.text.now k.from-1.given.0.0 a.byte c.if-text-at.true)
+    rw k.in-At.is (skip-end a.text.now k.in-At.at a.byte c.if-text-at.true)
 
 pub returns-then-text-at-2 : goal.returns-then-text-at-2
 returns-then-text-at-2 c =
     let k = c in
     let a = k.args in
-    rw k.from-1.given.1 (skip-hit a.text.now k.from-1.given.0.0 a.byte c.if-text-at.false c.if-text-at-2.true)
+    rw k.in-At.is (skip-hit a.text.now k.in-At.at a.byte c.if-text-at.false c.if-text-at-2.true)
 
 pub returns-in-Lost : goal.returns-in-Lost
 unfolding skipped
@@ -24,4 +24,4 @@ pub returns-else-text-at-2 : goal.returns-else-text-at-2
 returns-else-text-at-2 c =
     let k = c in
     let a = k.args in
-    rw k.from-1.given.1 (skip-miss a.text.now k.from-1.given.0.0 a.byte c.if-text-at.false c.if-text-at-2.false)
+    rw k.in-At.is (skip-miss a.text.now k.in-At.at a.byte c.if-text-at.false c.if-text-at-2.false)

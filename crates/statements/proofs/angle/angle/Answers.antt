@@ -5,7 +5,7 @@ use Rattle.statements.proofs.Chains.{angle-minus, angle-plain}
 use Rattle.statements.proofs.angle.angle.Goals as goal
 
 pub returns-in-At : goal.returns-in-At
-returns-in-At c = angle-minus (words_at c.args.text.now c.args.from) c.args.scale c.mark-minus.ensures (ap (words_at c.args.text.now) c.enum_told-1.given.1) c.multiple.ensures
+returns-in-At c = angle-minus (words_at c.args.text.now c.args.from) c.args.scale c.mark-minus.ensures (ap (words_at c.args.text.now) c.in-At.is) c.multiple.ensures
 
 pub returns-in-Lost : goal.returns-in-Lost
-returns-in-Lost c = angle-plain (words_at c.args.text.now c.args.from) c.args.scale c.mark-minus.ensures (ap (words_at c.args.text.now) c.enum_told-in-Lost-1.given.1) c.multiple-in-Lost.ensures
+returns-in-Lost c = angle-plain (words_at c.args.text.now c.args.from) c.args.scale c.mark-minus.ensures (ap (words_at c.args.text.now) c.in-Lost.is) c.multiple-in-Lost.ensures

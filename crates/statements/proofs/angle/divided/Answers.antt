@@ -8,4 +8,4 @@ pub returns-then-is_over : goal.returns-then-is_over
 returns-then-is_over c = divided-good (words_at c.args.text.now c.args.from) c.args.scale c.most_times.ensures c.mark-slash.ensures c.number-d.ensures (sym c.is_over.ensures ∙ c.if-is_over.true)
 
 pub returns : goal.returns
-returns-then-is_over c = divided-bad (words_at c.args.text.now c.args.from) c.args.scale c.most_times.ensures c.mark-slash.ensures c.number-d.ensures (sym c.is_over.ensures ∙ c.if-is_over.false)
+returns c = divided-bad (words_at c.args.text.now c.args.from) c.args.scale c.most_times.ensures c.mark-slash.ensures c.number-d.ensures (sym c.is_over.ensures ∙ c.if-is_over.false)

@@ -5,7 +5,7 @@ use Rattle.statements.proofs.Chains.{over-there, over-not}
 use Rattle.statements.proofs.angle.over.Goals as goal
 
 pub returns-in-At : goal.returns-in-At
-returns-in-At c = over-there (words_at c.args.text.now c.args.from) c.args.scale c.divided-d.ensures (ap (words_at c.args.text.now) c.enum_told-1.given.1)
+returns-in-At c = over-there (words_at c.args.text.now c.args.from) c.args.scale c.divided-d.ensures (ap (words_at c.args.text.now) c.in-At.is)
 
 pub returns-in-Lost : goal.returns-in-Lost
-returns-in-Lost c = over-not (words_at c.args.text.now c.args.from) c.args.scale c.divided-d.ensures (ap (words_at c.args.text.now) c.enum_told-in-Lost-1.given.1)
+returns-in-Lost c = over-not (words_at c.args.text.now c.args.from) c.args.scale c.divided-d.ensures (ap (words_at c.args.text.now) c.in-Lost.is)

@@ -13,4 +13,4 @@ returns-then-bad_in-2 c = rw (sym c.bad_in.ensures ∙ c.if-bad_in.false, sym c.
 
 pub returns : goal.returns
 unfolding bad_angle
-returns-then-bad_in c = rw (sym c.bad_in.ensures ∙ c.if-bad_in.false, sym c.bad_in-2.ensures ∙ c.if-bad_in-2.false, c.bad_newer.ensures)
+returns c = rw (sym c.bad_in.ensures ∙ c.if-bad_in.false, sym c.bad_in-2.ensures ∙ c.if-bad_in-2.false, c.bad_newer.ensures)

@@ -7,4 +7,4 @@ pub returns-then-alone : goal.returns-then-alone
 returns-then-alone c = follow-alone c.args.name.now c.args.alone (words_at c.args.text.now c.args.from) c.if-alone.true c.mark-p0.ensures c.mark.ensures
 
 pub returns : goal.returns
-returns-then-alone c = follow-qubit c.args.name.now c.args.alone (words_at c.args.text.now c.args.from) c.if-alone.false c.tail-t.ensures
+returns c = follow-qubit c.args.name.now c.args.alone (words_at c.args.text.now c.args.from) c.if-alone.false c.tail-t.ensures

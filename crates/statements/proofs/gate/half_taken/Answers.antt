@@ -4,8 +4,8 @@ use Rattle.statements.proofs.gate.half_taken.Goals as goal
 
 pub returns-in-Two : goal.returns-in-Two
 unfolding half_taken
-returns-in-Two c = rw c.enum_told-1.given.1
+returns-in-Two c = rw c.in-Two.is
 
 pub returns-in-Three : goal.returns-in-Three
 unfolding half_taken
-returns-in-Three c = rw c.enum_told-in-Three-1.given.1
+returns-in-Three c = rw c.in-Three.is

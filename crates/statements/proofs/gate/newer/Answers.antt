@@ -11,10 +11,10 @@ pub rotated-requires : goal.rotated-requires
 rotated-requires c = omega (arith, turn-le (words_at c.args.text.now c.args.from) c.args.name.now (mark 112), ap (λ (t : TurnSaid). t.qubit) c.turn-p.ensures)
 
 pub returns-in-Two : goal.returns-in-Two
-returns-in-Two c = newer-two (words_at c.args.text.now c.args.from) c.args.name.now c.args.version c.enum_told-1.given.1
+returns-in-Two c = newer-two (words_at c.args.text.now c.args.from) c.args.name.now c.args.version c.in-Two.is
 
 pub returns-in-At : goal.returns-in-At
-returns-in-At c = newer-p (words_at c.args.text.now c.args.from) c.args.name.now c.args.version c.enum_told-in-Three-1.given.1 c.turn-p.ensures (ap (words_at c.args.text.now) c.enum_told-in-At-1.given.1) (c.rotated.ensures c.args.text.now)
+returns-in-At c = newer-p (words_at c.args.text.now c.args.from) c.args.name.now c.args.version c.in-Three.is c.turn-p.ensures (ap (words_at c.args.text.now) c.in-At.is) (c.rotated.ensures c.args.text.now)
 
 pub returns-in-Lost : goal.returns-in-Lost
-returns-in-Lost c = newer-common (words_at c.args.text.now c.args.from) c.args.name.now c.args.version c.enum_told-in-Three-1.given.1 c.turn-p.ensures (ap (words_at c.args.text.now) c.enum_told-in-Lost-1.given.1) c.common.ensures
+returns-in-Lost c = newer-common (words_at c.args.text.now c.args.from) c.args.name.now c.args.version c.in-Three.is c.turn-p.ensures (ap (words_at c.args.text.now) c.in-Lost.is) c.common.ensures

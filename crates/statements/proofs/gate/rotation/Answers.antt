@@ -14,10 +14,10 @@ pub rotated-requires-in-At-z_next : goal.rotated-requires-in-At-z_next
 rotated-requires-in-At-z_next c = omega (arith, turn-le (words_at c.args.text.now c.args.from) c.args.name.now rz, ap (λ (t : TurnSaid). t.qubit) c.turn-z.ensures)
 
 pub returns-in-At : goal.returns-in-At
-returns-in-At c = rotation-u1 (words_at c.args.text.now c.args.from) c.args.name.now c.args.version c.turn-u.ensures (ap (words_at c.args.text.now) c.enum_told-1.given.1) (c.rotated.ensures c.args.text.now)
+returns-in-At c = rotation-u1 (words_at c.args.text.now c.args.from) c.args.name.now c.args.version c.turn-u.ensures (ap (words_at c.args.text.now) c.in-At.is) (c.rotated.ensures c.args.text.now)
 
 pub returns-in-At-z_next : goal.returns-in-At-z_next
-returns-in-At-z_next c = rotation-rz (words_at c.args.text.now c.args.from) c.args.name.now c.args.version c.turn-u.ensures (ap (words_at c.args.text.now) c.enum_told-in-Lost-1.given.1) c.turn-z.ensures (ap (words_at c.args.text.now) c.enum_told-in-At-z_next-1.given.1) c.half_taken.ensures (c.rotated-in-At-z_next.ensures c.args.text.now)
+returns-in-At-z_next c = rotation-rz (words_at c.args.text.now c.args.from) c.args.name.now c.args.version c.turn-u.ensures (ap (words_at c.args.text.now) c.in-Lost.is) c.turn-z.ensures (ap (words_at c.args.text.now) c.in-At-z_next.is) c.half_taken.ensures (c.rotated-in-At-z_next.ensures c.args.text.now)
 
 pub returns-in-Lost-z_next : goal.returns-in-Lost-z_next
-returns-in-Lost-z_next c = rotation-newer (words_at c.args.text.now c.args.from) c.args.name.now c.args.version c.turn-u.ensures (ap (words_at c.args.text.now) c.enum_told-in-Lost-1.given.1) c.turn-z.ensures (ap (words_at c.args.text.now) c.enum_told-in-Lost-z_next-1.given.1) c.newer.ensures
+returns-in-Lost-z_next c = rotation-newer (words_at c.args.text.now c.args.from) c.args.name.now c.args.version c.turn-u.ensures (ap (words_at c.args.text.now) c.in-Lost.is) c.turn-z.ensures (ap (words_at c.args.text.now) c.in-Lost-z_next.is) c.newer.ensures

@@ -13,10 +13,10 @@ pub returns-then-text-start : goal.returns-then-text-start
 returns-then-text-start c = end_none _ (c.next-b.ensures.none_left c.if-text-start.true) ∙ c.loop-from.invariant
 
 pub returns-in-At : goal.returns-in-At
-returns-in-At c = end-mark-here _ _ _ (c.next-b.ensures.found c.if-text-start.false) c.mark-semi.ensures (ap (words_at c.args.text.now) c.enum_told-1.given.1) ∙ c.loop-from.invariant
+returns-in-At c = end-mark-here _ _ _ (c.next-b.ensures.found c.if-text-start.false) c.mark-semi.ensures (ap (words_at c.args.text.now) c.in-At.is) ∙ c.loop-from.invariant
 
 pub loop-from-smaller : goal.loop-from-smaller
 loop-from-smaller c = omega (arith, c.next-b.ensures.further c.if-text-start.false, c.next-b.ensures.inside c.if-text-start.false)
 
 pub loop-from-preserved : goal.loop-from-preserved
-loop-from-preserved c = end-mark-on _ _ _ (c.next-b.ensures.found c.if-text-start.false) c.mark-semi.ensures (ap (words_at c.args.text.now) c.enum_told-in-Lost-1.given.1) ∙ c.loop-from.invariant
+loop-from-preserved c = end-mark-on _ _ _ (c.next-b.ensures.found c.if-text-start.false) c.mark-semi.ensures (ap (words_at c.args.text.now) c.in-Lost.is) ∙ c.loop-from.invariant

@@ -6,4 +6,4 @@ pub returns-then-chosen : goal.returns-then-chosen
 returns-then-chosen c = one-yes _ _ _ _ c.if-chosen.true c.holds.ensures
 
 pub returns : goal.returns
-returns-then-chosen c = one-no _ _ _ c.if-chosen.false
+returns c = one-no _ _ _ c.if-chosen.false

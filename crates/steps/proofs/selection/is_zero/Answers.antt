@@ -13,4 +13,4 @@ pub returns-then-chosen : goal.returns-then-chosen
 returns-then-chosen c = zero-yes _ _ _ c.if-chosen.true c.if-x-eq0.false (sym c.holds.ensures ∙ c.if-holds.false)
 
 pub returns : goal.returns
-returns-then-x-eq0 c = zero-no _ _ _ c.if-chosen.false
+returns c = zero-no _ _ _ c.if-chosen.false

@@ -15,4 +15,4 @@ pub loop-k-preserved : goal.loop-k-preserved
 loop-k-preserved c = sym (end-next _ _ c.loop-k.k (search rules) _ c.is_hadamard.ensures c.if-is_hadamard.false) ∙ c.loop-k.invariant
 
 pub returns : goal.returns
-returns-then-is_hadamard c = sym (end-past _ _ c.loop-k.k (search rules)) ∙ c.loop-k.invariant
+returns c = sym (end-past _ _ c.loop-k.k (search rules)) ∙ c.loop-k.invariant

@@ -19,4 +19,4 @@ pub slice_bounds-result-start : goal.slice_bounds-result-start
 slice_bounds-result-start c = subst (λ (m : ℕ). c.args.from ≤ m) (sym c.end_of_lem.ensures) (end_ge _ _ c.args.from)
 
 pub returns : goal.returns
-returns-then-gates-end c = ap (λ (m : ℕ). take (m - c.args.from) (drop c.args.from c.args.gates.now)) c.end_of_lem.ensures
+returns c = ap (λ (m : ℕ). take (m - c.args.from) (drop c.args.from c.args.gates.now)) c.end_of_lem.ensures

@@ -30,4 +30,4 @@ pub loop-from-preserved : goal.loop-from-preserved
 loop-from-preserved c = eighth-next _ _ c.args.room c.loop-from.left c.loop-from.from c.loop-from-test.true _ c.stretch_at-stretch.ensures c.loop-from.invariant _ c.bound_of-bound.ensures c.if-left-bound.false _ c.hadamard_at-hadamards.ensures c.if-left-hadamards.false
 
 pub returns : goal.returns
-returns-then-left-bound c = eighth-end _ _ c.args.room c.loop-from.left c.loop-from.from (search rules) c.loop-from.invariant
+returns c = eighth-end _ _ c.args.room c.loop-from.left c.loop-from.from (search rules) c.loop-from.invariant

@@ -24,4 +24,4 @@ pub slice_bounds-counted-end-2 : goal.slice_bounds-counted-end-2
 slice_bounds-counted-end-2 c = part-long c.args.n c.args.couplers.now c.args.gates.now c.args.out.now (passed c.judge-verdict.ensures c.number.ensures c.if-number-ne0.false) (passed c.judge_room-room.ensures c.number-2.ensures c.if-number-ne0-2.false) _ _ c.lay_stretches-part.ensures.2 c.lay_stretches-part.ensures.0
 
 pub returns : goal.returns
-returns-then-number-ne0 c = counted c.args.n c.args.couplers.now c.args.gates.now c.args.out.now (passed c.judge-verdict.ensures c.number.ensures c.if-number-ne0.false) (passed c.judge_room-room.ensures c.number-2.ensures c.if-number-ne0-2.false) _ _ c.lay_stretches-part.ensures.2 c.lay_stretches-part.ensures.0 _ _ c.lay_stretches-part.ensures.1 c.counted.ensures
+returns c = counted c.args.n c.args.couplers.now c.args.gates.now c.args.out.now (passed c.judge-verdict.ensures c.number.ensures c.if-number-ne0.false) (passed c.judge_room-room.ensures c.number-2.ensures c.if-number-ne0-2.false) _ _ c.lay_stretches-part.ensures.2 c.lay_stretches-part.ensures.0 _ _ c.lay_stretches-part.ensures.1 c.counted.ensures

@@ -15,4 +15,4 @@ pub judge_reaches-requires : goal.judge_reaches-requires
 judge_reaches-requires c = only-reaches _ _ _ (passed c.judge_drawing-drawing.ensures c.number.ensures c.if-number-ne0.false) (passed c.judge_parities-parities.ensures c.number-2.ensures c.if-number-ne0-2.false)
 
 pub returns : goal.returns
-returns-then-number-ne0 c = c.judge_reaches.ensures ∙ judge-reaches _ c.args.couplers.now c.args.gates.now (passed c.judge_drawing-drawing.ensures c.number.ensures c.if-number-ne0.false) (passed c.judge_parities-parities.ensures c.number-2.ensures c.if-number-ne0-2.false)
+returns c = c.judge_reaches.ensures ∙ judge-reaches _ c.args.couplers.now c.args.gates.now (passed c.judge_drawing-drawing.ensures c.number.ensures c.if-number-ne0.false) (passed c.judge_parities-parities.ensures c.number-2.ensures c.if-number-ne0-2.false)

@@ -14,4 +14,4 @@ pub returns-then-gates-gt-GATES : goal.returns-then-gates-gt-GATES
 returns-then-gates-gt-GATES c = drawing-many _ _ _ (passed c.judge_qubits-qubits.ensures c.number.ensures c.if-number-ne0.false) (passed c.judge_couplers-listed.ensures c.number-2.ensures c.if-number-ne0-2.false) c.if-gates-gt-GATES.true
 
 pub returns : goal.returns
-returns-then-number-ne0 c = c.judge_drawn.ensures ∙ drawing-drawn _ _ _ (passed c.judge_qubits-qubits.ensures c.number.ensures c.if-number-ne0.false) (passed c.judge_couplers-listed.ensures c.number-2.ensures c.if-number-ne0-2.false) c.if-gates-gt-GATES.false
+returns c = c.judge_drawn.ensures ∙ drawing-drawn _ _ _ (passed c.judge_qubits-qubits.ensures c.number.ensures c.if-number-ne0.false) (passed c.judge_couplers-listed.ensures c.number-2.ensures c.if-number-ne0-2.false) c.if-gates-gt-GATES.false

@@ -27,4 +27,4 @@ pub loop-from-preserved : goal.loop-from-preserved
 loop-from-preserved c = sixth-next _ _ c.loop-from.from c.loop-from-test.true _ c.stretch_at-stretch.ensures _ c.over_at-over.ensures c.loop-from.invariant c.if-over-stretch.false
 
 pub returns : goal.returns
-returns-then-over-stretch c = sixth-end _ _ c.loop-from.from (search rules) c.loop-from.invariant
+returns c = sixth-end _ _ c.loop-from.from (search rules) c.loop-from.invariant

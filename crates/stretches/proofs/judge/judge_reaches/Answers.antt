@@ -32,4 +32,4 @@ unfolding bound_of
 loop-from-preserved c = seventh-next _ _ _ c.loop-from.from c.loop-from-test.true _ c.stretch_at-stretch.ensures _ _ (verdict-found _ _ _ _ _ _ c.near.ensures c.islands-islands.ensures _ c.judge_on-reach.ensures) c.number.ensures c.loop-from.invariant c.if-number-ne0.false
 
 pub returns : goal.returns
-returns-then-hadamard_at-eq0 c = reaches_more _ _ _ _ c.hadamard_at.ensures c.if-hadamard_at-eq0.false _ (seventh-end _ _ c.args.couplers.now c.loop-from.from (search rules) c.loop-from.invariant)
+returns c = reaches_more _ _ _ _ c.hadamard_at.ensures c.if-hadamard_at-eq0.false _ (seventh-end _ _ c.args.couplers.now c.loop-from.from (search rules) c.loop-from.invariant)

@@ -34,7 +34,7 @@ returns-then-len-lt-PARITIES c =
     cc (add-new s x.p x.a k c.if-len-gt-PARITIES.false c.rank-k.ensures absent c.if-len-lt-PARITIES.true, c.moved_in.ensures, c.moved_in-then-len-lt-PARITIES.ensures)
 
 pub returns : goal.returns
-returns-then-len-gt-PARITIES c =
+returns c =
     let x = c.args in
     let s = tabled x.parity.now x.sum.now x.len in
     let k = c.rank-k.result in

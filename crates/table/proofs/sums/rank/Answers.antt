@@ -28,7 +28,7 @@ loop-i-preserved c =
     (search rules, sym (first_next _ 256 at.i (search rules) (stop-not _ _ _ _ c.if-n-i.false c.if-p-xs.false)) ∙ at.invariant.1)
 
 pub returns : goal.returns
-returns-then-n-i c =
+returns c =
     let at = c.loop-i in
     let e : at.i ≡ 256 = omega arith in
     sym e ∙ sym (first-end _ 256 at.i (search rules)) ∙ at.invariant.1

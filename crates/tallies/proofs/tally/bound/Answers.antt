@@ -26,4 +26,4 @@ overflow_add-result-3 c = let a = c.args in omega (arith, product_le (2 * (a.n -
 
 pub returns : goal.returns
 unfolding bound_of
-returns-then-n-eq0 c = search rules
+returns c = search rules

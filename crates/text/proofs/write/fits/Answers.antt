@@ -24,7 +24,7 @@ left c =
     ∙ room_fits a.room (length (text_of a.n es gs))
 
 pub returns-in-Over : goal.returns-in-Over
-returns-in-Over c = sym (ap is_left c.enum_told-1.given.1) ∙ left c
+returns-in-Over c = sym (ap is_left c.in-Over.is) ∙ left c
 
 pub returns-in-Left : goal.returns-in-Left
-returns-in-Left c = sym (ap is_left c.enum_told-in-Left-1.given.1) ∙ left c
+returns-in-Left c = sym (ap is_left c.in-Left.is) ∙ left c

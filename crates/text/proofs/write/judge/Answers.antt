@@ -46,4 +46,4 @@ pub returns-then-fits : goal.returns-then-fits
 returns-then-fits c = sym (ap (λ t. pick t Accepted Room) (sym c.fits2.ensures ∙ c.if-fits.true)) ∙ roomed c
 
 pub returns : goal.returns
-returns-then-number-ne0 c = sym (ap (λ t. pick t Accepted Room) (sym c.fits2.ensures ∙ c.if-fits.false)) ∙ roomed c
+returns c = sym (ap (λ t. pick t Accepted Room) (sym c.fits2.ensures ∙ c.if-fits.false)) ∙ roomed c

@@ -28,7 +28,7 @@ returns-then-number-eq0 c =
     (ap Written z ∙ writing-yes a.n es gs room yes', p.ensures.1 ∙ sets-onto (text_of a.n es gs) a.text.now (accepts a.n es gs room yes').fits)
 
 pub returns : goal.returns
-returns-then-number-eq0 c =
+returns c =
     let a = c.args in
     let v = c.judge-v in
     let no' : number_of v.result ≡ 0 → ⊥ = λ z. c.if-number-eq0.false (c.number.ensures ∙ z) in (

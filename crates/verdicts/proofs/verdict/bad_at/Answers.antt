@@ -24,7 +24,7 @@ loop-k-preserved c =
     (search rules, sym (first_next _ _ at.k (search rules) (ap is_bad (sym c.decode.ensures) ∙ sym c.is_bad.ensures ∙ c.if-is_bad.false)) ∙ at.invariant.1)
 
 pub returns : goal.returns
-returns-then-is_bad c =
+returns c =
     let at = c.loop-k in
     let e : at.k ≡ length c.args.gates.now = omega arith in
     sym e ∙ sym (first-end _ _ at.k (search rules)) ∙ at.invariant.1

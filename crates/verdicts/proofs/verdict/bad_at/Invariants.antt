@@ -7,7 +7,7 @@ use Rattle.verdicts.specs.Verdicts.{bad_at}
 use Rattle.verdicts.proofs.verdict.bad_at.Given as goal
 
 abbrev pub invariant-loop-k : goal.invariant-loop-k
-invariant-loop-k l = (l.k ≤ length l.gates) × (first_of (λ l.k. is_bad (gate_of l.n (get_or l.gates l.k 0))) (length l.gates - l.k) l.k ≡ bad_at l.n l.gates)
+invariant-loop-k l = (l.k ≤ length l.gates) × (first_of (λ j. is_bad (gate_of l.n (get_or l.gates j 0))) (length l.gates - l.k) l.k ≡ bad_at l.n l.gates)
 
 abbrev pub decreases-loop-k : goal.decreases-loop-k
 decreases-loop-k l = length l.gates - l.k

@@ -8,4 +8,4 @@ returns-then-is_bad c = rw (← c.decode.ensures, ← c.is_bad.ensures, c.if-is_
 
 pub returns : goal.returns
 unfolding is_neither
-returns-then-is_bad c = rw (← c.decode.ensures, ← c.is_bad.ensures, c.if-is_bad.false)
+returns c = rw (← c.decode.ensures, ← c.is_bad.ensures, c.if-is_bad.false)

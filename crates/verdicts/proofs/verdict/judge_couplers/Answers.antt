@@ -13,4 +13,4 @@ returns-then-k-couplers c = rw (le-ltb _ _ c.if-couplers-gt-COUPLERS.false, ← 
 
 pub returns : goal.returns
 unfolding judged_couplers
-returns-then-couplers-gt-COUPLERS c = rw (le-ltb _ _ c.if-couplers-gt-COUPLERS.false, ← c.wrong_at-k.ensures, le-ltb _ _ c.if-k-couplers.false)
+returns c = rw (le-ltb _ _ c.if-couplers-gt-COUPLERS.false, ← c.wrong_at-k.ensures, le-ltb _ _ c.if-k-couplers.false)

@@ -9,4 +9,4 @@ returns-then-first-gates c = rw (← c.neither_at-first.ensures, lt-ltb _ _ c.if
 
 pub returns : goal.returns
 unfolding judged_drawn
-returns-then-first-gates c = rw (← c.neither_at-first.ensures, le-ltb _ _ c.if-first-gates.false)
+returns c = rw (← c.neither_at-first.ensures, le-ltb _ _ c.if-first-gates.false)

@@ -9,4 +9,4 @@ returns-then-k-gates c = rw (← c.bad_at-k.ensures, lt-ltb _ _ c.if-k-gates.tru
 
 pub returns : goal.returns
 unfolding judged_gates
-returns-then-k-gates c = rw (← c.bad_at-k.ensures, le-ltb _ _ c.if-k-gates.false)
+returns c = rw (← c.bad_at-k.ensures, le-ltb _ _ c.if-k-gates.false)

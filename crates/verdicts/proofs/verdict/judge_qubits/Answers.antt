@@ -13,4 +13,4 @@ returns-then-n-gt-QUBITS c = simp (le-leb _ _ c.if-n-lt1.false, lt-leb _ _ c.if-
 
 pub returns : goal.returns
 unfolding judged_qubits
-returns-then-n-lt1 c = simp (le-leb _ _ c.if-n-lt1.false, le-leb _ _ c.if-n-gt-QUBITS.false)
+returns c = simp (le-leb _ _ c.if-n-lt1.false, le-leb _ _ c.if-n-gt-QUBITS.false)

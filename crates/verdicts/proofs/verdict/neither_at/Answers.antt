@@ -23,7 +23,7 @@ loop-k-preserved c =
     (search rules, sym (first_next _ _ at.k (search rules) (sym c.is_neither.ensures ∙ c.if-is_neither.false)) ∙ at.invariant.1)
 
 pub returns : goal.returns
-returns-then-is_neither c =
+returns c =
     let at = c.loop-k in
     let e : at.k ≡ length c.args.gates.now = omega arith in
     sym e ∙ sym (first-end _ _ at.k (search rules)) ∙ at.invariant.1

@@ -32,7 +32,7 @@ slice_bounds-replay-end-2 c = part-long (first (share_in c.args.own)) _ _ c.by_s
 
 pub returns : goal.returns
 unfolding bound_of
-returns-then-b-a c = let s = share_in c.args.own in
+returns c = let s = share_in c.args.own in
     let a = c.by_steps-a.ensures in
     let b = c.by_nearest-b.ensures in
     laid_on s _ _ _ _ (in_memory (first s)) _ (memory-first s (omega (arith, part_count (first s) _ _ a.0 a.1, part_count (second s) _ _ b.0 b.1, c.if-b-a.false)))

@@ -18,6 +18,6 @@ returns-then-in_word-2 c =
     c.in_word-then-in_word-2.ensures ∙ ap (λ t. both t (in_word a.x)) (sym c.if-in_word-2.true ∙ c.in_word-2.ensures) ∙ goes-word a.f a.x c.if-f-eq34.false
 
 pub returns : goal.returns
-returns-then-in_word c =
+returns c =
     let a = c.args in
     ap (λ t. both t (in_word a.x)) (sym c.if-in_word-2.false ∙ c.in_word-2.ensures) ∙ goes-word a.f a.x c.if-f-eq34.false

@@ -17,4 +17,4 @@ returns-then-is_between-3 c = rw (sym c.is_between.ensures ∙ c.if-is_between.f
 
 pub returns : goal.returns
 unfolding in_name small
-returns-then-is_between c = rw (sym c.is_between.ensures ∙ c.if-is_between.false, sym c.is_between-2.ensures ∙ c.if-is_between-2.false, sym c.is_between-3.ensures ∙ c.if-is_between-3.false)
+returns c = rw (sym c.is_between.ensures ∙ c.if-is_between.false, sym c.is_between-2.ensures ∙ c.if-is_between-2.false, sym c.is_between-3.ensures ∙ c.if-is_between-3.false)

@@ -9,4 +9,4 @@ returns-then-in_name c = rw (sym c.in_name.ensures ∙ c.if-in_name.true)
 
 pub returns : goal.returns
 unfolding in_word
-returns-then-in_name c = rw (sym c.in_name.ensures ∙ c.if-in_name.false)
+returns c = rw (sym c.in_name.ensures ∙ c.if-in_name.false)

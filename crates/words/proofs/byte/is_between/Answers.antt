@@ -6,4 +6,4 @@ pub returns-then-a-x : goal.returns-then-a-x
 returns-then-a-x c = rw (le-leb _ _ c.if-a-x.true)
 
 pub returns : goal.returns
-returns-then-a-x c = rw (lt-leb _ _ c.if-a-x.false)
+returns c = rw (lt-leb _ _ c.if-a-x.false)

@@ -17,4 +17,4 @@ returns-then-x-eq13 c = rw (ne_eqb _ _ c.if-x-eq32.false, ne_eqb _ _ c.if-x-eq9.
 
 pub returns : goal.returns
 unfolding blank
-returns-then-x-eq32 c = rw (ne_eqb _ _ c.if-x-eq32.false, ne_eqb _ _ c.if-x-eq9.false, ne_eqb _ _ c.if-x-eq13.false)
+returns c = rw (ne_eqb _ _ c.if-x-eq32.false, ne_eqb _ _ c.if-x-eq9.false, ne_eqb _ _ c.if-x-eq13.false)

@@ -24,4 +24,4 @@ returns-then-is_between c = name-all c.args.w.now c.loop-i.i c.loop-i-test.false
 
 pub returns : goal.returns
 unfolding small
-returns-then-w-eq0 c = name-other c.args.w.now (omega arith) (sym c.is_between.ensures ∙ c.if-is_between.false)
+returns c = name-other c.args.w.now (omega arith) (sym c.is_between.ensures ∙ c.if-is_between.false)

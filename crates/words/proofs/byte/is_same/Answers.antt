@@ -18,4 +18,4 @@ pub loop-i-preserved : goal.loop-i-preserved
 loop-i-preserved c = (c.loop-i.invariant.0, omega arith, same-on c.args.a.now c.args.b.now c.loop-i.i c.loop-i.invariant.0 c.loop-i-test.true c.if-a-i.false ∙ c.loop-i.invariant.2)
 
 pub returns : goal.returns
-returns-then-a-b c = same-all c.args.a.now c.args.b.now c.loop-i.i c.loop-i.invariant.0 c.loop-i-test.false ∙ c.loop-i.invariant.2
+returns c = same-all c.args.a.now c.args.b.now c.loop-i.i c.loop-i.invariant.0 c.loop-i-test.false ∙ c.loop-i.invariant.2

@@ -7,20 +7,20 @@ use Rattle.words.proofs.Takes.{word-number-none, word-number-lost, word-number-m
 use Rattle.words.proofs.take.number.Goals as goal
 
 pub returns-then-text-start : goal.returns-then-text-start
-returns-then-text-start c = rw c.from-1.given.1 (word-number-none _ (c.next-b.ensures.none_left c.if-text-start.true) c.args.most)
+returns-then-text-start c = rw c.in-At.is (word-number-none _ (c.next-b.ensures.none_left c.if-text-start.true) c.args.most)
 
 pub slice_bounds-w-end : goal.slice_bounds-w-end
 slice_bounds-w-end c = c.next-b.ensures.inside c.if-text-start.false
 
 pub returns-then-e-w : goal.returns-then-e-w
-returns-then-e-w c = rw c.from-1.given.1 (word-number-more _ _ _ (c.next-b.ensures.found c.if-text-start.false) c.args.most c.number_at-p.result.value c.stop-1.given.0.0 (sym c.number_at-p.ensures ∙ ap (λ p. record { value = c.number_at-p.result.value; rest = rest_at (part c.next-b.result.from c.next-b.result.to c.args.text.now) p }) c.stop-1.given.1) c.if-e-w.true)
+returns-then-e-w c = rw c.in-At.is (word-number-more _ _ _ (c.next-b.ensures.found c.if-text-start.false) c.args.most c.number_at-p.result.value c.in-At-stop.e (sym c.number_at-p.ensures ∙ ap (λ p. record { value = c.number_at-p.result.value; rest = rest_at (part c.next-b.result.from c.next-b.result.to c.args.text.now) p }) c.in-At-stop.is) c.if-e-w.true)
 
 pub returns-in-Lost : goal.returns-in-Lost
 unfolding numbered
-returns-in-Lost c = rw c.enum_told-1.given.1
+returns-in-Lost c = rw c.in-Lost.is
 
 pub returns-in-Lost-stop : goal.returns-in-Lost-stop
-returns-in-Lost-stop c = rw (c.from-1.given.1, c.enum_told-in-Lost-stop-1.given.1) (word-number-lost _ _ _ (c.next-b.ensures.found c.if-text-start.false) c.args.most c.number_at-p.result.value (sym c.number_at-p.ensures ∙ ap (λ p. record { value = c.number_at-p.result.value; rest = rest_at (part c.next-b.result.from c.next-b.result.to c.args.text.now) p }) c.enum_told-in-Lost-stop-1.given.1))
+returns-in-Lost-stop c = rw (c.in-At.is, c.in-Lost-stop.is) (word-number-lost _ _ _ (c.next-b.ensures.found c.if-text-start.false) c.args.most c.number_at-p.result.value (sym c.number_at-p.ensures ∙ ap (λ p. record { value = c.number_at-p.result.value; rest = rest_at (part c.next-b.result.from c.next-b.result.to c.args.text.now) p }) c.in-Lost-stop.is))
 
 pub returns-else-e-w : goal.returns-else-e-w
-returns-else-e-w c = rw c.from-1.given.1 (word-number-all _ _ _ (c.next-b.ensures.found c.if-text-start.false) c.args.most c.number_at-p.result.value c.stop-1.given.0.0 (sym c.number_at-p.ensures ∙ ap (λ p. record { value = c.number_at-p.result.value; rest = rest_at (part c.next-b.result.from c.next-b.result.to c.args.text.now) p }) c.stop-1.given.1) c.if-e-w.false)
+returns-else-e-w c = rw c.in-At.is (word-number-all _ _ _ (c.next-b.ensures.found c.if-text-start.false) c.args.most c.number_at-p.result.value c.in-At-stop.e (sym c.number_at-p.ensures ∙ ap (λ p. record { value = c.number_at-p.result.value; rest = rest_at (part c.next-b.result.from c.next-b.result.to c.args.text.now) p }) c.in-At-stop.is) c.if-e-w.false)

@@ -23,7 +23,7 @@ returns-else-opens_note c = (
 )
 
 pub returns : goal.returns
-returns-else-opens_note c =
+returns c =
     let t = c.args.text.now in (
       c.loop-i.invariant.0,
       c.loop-i.invariant.1,

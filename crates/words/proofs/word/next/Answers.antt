@@ -19,7 +19,7 @@ returns-then-text-from c =
     }
 
 pub returns : goal.returns
-returns-then-text-from c =
+returns c =
     let t = c.args.text.now in
     let g = c.gap_end-from in
     let w = c.word_end-to in

@@ -15,4 +15,4 @@ pub loop-i-preserved : goal.loop-i-preserved
 loop-i-preserved c = (omega arith, note-on c.args.text.now c.loop-i.i c.loop-i-test.true c.if-text-i-eq10.false ∙ c.loop-i.invariant.1)
 
 pub returns : goal.returns
-returns-then-text-i-eq10 c = (c.loop-i.invariant.0, note-over c.args.text.now c.loop-i.i c.loop-i-test.false ∙ c.loop-i.invariant.1)
+returns c = (c.loop-i.invariant.0, note-over c.args.text.now c.loop-i.i c.loop-i-test.false ∙ c.loop-i.invariant.1)

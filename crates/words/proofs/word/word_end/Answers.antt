@@ -16,4 +16,4 @@ pub returns-else-goes_on : goal.returns-else-goes_on
 returns-else-goes_on c = run-done c.args.text.now c.args.from c.loop-i.i c.loop-i.invariant (λ _. sym c.goes_on.ensures ∙ c.if-goes_on.false)
 
 pub returns : goal.returns
-returns-else-goes_on c = run-done c.args.text.now c.args.from c.loop-i.i c.loop-i.invariant (λ (h : c.loop-i.i < length c.args.text.now). absurd (omega arith))
+returns c = run-done c.args.text.now c.args.from c.loop-i.i c.loop-i.invariant (λ (h : c.loop-i.i < length c.args.text.now). absurd (omega arith))
