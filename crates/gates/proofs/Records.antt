@@ -50,6 +50,7 @@ gate-record n (X q) few hq =
     let eq : q % 256 ≡ q = omega arith in
     let q< : q < 256 = omega arith in
     rw eq (simp (kind-packed 3 q 0 q< (omega arith), a-packed 3 q 0 q< (omega arith), b-packed 3 q 0 q< (omega arith), lt-ltb q n hq))
+gate-record n Bad few hq = elim hq [ ]
 
 -- what a record decodes to is good, and then the record is that gate's; or it is bad
 pub gate-back : (n x : ℕ) → (gate_of n x ≡ Bad) ⊎ (Good n (gate_of n x) × (record_of (gate_of n x) ≡ x))
