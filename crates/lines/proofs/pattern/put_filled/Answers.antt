@@ -30,7 +30,7 @@ loop-i-preserved c =
     let n = c.number_at in (
       omega arith,
       omega (arith, l.invariant.1, u.ensures, uses-most (get_or s l.i 0)),
-      q.auto.0 ∙ l.invariant.2,
+      q.auto.text ∙ l.invariant.2,
       left-turn a.text.now a.at (filled s vs) l.text l.p l.invariant.3 (filled_byte (get_or s l.i 0) n.result) (filled (drop (l.i + 1) s) (drop (l.k + u.result) vs)) (filled-turn s vs l.i l.k c.loop-i-test.true n.ensures u.ensures) q.ensures,
     )
 

@@ -15,7 +15,7 @@ unfolding fields_text
 loop-k-init c = (omega arith, sym (room-none _))
 
 pub overflow_add-width : goal.overflow_add-width
-overflow_add-width c = omega (arith, c.width.ensures, width-le (get_or c.args.numbers.now c.loop-k.k 0), c.shared_slice_known-in-loop-k-1.given c.loop-k.k)
+overflow_add-width c = omega (arith, c.width.ensures, width-le (get_or c.args.numbers.now c.loop-k.k 0), c.type_inv.numbers c.loop-k.k)
 
 pub loop-k-preserved : goal.loop-k-preserved
 loop-k-preserved c =
