@@ -1,7 +1,7 @@
 -- `lines::pattern::put_filled` meets its contract: what is left of the pattern gives, when it is stored, what the whole gives. Assumes nothing.
 use mathlib.Core.Path.{refl, ◌∙◌}
 use native.Mathlib.Omega.{arith}
-use Prim.Native.Nat.{◌+◌, ◌-◌}
+use Prim.Native.Nat.{◌+◌}
 use lib.ListN.{get_or, drop}
 use Rattle.lines.specs.Pattern.{filled_byte, filled}
 use Rattle.lines.proofs.Filled.{uses-most, filled-turn, filled-past, filled-part, left-turn, left-past}

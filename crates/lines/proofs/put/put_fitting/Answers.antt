@@ -1,7 +1,7 @@
 -- `lines::put::put_fitting` meets its contract: the letter, the fields so far, LF. Assumes nothing.
 use mathlib.Core.Path.{refl, sym, ap, ◌∙◌, subst}
 use mathlib.Core.List.{[], ◌∷◌, ◌++◌}
-use Prim.Native.Nat.{◌+◌, ◌-◌}
+use Prim.Native.Nat.{◌+◌}
 use lib.ListN.{length, get_or, take, length-append}
 use Rattle.lines.specs.Lines.{digits, fields_text, line_text}
 use Rattle.lines.proofs.Writes.{Wrote, wrote_then, wrote_nothing, fields-next, fields-part, fields-all, line-length}

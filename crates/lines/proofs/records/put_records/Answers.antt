@@ -1,6 +1,5 @@
 -- `lines::records::put_records` meets its contract: what the records still to come leave is what all of them leave. Assumes nothing.
 use mathlib.Core.Path.{refl, ◌∙◌}
-use Prim.Native.Nat.{◌-◌}
 use Rattle.lines.specs.Lines.{record_text}
 use Rattle.lines.proofs.Recorded.{lines-turn, lines-past}
 use borrow.Author.Rules.{rules}

@@ -1,7 +1,7 @@
 -- `lines::room::after_line` meets its contract: the fields so far are taken off. Assumes nothing.
 use mathlib.Core.Path.{◌≡◌, sym, ap, ◌∙◌}
 use mathlib.Core.List.{◌∷◌}
-use Prim.Native.Nat.{◌+◌, ◌-◌}
+use Prim.Native.Nat.{◌+◌}
 use lib.ListN.{length, get_or, take, length-append}
 use Rattle.lines.specs.Lines.{digits, fields_text}
 use Rattle.lines.specs.Leeway.{room_after}
