@@ -1,12 +1,8 @@
 -- `text::write::judge` meets its contract: each return is what the tests before it leave. Assumes nothing.
-use mathlib.Core.Path.{◌≡◌, sym, ap, ◌∙◌}
-use lib.ListN.{length}
+use mathlib.Core.Path.{sym, ap, ◌∙◌}
 use Rattle.sets.specs.Pick.{pick}
 use Rattle.verdicts.specs.declared.verdict.Verdict.TheVariants.{Accepted, Room}
-use Rattle.lines.specs.Lines.{text_of}
-use Rattle.text.specs.Writings.{judged_text}
 use Rattle.verdicts.proofs.Judged.{passed, refused}
-use Rattle.reading.specs.Readings.{judged_places}
 use Rattle.text.proofs.Judging.{judged-qubits, judged-couplers, judged-drawn, judged-room}
 use Rattle.text.proofs.write.judge.Goals as goal
 
