@@ -26,8 +26,8 @@ loop-q-preserved c =
     let w = c.search.w in (
       search rules,
       elim c.if-may-q.branch [
-        then-may-q+else-worth-q k ↦ sym (worth-other _ _ (w - 1) at.q (search rules) k.if-may-q.true k.if-worth-q.false) ∙ at.invariant.1
-      | else-may-q k ↦ sym (worth-not _ _ (w - 1) at.q (search rules) k.if-may-q.false) ∙ at.invariant.1
+        | then-may-q+else-worth-q k ↦ sym (worth-other _ _ (w - 1) at.q (search rules) k.if-may-q.true k.if-worth-q.false) ∙ at.invariant.1
+        | else-may-q k ↦ sym (worth-not _ _ (w - 1) at.q (search rules) k.if-may-q.false) ∙ at.invariant.1
       ],
       at.invariant.2,
     )

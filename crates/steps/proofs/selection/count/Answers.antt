@@ -20,8 +20,8 @@ loop-k-preserved c =
     let at = c.loop-k in (
       search rules,
       elim c.if-sel-k.branch [
-        then-sel-k w ↦ counted_next _ at.k at.n _ true (sym w.if-sel-k.true) at.invariant.1 w.n-is
-      | else-sel-k w ↦ counted_next _ at.k at.n _ false (sym w.if-sel-k.false) at.invariant.1 (omega (arith, w.n-is))
+        | then-sel-k w ↦ counted_next _ at.k at.n _ true (sym w.if-sel-k.true) at.invariant.1 w.n-is
+        | else-sel-k w ↦ counted_next _ at.k at.n _ false (sym w.if-sel-k.false) at.invariant.1 (omega (arith, w.n-is))
       ],
     )
 

@@ -21,8 +21,8 @@ loop-k-preserved c =
       search rules,
       at.invariant.1,
       elim c.if-is_one.branch [
-        then-is_one w ↦ row_next _ _ _ at.k at.ones _ _ true (sym w.if-is_one.true ∙ c.is_one.ensures) refl at.invariant.2 w.ones-is
-      | else-is_one w ↦ row_next _ _ _ at.k at.ones _ _ false (sym w.if-is_one.false ∙ c.is_one.ensures) refl at.invariant.2 (omega (arith, w.ones-is))
+        | then-is_one w ↦ row_next _ _ _ at.k at.ones _ _ true (sym w.if-is_one.true ∙ c.is_one.ensures) refl at.invariant.2 w.ones-is
+        | else-is_one w ↦ row_next _ _ _ at.k at.ones _ _ false (sym w.if-is_one.false ∙ c.is_one.ensures) refl at.invariant.2 (omega (arith, w.ones-is))
       ],
     )
 

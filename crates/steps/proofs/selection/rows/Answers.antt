@@ -19,8 +19,8 @@ loop-k-preserved c =
       search rules,
       at.invariant.1,
       elim c.if-sel-k.branch [
-        then-sel-k w ↦ rows-tallied _ _ at.k _ at.z _ w.if-sel-k.true refl (w.z-is ∙ w.tallied-next.ensures) at.invariant.2
-      | else-sel-k w ↦ subst (RowsCounted _ _ _) (sym w.z-is) (rows-passed _ _ at.k at.z w.if-sel-k.false at.invariant.2)
+        | then-sel-k w ↦ rows-tallied _ _ at.k _ at.z _ w.if-sel-k.true refl (w.z-is ∙ w.tallied-next.ensures) at.invariant.2
+        | else-sel-k w ↦ subst (RowsCounted _ _ _) (sym w.z-is) (rows-passed _ _ at.k at.z w.if-sel-k.false at.invariant.2)
       ],
     )
 
