@@ -1,6 +1,5 @@
 -- `words::byte::line_behind` meets its contract. Assumes nothing.
 use mathlib.Core.Path.{ap, ◌∙◌}
-use Prim.Native.Nat.{◌-◌}
 use native.Mathlib.Omega.{arith}
 use lib.Seq.{length-take-le, take_all}
 use Rattle.words.specs.Bytes.{line_behind}
@@ -18,7 +17,7 @@ pub loop-i-preserved : goal.loop-i-preserved
 loop-i-preserved c = (
   omega arith,
   elim c.if-text-i-eq10.branch [
-      then-text-i-eq10 w ↦ line-up c.args.text.now c.loop-i.i (omega arith) c.loop-i.invariant.1 w.if-text-i-eq10.true w.line-is
+    | then-text-i-eq10 w ↦ line-up c.args.text.now c.loop-i.i (omega arith) c.loop-i.invariant.1 w.if-text-i-eq10.true w.line-is
     | else-text-i-eq10 w ↦ line-stay c.args.text.now c.loop-i.i (omega arith) c.loop-i.invariant.1 w.if-text-i-eq10.false w.line-is
   ],
 )
