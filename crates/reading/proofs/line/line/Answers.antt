@@ -1,9 +1,6 @@
 -- `reading::line::line` meets its contract: its steps are those of the definition. Assumes nothing.
-use mathlib.Core.Path.{sym, ap, subst}
-use Prim.Native.Nat.{◌≤◌}
 use lib.ListN.{drop}
 use native.Mathlib.Omega.{arith}
-use Rattle.spots.proofs.Numbers.{number-le}
 use Rattle.reading.proofs.Lines.{fetched-le, line-chain}
 use Rattle.reading.proofs.line.line.Goals as goal
 

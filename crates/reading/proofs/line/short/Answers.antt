@@ -1,9 +1,6 @@
 -- `reading::line::short` meets its contract: its steps are those of the definition. Assumes nothing.
-use mathlib.Core.Path.{sym, ap, subst}
-use Prim.Native.Nat.{◌≤◌}
 use lib.ListN.{drop}
 use native.Mathlib.Omega.{arith}
-use Rattle.spots.proofs.Numbers.{number-le}
 use Rattle.reading.proofs.Lines.{fetched-le, short-chain}
 use Rattle.reading.proofs.line.short.Goals as goal
 

@@ -40,13 +40,13 @@ pub returns-then-text-gt-MOST_BYTES : goal.returns-then-text-gt-MOST_BYTES
 returns-then-text-gt-MOST_BYTES c = (answer-long _ _ _ c.if-text-gt-MOST_BYTES.true, refl, refl)
 
 pub overflow_add-result : goal.overflow_add-result
-overflow_add-result c = 
+overflow_add-result c =
     let x : Counted c.args.text.now c.head-h.result c.in-At.p c.count-e.result.count c.count-e.result.next c.count-g.result.count c.count-g.result.next
     = record { head = c.head-h.ensures; place = c.in-At.is; couplers = c.count-e.ensures; gates = c.count-g.ensures; short = c.if-text-gt-MOST_BYTES.false } in
     omega (arith, bound x)
 
 pub overflow_add-result-then-g-text : goal.overflow_add-result-then-g-text
-overflow_add-result-then-g-text c = 
+overflow_add-result-then-g-text c =
     let x : Counted c.args.text.now c.head-h.result c.in-At.p c.count-e.result.count c.count-e.result.next c.count-g.result.count c.count-g.result.next
     = record { head = c.head-h.ensures; place = c.in-At.is; couplers = c.count-e.ensures; gates = c.count-g.ensures; short = c.if-text-gt-MOST_BYTES.false } in
     omega (arith, bound x)

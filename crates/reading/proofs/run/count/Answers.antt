@@ -1,9 +1,7 @@
 -- `reading::run::count` meets its contract: what is counted and what is left make up the run. Assumes nothing.
-use mathlib.Core.Path.{◌≡◌, sym, ap, ◌∙◌}
-use mathlib.Core.Option.{some}
+use mathlib.Core.Path.{sym, ap, ◌∙◌}
 use native.Mathlib.Omega.{arith}
 use lib.ListN.{drop, length-drop}
-use Rattle.reading.specs.Parsing.{read_one}
 use Rattle.spots.specs.Places.{rest_at}
 use Rattle.reading.proofs.Lines.{one-at, one-short}
 use Rattle.reading.proofs.Loops.{count-start, count-step, count-done}

@@ -1,10 +1,8 @@
 -- `reading::run::fill` meets its contract: what is filled in and what is left make up the run. Assumes nothing.
-use mathlib.Core.Path.{◌≡◌, sym, ap, ◌∙◌, subst}
-use mathlib.Core.Option.{some}
+use mathlib.Core.Path.{sym, ap, ◌∙◌, subst}
 use native.Mathlib.Omega.{arith}
-use Prim.Native.Nat.{◌+◌, ◌<◌}
-use lib.ListN.{length, drop, set}
-use Rattle.reading.specs.Parsing.{read_one}
+use Prim.Native.Nat.{◌+◌}
+use lib.ListN.{drop, set}
 use Rattle.spots.specs.Places.{rest_at}
 use Rattle.reading.proofs.Lines.{one-at, one-short}
 use Rattle.reading.proofs.Loops.{FillingLines, fill_start, fill_step, fill-room, fill_done}
