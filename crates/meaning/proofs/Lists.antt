@@ -33,6 +33,7 @@ pub up-among : (m p : ℕ) (xs : List ℕ) → Up m xs → Among p xs → m ≤ 
 unfolding Up Among
 up-among m p (x ∷ xs) u (inl e) = omega (arith, u.0)
 up-among m p (x ∷ xs) u (inr h) = omega (arith, u.0, up-among (suc x) p xs u.1 h)
+up-among m p [] u h = elim h [ ]
 
 pub up_at : (m : ℕ) (xs : List ℕ) → Up m xs → (j : ℕ) → j < length xs → m ≤ get_or xs j 0
 unfolding Up
@@ -60,6 +61,7 @@ pub at-among : (p : ℕ) (xs : List ℕ) → Among p xs → (k : ℕ) × (k < le
 unfolding Among
 at-among p (x ∷ xs) (inl e) = (0, zero-lt-suc (length xs), e)
 at-among p (x ∷ xs) (inr h) = let r = at-among p xs h in (suc r.0, suc-le-suc r.1, r.2)
+at-among p [] h = elim h [ ]
 
 -- two ascending lists of the same numbers are the same
 pub ascending-same : (m : ℕ) (xs ys : List ℕ) → Up m xs → Up m ys → ((p : ℕ) → Among p xs → Among p ys) → ((p : ℕ) → Among p ys → Among p xs) → xs ≡ ys

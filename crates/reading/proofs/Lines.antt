@@ -6,7 +6,7 @@ use mathlib.Core.List.{List, [], ◌∷◌, ◌++◌, append_assoc}
 use mathlib.Core.Option.{Option, none, some}
 use Prim.Native.Nat.{ℕ, ◌+◌, ◌*◌, ◌≤◌, ◌<◌}
 use native.Mathlib.Omega.{arith}
-use lib.ListN.{length, length-append}
+use lib.ListN.{length, drop, length-append}
 use borrow.Author.Tests.{ne_eqb}
 use Rattle.gates.specs.Layout.{packed, kind_in, a_in, b_in}
 use Rattle.gates.proofs.Records.{kind-packed, a-packed, b-packed, packed-back}
@@ -14,12 +14,23 @@ use Rattle.reading.specs.Limits.{most_first, most_second}
 use Rattle.lines.specs.Lines.{digits, fields_text, line_text, letter, record_text}
 use Rattle.reading.specs.Misfit.{FitsLine}
 use Rattle.spots.specs.Numbers.{or_else, Got, skipped, digit_of, read_number}
+use Rattle.spots.specs.Places.{rest_at, got_of}
+use Rattle.spots.specs.declared.spot.Fetched.{Fetched}
+use Rattle.spots.specs.declared.spot.Spot.TheVariants.{At}
 use Rattle.reading.specs.Parsing.{read_line, read_short, read_other, read_one, read_head}
 use Rattle.spots.proofs.Numbers.{number-le, skip-back, number-back, skip-forth, number-forth}
 use Rattle.lines.proofs.Layouts.{packed-is, a_lt, b_lt}
 use Rattle.lines.proofs.Writes.{record-two, record-one}
 
 -- ---- what the code's steps come to
+
+-- a number that was read is at most `most`
+pub fetched-le : (s : List ℕ) (r : Fetched) (most : ℕ) (o : Option (List ℕ)) → got_of s r ≡ read_number most o → r.value ≤ most
+fetched-le s r most o e = subst (λ n. n ≤ most) (sym (ap (λ g. g.value) e)) (number-le most o)
+
+-- a line that was read has what stands behind it left
+pub one-at : (s : List ℕ) (gates : Bool) (at : ℕ) (r : Fetched) (q : ℕ) → got_of s r ≡ read_one gates (drop at s) → r.next ≡ At q → (read_one gates (drop at s)).rest ≡ some (drop q s)
+one-at s gates at r q e f = sym (ap (λ g. g.rest) e) ∙ ap (rest_at s) f
 
 pub line-chain : (k : ℕ) (s : List ℕ) {l : ℕ} {P0 P1 P2 E : Option (List ℕ)} {A B : Got ℕ}
     → l ≡ letter k → P0 ≡ skipped l (some s) → P1 ≡ skipped 9 P0 → A ≡ read_number most_first P1 → P2 ≡ skipped 9 A.rest → B ≡ read_number most_second P2 → E ≡ skipped 10 B.rest

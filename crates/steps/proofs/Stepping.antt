@@ -19,7 +19,7 @@ use Rattle.steps.specs.Selection.{count_of, zeros_of, ones_of, row_of}
 use Rattle.steps.specs.Choice.{sparing, without, beside, partner}
 use Rattle.steps.specs.Steps.{Step, moved, ones_step, base_step}
 use Rattle.steps.specs.Neighbours.{Claim, OnesGoesOn, BaseGoesOn}
-use Rattle.steps.proofs.Unfolding.{base_on, base-idle, base_on, ones_then, ones_on, ones-idle, ones-on}
+use Rattle.steps.proofs.Unfolding.{base_on, base-idle, base_on_lem, ones_then, ones_on, ones-idle, ones-on}
 use Rattle.steps.proofs.Apart.{Safe, reached-trans, reached-safe}
 use Rattle.steps.proofs.Splits.{count-some, split-count, ones-fewer}
 use Rattle.steps.proofs.Bound.{bound-base, bound-ones}
@@ -203,7 +203,7 @@ module _ (near : List ℕ) (angles : List ℕ) (sy : Symm near) where
         }
 
     base_done : StepDone near Q angles sel xs (base_step (suc q) near angles Q sel xs)
-    base_done = subst (StepDone near Q angles sel xs) (sym (base_on near angles Q sel xs q ne)) done-b
+    base_done = subst (StepDone near Q angles sel xs) (sym (base_on_lem near angles Q sel xs q ne)) done-b
 
   base-none : (q Q : ℕ) (sel : List Bool) (xs : List ℕ) → StepReady Q sel xs → count_of sel ≡ 0 → StepDone near Q angles sel xs (base_step q near angles Q sel xs)
   base-none q Q sel xs ready e = subst (StepDone near Q angles sel xs) (sym (base-idle near angles Q sel xs q e)) (done-idle near Q angles sel xs ready e)

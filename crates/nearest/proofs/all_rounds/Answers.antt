@@ -14,7 +14,7 @@ pub returns-then-c-ge-FAR : goal.returns-then-c-ge-FAR
 returns-then-c-ge-FAR c = round-over _ _ _ _ _ _ _ _ c.choose-c.ensures c.if-c-ge-FAR.true ∙ c.loop-left.invariant.2
 
 pub loop-left-preserved : goal.loop-left-preserved
-loop-left-preserved c = (c.gather_next-a.auto.1.1.0 ∙ c.loop-left.invariant.0, c.gather_next-a.auto.1.1.1.1.0 ∙ c.loop-left.invariant.1, round-next _ _ _ c.loop-left.left _ _ _ _ _ _ _ c.loop-left-test.true c.choose-c.ensures c.if-c-ge-FAR.false c.gather_next-a.ensures ∙ c.loop-left.invariant.2)
+loop-left-preserved c = (c.gather_next-a.auto.cols ∙ c.loop-left.invariant.0, c.gather_next-a.auto.out ∙ c.loop-left.invariant.1, round-next _ _ _ c.loop-left.left _ _ _ _ _ _ _ c.loop-left-test.true c.choose-c.ensures c.if-c-ge-FAR.false c.gather_next-a.ensures ∙ c.loop-left.invariant.2)
 
 pub returns : goal.returns
 returns c = round-end _ _ _ c.loop-left.left _ _ _ (search rules) ∙ c.loop-left.invariant.2

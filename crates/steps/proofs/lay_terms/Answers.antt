@@ -18,5 +18,5 @@ returns c =
     let a = c.args in
     let n = c.at_most-n in
     let b = c.lay_columns in
-    let e = b.ensures ∙ ap₂ (λ ps rs. wrote a.out.now 0 (steps_for a.near a.set ps rs)) (part-is a.count a.parity (search rules) n.result n.ensures) (part-is a.count a.t4 (search rules) n.result n.ensures) in
+    let e = b.ensures ∙ ap₂ (λ ps rs. wrote a.out.now 0 (steps_for a.near a.set ps rs)) (part-is a.count a.parity (search rules) n.result n.ensures) (part-is a.count a.angle (search rules) n.result n.ensures) in
     (wrote-out a.out.now 0 _ e, wrote_at a.out.now 0 _ e)

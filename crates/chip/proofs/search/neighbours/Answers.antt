@@ -5,4 +5,4 @@ use borrow.Author.Rules.{rules}
 use Rattle.chip.proofs.search.neighbours.Goals as goal
 
 pub returns-else-u-lt-QUBITS : goal.returns-else-u-lt-QUBITS
-returns-else-u-lt-QUBITS c = sym (get_or-eq_default c.args.t1 0 {n = c.args.u} (search rules))
+returns-else-u-lt-QUBITS c = sym (get_or-eq_default c.args.near 0 {n = c.args.u} (search rules))

@@ -4,4 +4,4 @@ use borrow.Author.Rules.{rules}
 use Rattle.circuit.proofs.wires.borne_on.Goals as goal
 
 pub returns-else-q-lt-QUBITS : goal.returns-else-q-lt-QUBITS
-returns-else-q-lt-QUBITS c = wire-past _ c.args.t1 (search rules) c.if-q-lt-QUBITS.false
+returns-else-q-lt-QUBITS c = wire-past _ c.args.parity (search rules) c.if-q-lt-QUBITS.false

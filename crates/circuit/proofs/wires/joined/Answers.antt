@@ -10,7 +10,7 @@ unfolding cnot
 returns-then-target-lt-QUBITS c = refl
 
 pub returns-else-target-lt-QUBITS : goal.returns-else-target-lt-QUBITS
-returns-else-target-lt-QUBITS c = sym (cnot-past-target _ _ _ (omega (arith, c.well-formed.0)))
+returns-else-target-lt-QUBITS c = sym (cnot-past-target _ _ _ (omega (arith, c.well_formed.0)))
 
 pub returns-else-control-lt-QUBITS : goal.returns-else-control-lt-QUBITS
-returns-else-control-lt-QUBITS c = sym (cnot-past-control _ _ _ (omega (arith, c.well-formed.0)))
+returns-else-control-lt-QUBITS c = sym (cnot-past-control _ _ _ (omega (arith, c.well_formed.0)))

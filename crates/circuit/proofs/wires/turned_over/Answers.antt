@@ -11,4 +11,4 @@ returns-then-q-lt-QUBITS c = refl
 
 pub returns : goal.returns
 unfolding flip_step
-returns c = sym (set_out _ _ _ (omega (arith, c.well-formed.0)))
+returns c = sym (set_out _ _ _ (omega (arith, c.well_formed.0)))

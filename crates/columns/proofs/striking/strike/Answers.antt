@@ -10,6 +10,7 @@ use Rattle.columns.proofs.Piecing.{held-is}
 use Rattle.columns.proofs.Strikes.{from_next, from_end}
 use Rattle.columns.proofs.Singles.{singles-named, none-struck, row-passed, named-still}
 use borrow.Author.Rules.{rules}
+use Rattle.columns.proofs.striking.strike.Goals.{then-holds, else-holds}
 use Rattle.columns.proofs.striking.strike.Goals as goal
 
 pub returns-then-s-eq0 : goal.returns-then-s-eq0
@@ -24,19 +25,14 @@ abbrev Rowed : ℕ → List ℕ → List ℕ → List ℕ → ℕ → List ℕ �
 Rowed q angles cols out at cols' out' a =
     (length cols' ≡ length cols) × (length out' ≡ length out) × (held cols' out' a ≡ wrote out at (strike_row (length cols) 0 q angles cols))
 
-rowed : (c : tie.Joined2 invariant-loop decreases-loop)
-    → let at = c.loop-q in Rowed at.q c.args.angles.now at.cols at.out at.a c.if-holds.cols c.if-holds.out c.if-holds.a
-rowed c =
-    let at = c.loop-q in
-    ⊎_elim
-    (λ w. (ap length w.8 ∙ w.3.kept.0, ap length w.9 ∙ w.3.kept.1.1.0, held-is w.8 w.9 w.10 ∙ w.3.ensures))
-    (λ w. (ap length w.1, ap length w.2, held-is w.1 w.2 w.3 ∙ row-passed _ _ _ _ _ at.invariant.3 at.q (search rules) (sym c.holds.ensures ∙ w.0.left)))
-    c.if-holds.branch
-
 pub loop-q-preserved : goal.loop-q-preserved
 loop-q-preserved c =
     let at = c.loop-q in
-    let row = rowed c in (
+    let row : Rowed at.q c.args.angles.now at.cols at.out at.a c.if-holds.cols c.if-holds.out c.if-holds.a =
+    elim c.if-holds.branch [
+      | then-holds w ↦ (ap length w.cols-is ∙ w.strike_row-a.auto.cols, ap length w.out-is ∙ w.strike_row-a.auto.out, held-is w.cols-is w.out-is w.a-is ∙ w.strike_row-a.ensures)
+      | else-holds w ↦ (ap length w.cols-is, ap length w.out-is, held-is w.cols-is w.out-is w.a-is ∙ row-passed _ _ _ _ _ at.invariant.3 at.q (search rules) (sym c.holds.ensures ∙ w.if-holds.false))
+    ] in (
       search rules,
       row.0 ∙ at.invariant.1,
       row.1 ∙ at.invariant.2,

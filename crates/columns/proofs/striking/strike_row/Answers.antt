@@ -10,7 +10,7 @@ pub loop-k-init : goal.loop-k-init
 loop-k-init c = (search rules, refl, refl, rw sub-zero)
 
 pub loop-k-preserved : goal.loop-k-preserved
-loop-k-preserved c = (search rules, c.strike_one-a.auto.0 ∙ c.loop-k.invariant.1, c.strike_one-a.auto.1.1.0 ∙ c.loop-k.invariant.2, row_next _ _ _ c.loop-k.k _ _ _ _ _ _ (search rules) c.strike_one-a.ensures ∙ c.loop-k.invariant.3)
+loop-k-preserved c = (search rules, c.strike_one-a.auto.cols ∙ c.loop-k.invariant.1, c.strike_one-a.auto.out ∙ c.loop-k.invariant.2, row_next _ _ _ c.loop-k.k _ _ _ _ _ _ (search rules) c.strike_one-a.ensures ∙ c.loop-k.invariant.3)
 
 pub returns : goal.returns
 returns c = row-end _ _ _ c.loop-k.k _ _ _ (search rules) ∙ c.loop-k.invariant.3

@@ -1,4 +1,5 @@
 -- `console::counting::count_job` meets its contract. Assumes nothing.
+use borrow.Author.Rules.{rules}
 use mathlib.Core.Path.{◌∙◌}
 use Rattle.tallies.specs.Tally.{bound_of}
 use Rattle.verdicts.proofs.Judged.{passed, refused}
@@ -17,4 +18,4 @@ count_stretches-counts-requires c = let p = job-passed _ _ _ (passed c.judge-ver
 
 pub returns : goal.returns
 unfolding bound_of
-returns c = prints-same (counted-text _ _ _ (passed c.judge-verdict.ensures c.number.ensures c.if-number-ne0.false) _ _ _ c.count_stretches-counts.ensures.0 c.count_stretches-counts.ensures.1 (c.highest.ensures ∙ c.count_stretches-counts.ensures.2)) (text-whole most_printed c.args.out.now _ _ c.counts-arg-1.given.0.1 _ (counted-fits _ _ _ (passed c.judge-verdict.ensures c.number.ensures c.if-number-ne0.false) _ _ _ c.count_stretches-counts.ensures.0 c.count_stretches-counts.ensures.1 (c.highest.ensures ∙ c.count_stretches-counts.ensures.2)) c.counts.ensures)
+returns c = prints-same (counted-text _ _ _ (passed c.judge-verdict.ensures c.number.ensures c.if-number-ne0.false) _ _ _ c.count_stretches-counts.ensures.0 c.count_stretches-counts.ensures.1 (c.highest.ensures ∙ c.count_stretches-counts.ensures.2)) (text-whole most_printed c.args.out.now _ _ (search rules) _ (counted-fits _ _ _ (passed c.judge-verdict.ensures c.number.ensures c.if-number-ne0.false) _ _ _ c.count_stretches-counts.ensures.0 c.count_stretches-counts.ensures.1 (c.highest.ensures ∙ c.count_stretches-counts.ensures.2)) c.counts.ensures)

@@ -19,10 +19,10 @@ slice_bounds-gates-end c = gates-within _ _ _ _ _ (length-replicate {A = ℕ} mo
 pub slice_bounds-count_job-end-in-Read : goal.slice_bounds-count_job-end-in-Read
 slice_bounds-count_job-end-in-Read c = gates-long _ _ _ _ _ (length-replicate {A = ℕ} most_coupler_lines 0) (length-replicate {A = ℕ} most_gate_lines 0) _ _ c.read.ensures.0 c.in-Read.is c.read.ensures.1 c.read.ensures.2
 
-pub returns-in-Read : goal.returns-in-Read
+pub returns-in-Read-clause-prints : goal.returns-in-Read-clause-prints
 unfolding counted_text
-returns-in-Read c = (c.front-arg-1.given.0, prints-same (text-read _ _ _ _ _ (length-replicate {A = ℕ} most_coupler_lines 0) (length-replicate {A = ℕ} most_gate_lines 0) _ _ c.read.ensures.0 c.in-Read.is c.read.ensures.1 c.read.ensures.2 counted_job ∙ ap counted_text c.front.ensures) c.count_job.ensures)
+returns-in-Read-clause-prints c = prints-same (text-read _ _ _ _ _ (length-replicate {A = ℕ} most_coupler_lines 0) (length-replicate {A = ℕ} most_gate_lines 0) _ _ c.read.ensures.0 c.in-Read.is c.read.ensures.1 c.read.ensures.2 counted_job ∙ ap counted_text c.front.ensures) c.count_job.ensures
 
-pub returns-in-Refused : goal.returns-in-Refused
+pub returns-in-Refused-clause-prints : goal.returns-in-Refused-clause-prints
 unfolding counted_text
-returns-in-Refused c = (c.front-arg-1.given.0, prints-same (text-unread _ _ _ (length-replicate {A = ℕ} most_coupler_lines 0) (length-replicate {A = ℕ} most_gate_lines 0) _ _ c.read.ensures.0 c.in-Refused.is _ ∙ ap counted_text c.front.ensures) c.print_refusal.ensures)
+returns-in-Refused-clause-prints c = prints-same (text-unread _ _ _ (length-replicate {A = ℕ} most_coupler_lines 0) (length-replicate {A = ℕ} most_gate_lines 0) _ _ c.read.ensures.0 c.in-Refused.is _ ∙ ap counted_text c.front.ensures) c.print_refusal.ensures

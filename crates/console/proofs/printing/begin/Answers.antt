@@ -1,4 +1,5 @@
 -- `console::printing::begin` meets its contract. Assumes nothing.
+use borrow.Author.Rules.{rules}
 use mathlib.Core.Path.{ap₂, ◌∙◌}
 use Rattle.console.specs.Parts.{front_job, first_part}
 use Rattle.console.proofs.Choosing.{prints-same}
@@ -7,10 +8,10 @@ use Rattle.console.proofs.Beginning.{begun-read, begun-unread, begins-same}
 use Rattle.console.proofs.printing.begin.Goals as goal
 
 pub begin_job-front-requires : goal.begin_job-front-requires
-begin_job-front-requires c = front-short c.read.new.1.1.0 c.in-Read.job.gates c.first-in-Read.ensures c.first-arg-in-Read-3-1.given.0
+begin_job-front-requires c = front-short c.read.new.gates c.in-Read.job.gates c.first-in-Read.ensures (search rules)
 
-pub returns-in-Read : goal.returns-in-Read
-returns-in-Read c = (c.front-arg-1.given.0, begins-same c.front.ensures (begun-read _ _ _ _ _ c.read-arg-1.given.0.1 c.read-arg-2-1.given.0.1 _ c.read.ensures.0 c.read.ensures.1 c.read.ensures.2 _ _ _ _ _ c.in-Read.is (prints-same (ap₂ (front_job _) c.first.ensures c.first-in-Read.ensures) c.begin_job-front.ensures.0) (c.begin_job-front.ensures.1 ∙ ap₂ (first_part _) c.first.ensures c.first-in-Read.ensures)))
+pub returns-in-Read-clause-begins : goal.returns-in-Read-clause-begins
+returns-in-Read-clause-begins c = begins-same c.front.ensures (begun-read _ _ _ _ _ (search rules) (search rules) _ c.read.ensures.0 c.read.ensures.1 c.read.ensures.2 _ _ _ _ _ c.in-Read.is (prints-same (ap₂ (front_job _) c.first.ensures c.first-in-Read.ensures) c.begin_job-front.ensures.0) (c.begin_job-front.ensures.1 ∙ ap₂ (first_part _) c.first.ensures c.first-in-Read.ensures))
 
-pub returns-in-Refused : goal.returns-in-Refused
-returns-in-Refused c = (c.front-arg-1.given.0, begins-same c.front.ensures (begun-unread _ _ _ _ _ c.read-arg-1.given.0.1 c.read-arg-2-1.given.0.1 _ c.read.ensures.0 c.read.ensures.1 c.read.ensures.2 _ _ _ 1 _ c.in-Refused.is c.print_refusal.ensures))
+pub returns-in-Refused-clause-begins : goal.returns-in-Refused-clause-begins
+returns-in-Refused-clause-begins c = begins-same c.front.ensures (begun-unread _ _ _ _ _ (search rules) (search rules) _ c.read.ensures.0 c.read.ensures.1 c.read.ensures.2 _ _ _ 1 _ c.in-Refused.is c.print_refusal.ensures)

@@ -10,7 +10,7 @@ use Rattle.console.proofs.printing.lay_part.Goals as goal
 
 pub returns-then-gates-from : goal.returns-then-gates-from
 unfolding bound_of
-returns-then-gates-from c = (prints-same (past-text records_text _ _ _ c.args.from c.if-gates-from.true) (prints-none _ _ _ c.put_records-arg-1.given.0.1 c.put_records.ensures), past_next _ c.args.couplers.now _ c.args.from c.if-gates-from.true, past-share _ _ _ c.args.from c.if-gates-from.true)
+returns-then-gates-from c = (prints-same (past-text records_text _ _ _ c.args.from c.if-gates-from.true) (prints-none _ _ _ (search rules) c.put_records.ensures), past_next _ c.args.couplers.now _ c.args.from c.if-gates-from.true, past-share _ _ _ c.args.from c.if-gates-from.true)
 
 pub print_part-printed-requires : goal.print_part-printed-requires
 print_part-printed-requires c = behind-one _ c.args.couplers.now _ c.args.from c.if-gates-from.false _ _ c.stretch_at-stretch.ensures c.hadamard_at.ensures

@@ -1,4 +1,5 @@
 -- `console::printing::print_head` meets its contract: the couplers are those in order, and the writer accepts. Assumes nothing.
+use borrow.Author.Rules.{rules}
 use mathlib.Core.Path.{ap, ◌∙◌}
 use Rattle.tallies.specs.Tally.{bound_of}
 use Rattle.chip.specs.Ordered.{ordered_of}
@@ -13,8 +14,8 @@ slice_bounds-write-end c = order-long _ _ c.in_order-ordered.ensures
 
 pub returns-in-Written : goal.returns-in-Written
 unfolding bound_of
-returns-in-Written c = job-written _ _ _ _ _ _ _ (order_is _ _ (c.in_order-ordered.ensures ∙ ap ordered_of c.near.ensures)) c.write-arg2.given.0.1 c.requires c.write.ensures.0 c.write.ensures.1 _ c.in-Written.is
+returns-in-Written c = job-written _ _ _ _ _ _ _ (order_is _ _ (c.in_order-ordered.ensures ∙ ap ordered_of c.near.ensures)) (search rules) c.requires c.write.ensures.0 c.write.ensures.1 _ c.in-Written.is
 
 pub returns-in-Refused : goal.returns-in-Refused
 unfolding bound_of
-returns-in-Refused c = absurd (never-refused _ _ _ _ _ _ _ (order_is _ _ (c.in_order-ordered.ensures ∙ ap ordered_of c.near.ensures)) c.write-arg2.given.0.1 c.requires c.write.ensures.0 c.write.ensures.1 _ c.in-Refused.is)
+returns-in-Refused c = absurd (never-refused _ _ _ _ _ _ _ (order_is _ _ (c.in_order-ordered.ensures ∙ ap ordered_of c.near.ensures)) (search rules) c.requires c.write.ensures.0 c.write.ensures.1 _ c.in-Refused.is)

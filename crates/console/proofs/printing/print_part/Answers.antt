@@ -1,4 +1,5 @@
 -- `console::printing::print_part` meets its contract: two lists of lines, or a refusal. Assumes nothing.
+use borrow.Author.Rules.{rules}
 use Prim.Native.Nat.{ℕ}
 use lib.ListN.{replicate, length-replicate}
 use Rattle.tallies.specs.Tally.{bound_of, largest}
@@ -17,7 +18,7 @@ slice_bounds-put_records-end-in-Laid c = alone-long _ _ _ _ _ (length-replicate 
 
 pub returns-in-Laid : goal.returns-in-Laid
 unfolding bound_of
-returns-in-Laid c = (prints-same (laid_said _ _ _ _ (length-replicate {A = ℕ} largest 0) _ c.lay.ensures.0 _ c.lay.ensures.1 _ _ _ _ _ c.in-Laid.is _) (records-printed _ _ _ c.args.out.now _ _ _ _ c.put_records-arg-1.given.0.1 (alone-is _ _ _ _ _ (length-replicate {A = ℕ} largest 0) _ c.lay.ensures.0 c.lay.ensures.1 _ _ _ _ _ c.in-Laid.is) (records-few _ _ _ _ (length-replicate {A = ℕ} largest 0) _ c.lay.ensures.0 _ c.lay.ensures.1 _ _ _ _ _ c.in-Laid.is) c.requires c.put_records-at.ensures.0 c.put_records-at.ensures.1 c.put_records-bytes.ensures.0 c.put_records-bytes.ensures.1), laid-share _ _ _ _ (length-replicate {A = ℕ} largest 0) _ c.lay.ensures.0 _ c.lay.ensures.1 _ _ _ _ _ c.in-Laid.is)
+returns-in-Laid c = (prints-same (laid_said _ _ _ _ (length-replicate {A = ℕ} largest 0) _ c.lay.ensures.0 _ c.lay.ensures.1 _ _ _ _ _ c.in-Laid.is _) (records-printed _ _ _ c.args.out.now _ _ _ _ (search rules) (alone-is _ _ _ _ _ (length-replicate {A = ℕ} largest 0) _ c.lay.ensures.0 c.lay.ensures.1 _ _ _ _ _ c.in-Laid.is) (records-few _ _ _ _ (length-replicate {A = ℕ} largest 0) _ c.lay.ensures.0 _ c.lay.ensures.1 _ _ _ _ _ c.in-Laid.is) c.requires c.put_records-at.ensures.0 c.put_records-at.ensures.1 c.put_records-bytes.ensures.0 c.put_records-bytes.ensures.1), laid-share _ _ _ _ (length-replicate {A = ℕ} largest 0) _ c.lay.ensures.0 _ c.lay.ensures.1 _ _ _ _ _ c.in-Laid.is)
 
 pub returns-in-Refused : goal.returns-in-Refused
 unfolding bound_of

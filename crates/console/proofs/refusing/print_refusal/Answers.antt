@@ -1,4 +1,5 @@
 -- `console::refusing::print_refusal` meets its contract. Assumes nothing.
+use borrow.Author.Rules.{rules}
 use native.Mathlib.Omega.{arith}
 use Rattle.tallies.specs.Tally.{bound_of}
 use Rattle.console.specs.Printed.{most_printed}
@@ -7,4 +8,4 @@ use Rattle.console.proofs.refusing.print_refusal.Goals as goal
 
 pub returns : goal.returns
 unfolding bound_of
-returns c = refusal-whole most_printed c.args.out.now _ _ c.refusal-arg-1.given.0.1 c.args.v _ _ (omega arith) c.number.ensures c.place.ensures c.place.type_inv c.refusal.ensures
+returns c = refusal-whole most_printed c.args.out.now _ _ (search rules) c.args.v _ _ (omega arith) c.number.ensures c.place.ensures c.place.type_inv c.refusal.ensures

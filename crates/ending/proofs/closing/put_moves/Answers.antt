@@ -9,7 +9,7 @@ pub loop-i-init : goal.loop-i-init
 loop-i-init c = (search rules, refl, writes_start _ _ _ _ (moves-all _ _ _))
 
 pub loop-i-preserved : goal.loop-i-preserved
-loop-i-preserved c = (search rules, c.put_cnot-next.auto.0 ∙ c.loop-i.invariant.1, writes-on _ _ _ _ _ _ _ _ _ _ (moves_more _ _ _ c.loop-i.i (search rules)) c.put_cnot-next.ensures.0 c.put_cnot-next.ensures.1 c.loop-i.invariant.2)
+loop-i-preserved c = (search rules, c.put_cnot-next.auto.out ∙ c.loop-i.invariant.1, writes-on _ _ _ _ _ _ _ _ _ _ (moves_more _ _ _ c.loop-i.i (search rules)) c.put_cnot-next.ensures.0 c.put_cnot-next.ensures.1 c.loop-i.invariant.2)
 
 pub returns : goal.returns
 returns c = writes_end _ _ _ _ _ _ (moves-done _ _ _ c.loop-i.i (search rules)) c.loop-i.invariant.2

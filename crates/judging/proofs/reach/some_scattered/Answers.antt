@@ -11,16 +11,16 @@ pub returns-then-is_scattered : goal.returns-then-is_scattered
 returns-then-is_scattered c =
     let at = c.loop-k in
     let a = c.args in
-    looking-hit a.islands a.t2 a.len (search rules) c.requires at.k at.invariant (search rules) _ c.is_scattered.ensures c.if-is_scattered.true
+    looking-hit a.islands a.parity a.len (search rules) c.requires at.k at.invariant (search rules) _ c.is_scattered.ensures c.if-is_scattered.true
 
 pub loop-k-preserved : goal.loop-k-preserved
 loop-k-preserved c =
     let at = c.loop-k in
     let a = c.args in
-    looking-next a.islands a.t2 a.len (search rules) c.requires at.k at.invariant (search rules) _ c.is_scattered.ensures c.if-is_scattered.false
+    looking-next a.islands a.parity a.len (search rules) c.requires at.k at.invariant (search rules) _ c.is_scattered.ensures c.if-is_scattered.false
 
 pub returns : goal.returns
 returns c =
     let at = c.loop-k in
     let a = c.args in
-    looking-end a.islands a.t2 a.len (search rules) c.requires at.k at.invariant (search rules)
+    looking-end a.islands a.parity a.len (search rules) c.requires at.k at.invariant (search rules)

@@ -1,7 +1,7 @@
 -- `lines::pattern::after_pattern` meets its contract: what is left of the pattern leaves what the whole leaves. Assumes nothing.
 use mathlib.Core.Path.{refl}
 use native.Mathlib.Omega.{arith}
-use Prim.Native.Nat.{◌+◌, ◌-◌}
+use Prim.Native.Nat.{◌+◌}
 use lib.ListN.{length, get_or, drop}
 use Rattle.lines.specs.Pattern.{filled_byte, filled}
 use Rattle.lines.proofs.Rooms.{room-turn, room-past}

@@ -1,7 +1,7 @@
 -- `lines::pattern::put_filled` meets its contract: what is left of the pattern gives, when it is stored, what the whole gives. Assumes nothing.
 use mathlib.Core.Path.{refl, ◌∙◌}
 use native.Mathlib.Omega.{arith}
-use Prim.Native.Nat.{◌+◌, ◌-◌}
+use Prim.Native.Nat.{◌+◌}
 use lib.ListN.{get_or, drop}
 use Rattle.lines.specs.Pattern.{filled_byte, filled}
 use Rattle.lines.proofs.Filled.{uses-most, filled-turn, filled-past, filled-part, left-turn, left-past}
@@ -30,7 +30,7 @@ loop-i-preserved c =
     let n = c.number_at in (
       omega arith,
       omega (arith, l.invariant.1, u.ensures, uses-most (get_or s l.i 0)),
-      q.auto.0 ∙ l.invariant.2,
+      q.auto.text ∙ l.invariant.2,
       left-turn a.text.now a.at (filled s vs) l.text l.p l.invariant.3 (filled_byte (get_or s l.i 0) n.result) (filled (drop (l.i + 1) s) (drop (l.k + u.result) vs)) (filled-turn s vs l.i l.k c.loop-i-test.true n.ensures u.ensures) q.ensures,
     )
 

@@ -13,7 +13,7 @@ pub returns-then-x-eq35 : goal.returns-then-x-eq35
 returns-then-x-eq35 c =
     let a = c.args in
     let p = c.put_number in
-    subst (λ bs. Wrote a.text.now a.at bs p.new.0 p.result) (filled-number a.x a.v c.if-x-eq35.true) p.ensures
+    subst (λ bs. Wrote a.text.now a.at bs p.new.text p.result) (filled-number a.x a.v c.if-x-eq35.true) p.ensures
 
 pub put-requires : goal.put-requires
 put-requires c = omega (arith, c.requires, ap length (filled-other c.args.x c.args.v c.if-x-eq35.false))
@@ -22,4 +22,4 @@ pub returns : goal.returns
 returns c =
     let a = c.args in
     let p = c.put in
-    subst (λ bs. Wrote a.text.now a.at bs p.new.0 p.result) (filled-other a.x a.v c.if-x-eq35.false) p.ensures
+    subst (λ bs. Wrote a.text.now a.at bs p.new.text p.result) (filled-other a.x a.v c.if-x-eq35.false) p.ensures

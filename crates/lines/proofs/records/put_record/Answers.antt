@@ -14,4 +14,4 @@ pub returns : goal.returns
 returns c =
     let a = c.args in
     let p = c.put_line in
-    subst (λ bs. Fitted a.text.now a.at bs p.new.0 p.result) (record-line a.x c.letter_of-letter.ensures c.fields_of-count.ensures) p.ensures
+    subst (λ bs. Fitted a.text.now a.at bs p.new.text p.result) (record-line a.x c.letter_of-letter.ensures c.fields_of-count.ensures) p.ensures

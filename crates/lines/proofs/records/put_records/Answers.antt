@@ -1,6 +1,5 @@
 -- `lines::records::put_records` meets its contract: what the records still to come leave is what all of them leave. Assumes nothing.
 use mathlib.Core.Path.{refl, ◌∙◌}
-use Prim.Native.Nat.{◌-◌}
 use Rattle.lines.specs.Lines.{record_text}
 use Rattle.lines.proofs.Recorded.{lines-turn, lines-past}
 use borrow.Author.Rules.{rules}
@@ -13,8 +12,8 @@ pub loop-i-preserved : goal.loop-i-preserved
 loop-i-preserved c =
     let p = c.put_record-at in
     let l = c.loop-i in
-    let t = lines-turn record_text c.args.records.now l.i l.text l.at c.loop-i-test.true p.auto.0 p.ensures in
-    (search rules, p.auto.0 ∙ l.invariant.1, t.0 ∙ l.invariant.2, t.1 ∙ l.invariant.3)
+    let t = lines-turn record_text c.args.records.now l.i l.text l.at c.loop-i-test.true p.auto.text p.ensures in
+    (search rules, p.auto.text ∙ l.invariant.1, t.0 ∙ l.invariant.2, t.1 ∙ l.invariant.3)
 
 pub shape_of-text : goal.shape_of-text
 shape_of-text c = c.loop-i.invariant.1

@@ -1,7 +1,7 @@
 -- `lines::room::after_line` meets its contract: the fields so far are taken off. Assumes nothing.
 use mathlib.Core.Path.{◌≡◌, sym, ap, ◌∙◌}
 use mathlib.Core.List.{◌∷◌}
-use Prim.Native.Nat.{◌+◌, ◌-◌}
+use Prim.Native.Nat.{◌+◌}
 use lib.ListN.{length, get_or, take, length-append}
 use Rattle.lines.specs.Lines.{digits, fields_text}
 use Rattle.lines.specs.Leeway.{room_after}
@@ -15,7 +15,7 @@ unfolding fields_text
 loop-k-init c = (omega arith, sym (room-none _))
 
 pub overflow_add-width : goal.overflow_add-width
-overflow_add-width c = omega (arith, c.width.ensures, width-le (get_or c.args.numbers.now c.loop-k.k 0), c.shared_slice_known-in-loop-k-1.given c.loop-k.k)
+overflow_add-width c = omega (arith, c.width.ensures, width-le (get_or c.args.numbers.now c.loop-k.k 0), c.type_inv.numbers c.loop-k.k)
 
 pub loop-k-preserved : goal.loop-k-preserved
 loop-k-preserved c =

@@ -8,6 +8,7 @@ use Rattle.table.specs.Table.{tabled}
 use Rattle.meaning.proofs.Feeding.{fed-cnot, fed-rotation, fed-over, fed-x, fed-bad}
 use Rattle.meaning.proofs.Telling.{telling-none, tell-next, tell-full, tell-all}
 use borrow.Author.Rules.{rules}
+use Rattle.meaning.proofs.told.tell.Goals.{in-Cnot, in-Rotation+else-grown, in-X, in-Bad}
 use Rattle.meaning.proofs.told.tell.Goals as goal
 
 pub loop-i-init : goal.loop-i-init
@@ -27,15 +28,13 @@ loop-i-preserved c =
     let xs = c.args.records.now in
     let here : at.i < length xs = search rules in
     let d = c.decode-g.ensures in
-    ⊎_elim
-    (λ w. rw (w.3, w.4, w.5, w.6, w.7) (tell-next _ xs m at.i at.invariant here _ d _ (fed-cnot m _ _ _ _ w.1.given.1 w.2.ensures) refl))
-    (⊎_elim
-    (λ w. rw (w.14, w.15, w.16, w.17, w.18) (tell-next _ xs m at.i at.invariant here _ d _
-    (fed-rotation m _ _ _ _ _ _ _ w.1.given.1 w.5.ensures w.6.ensures w.9.ensures w.10.ensures _ _ w.12.ensures w.13.ensures w.11.left) w.11.left))
-    (⊎_elim
-    (λ w. rw (w.3, w.4, w.5, w.6, w.7) (tell-next _ xs m at.i at.invariant here _ d _ (fed-x m _ _ _ w.1.given.1 w.2.ensures) refl))
-    (λ w. rw (w.2, w.3, w.4, w.5, w.6) (tell-next _ xs m at.i at.invariant here _ d _ (fed-bad m _ w.1.given.1) refl))))
-    c.in-Cnot.branch
+    elim c.match-g.branch [
+      | in-Cnot w ↦ rw (w.wires-is, w.parity-is, w.sum-is, w.len-is, w.phase-is) (tell-next _ xs m at.i at.invariant here _ d _ (fed-cnot m _ _ _ _ w.in-Cnot.is w.feed-wires.ensures) refl)
+      | in-Rotation+else-grown w ↦ rw (w.wires-is, w.parity-is, w.sum-is, w.len-is, w.phase-is) (tell-next _ xs m at.i at.invariant here _ d _
+          (fed-rotation m _ _ _ _ _ _ _ w.in-Rotation.is w.borne_on-p.ensures w.borne_on-f.ensures w.taken.ensures w.add-grown.ensures _ _ w.shift.ensures w.together-phase.ensures w.if-grown.false) w.if-grown.false)
+      | in-X w ↦ rw (w.wires-is, w.parity-is, w.sum-is, w.len-is, w.phase-is) (tell-next _ xs m at.i at.invariant here _ d _ (fed-x m _ _ _ w.in-X.is w.feed-wires-in-X.ensures) refl)
+      | in-Bad w ↦ rw (w.wires-is, w.parity-is, w.sum-is, w.len-is, w.phase-is) (tell-next _ xs m at.i at.invariant here _ d _ (fed-bad m _ w.in-Bad.is) refl)
+    ]
 
 pub returns : goal.returns
 returns c = tell-all _ _ _ c.loop-i.i c.loop-i.invariant (search rules)

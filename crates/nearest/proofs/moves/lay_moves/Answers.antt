@@ -10,7 +10,7 @@ pub loop-i-init : goal.loop-i-init
 loop-i-init c = (search rules, refl, refl, rw sub-zero)
 
 pub loop-i-preserved : goal.loop-i-preserved
-loop-i-preserved c = (search rules, c.lay_move-a.auto.0 ∙ c.loop-i.invariant.1, c.lay_move-a.auto.1.1.0 ∙ c.loop-i.invariant.2, move-next _ _ _ _ c.loop-i.i _ _ _ _ _ _ (search rules) c.lay_move-a.ensures ∙ c.loop-i.invariant.3)
+loop-i-preserved c = (search rules, c.lay_move-a.auto.cols ∙ c.loop-i.invariant.1, c.lay_move-a.auto.out ∙ c.loop-i.invariant.2, move-next _ _ _ _ c.loop-i.i _ _ _ _ _ _ (search rules) c.lay_move-a.ensures ∙ c.loop-i.invariant.3)
 
 pub returns : goal.returns
 returns c = move-end _ _ _ _ c.loop-i.i _ _ _ (search rules) ∙ c.loop-i.invariant.3

@@ -12,7 +12,7 @@ pub returns-then-not-mutual_at : goal.returns-then-not-mutual_at
 returns-then-not-mutual_at c = told-not _
 
 pub loop-u-preserved : goal.loop-u-preserved
-loop-u-preserved c = (search rules, c.loop-u.invariant.1, symm-next _ c.loop-u.u (c.mutual_at.ensures (not-false _ c.if-not-mutual_at.false)) c.loop-u.invariant.2)
+loop-u-preserved c = (search rules, c.loop-u.invariant.1, symm-next _ c.loop-u.u (c.mutual_at.ensures c.if-not-mutual_at.false) c.loop-u.invariant.2)
 
 pub returns : goal.returns
 returns c = λ t. symm-all _ c.loop-u.u c.loop-u.invariant.1 (search rules) c.loop-u.invariant.2

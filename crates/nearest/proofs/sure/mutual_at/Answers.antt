@@ -15,7 +15,7 @@ pub returns-then-not-answered : goal.returns-then-not-answered
 returns-then-not-answered c = told-not _
 
 pub loop-v-preserved : goal.loop-v-preserved
-loop-v-preserved c = (search rules, search rules, mutual-next _ _ c.loop-v.v (c.answered.ensures (not-false _ c.if-not-answered.false)) c.loop-v.invariant.2)
+loop-v-preserved c = (search rules, search rules, mutual-next _ _ c.loop-v.v (c.answered.ensures c.if-not-answered.false) c.loop-v.invariant.2)
 
 pub returns : goal.returns
 returns c = λ t. mutual-all _ _ c.loop-v.v (search rules) c.loop-v.invariant.2

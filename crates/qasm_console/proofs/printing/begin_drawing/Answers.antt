@@ -1,4 +1,5 @@
 -- `qasm_console::printing::begin_drawing` meets its contract. Assumes nothing.
+use borrow.Author.Rules.{rules}
 use mathlib.Core.Path.{ap, ◌∙◌}
 use Rattle.console.proofs.Fronts.{front-short}
 use Rattle.qasm_console.specs.Parts.{front_circuit, handed_circuit}
@@ -7,12 +8,12 @@ use Rattle.qasm_console.proofs.Beginning.{circuit-read, circuit-unread}
 use Rattle.qasm_console.proofs.printing.begin_drawing.Goals as goal
 
 pub begin_gates-requires : goal.begin_gates-requires
-begin_gates-requires c = front-short c.read.new.1.0 c.in-Read.circuit.gates c.first.ensures c.first-arg-in-Read-1.given.0
+begin_gates-requires c = front-short c.read.new.gates c.in-Read.circuit.gates c.first.ensures (search rules)
 
 pub returns-in-Read : goal.returns-in-Read
-returns-in-Read c = circuit-read _ _ _ _ c.read-arg-1.given.0.1 _ c.read.ensures.0 c.read.ensures.1 _ _ _ _ c.in-Read.is
+returns-in-Read c = circuit-read _ _ _ _ (search rules) _ c.read.ensures.0 c.read.ensures.1 _ _ _ _ c.in-Read.is
     (prints-same (ap (front_circuit _ _) c.first.ensures) c.begin_gates.ensures.0)
     (c.begin_gates.ensures.1 ∙ ap (handed_circuit _ _) c.first.ensures)
 
 pub returns-in-Refused : goal.returns-in-Refused
-returns-in-Refused c = circuit-unread _ _ _ _ c.read-arg-1.given.0.1 _ c.read.ensures.0 c.read.ensures.1 _ _ _ _ c.in-Refused.is c.refuse.ensures.0 c.refuse.ensures.1
+returns-in-Refused c = circuit-unread _ _ _ _ (search rules) _ c.read.ensures.0 c.read.ensures.1 _ _ _ _ c.in-Refused.is c.refuse.ensures.0 c.refuse.ensures.1

@@ -1,4 +1,5 @@
 -- `qasm_console::printing::begin_gates` meets its contract. Assumes nothing.
+use borrow.Author.Rules.{rules}
 use Rattle.tallies.specs.Tally.{bound_of}
 use Rattle.verdicts.proofs.Judged.{passed, refused}
 use Rattle.console.proofs.Choosing.{prints-same}
@@ -13,4 +14,4 @@ returns-then-number-ne0 c = let no = refused c.judge-verdict.ensures c.number.en
 pub returns : goal.returns
 unfolding bound_of
 returns c = let z = passed c.judge-verdict.ensures c.number.ensures c.if-number-ne0.false in
-    (prints-same (circuit-passed c.args.circuit _ _ z) (head-whole _ _ _ c.put_head-arg-1.given.0.1 _ _ _ _ z c.put_head.ensures), handed-passed c.args.circuit _ _ z)
+    (prints-same (circuit-passed c.args.circuit _ _ z) (head-whole _ _ _ (search rules) _ _ _ _ z c.put_head.ensures), handed-passed c.args.circuit _ _ z)

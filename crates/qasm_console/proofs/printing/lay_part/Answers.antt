@@ -14,7 +14,7 @@ use Rattle.qasm_console.proofs.printing.lay_part.Goals as goal
 
 pub returns-then-gates-from : goal.returns-then-gates-from
 unfolding bound_of
-returns-then-gates-from c = (prints-same (past-text (gates_text _) _ _ _ c.args.from c.if-gates-from.true) (prints-none _ _ _ c.put_gates-arg-1.given.0.1 c.put_gates.ensures), past_next _ c.args.couplers.now _ c.args.from c.if-gates-from.true, past-share _ _ _ c.args.from c.if-gates-from.true)
+returns-then-gates-from c = (prints-same (past-text (gates_text _) _ _ _ c.args.from c.if-gates-from.true) (prints-none _ _ _ (search rules) c.put_gates.ensures), past_next _ c.args.couplers.now _ c.args.from c.if-gates-from.true, past-share _ _ _ c.args.from c.if-gates-from.true)
 
 pub print_part-printed-requires : goal.print_part-printed-requires
 print_part-printed-requires c = subst (λ (h : List ℕ). length (gates_text c.args.version h) ≤ 26) (sym c.hadamard_at.ensures) (hadamard-most c.args.version c.args.n c.args.gates.now c.args.from)

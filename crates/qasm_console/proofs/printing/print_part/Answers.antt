@@ -1,4 +1,5 @@
 -- `qasm_console::printing::print_part` meets its contract: two lists of statements, or a refusal. Assumes nothing.
+use borrow.Author.Rules.{rules}
 use Prim.Native.Nat.{ℕ}
 use lib.ListN.{replicate, length-replicate}
 use Rattle.tallies.specs.Tally.{bound_of, largest}
@@ -22,7 +23,7 @@ unfolding bound_of
 returns-in-Laid c =
     let z = laid-passed _ _ _ _ (length-replicate {A = ℕ} largest 0) _ c.lay.ensures.0 _ c.lay.ensures.1 _ _ _ _ _ c.in-Laid.is in (
       prints-same (unless-passed _ _ z)
-          (gates-printed _ _ _ _ c.args.out.now _ _ _ _ c.put_gates-arg-1.given.0.1
+          (gates-printed _ _ _ _ c.args.out.now _ _ _ _ (search rules)
           (alone-is _ _ _ _ _ (length-replicate {A = ℕ} largest 0) _ c.lay.ensures.0 c.lay.ensures.1 _ _ _ _ _ c.in-Laid.is)
           (records-few _ _ _ _ (length-replicate {A = ℕ} largest 0) _ c.lay.ensures.0 _ c.lay.ensures.1 _ _ _ _ _ c.in-Laid.is)
           (stretch-most _ _ _ _ largest z) c.requires c.put_gates-at.ensures.0 c.put_gates-at.ensures.1 c.put_gates-bytes.ensures.0 c.put_gates-bytes.ensures.1),

@@ -17,4 +17,4 @@ pub returns : goal.returns
 returns c =
     let a = c.args in
     let p = c.put_pattern in
-    subst (λ bs. Fitted a.text.now a.at bs p.new.0 p.result) (gate-line a.version a.x c.pattern_of-line.result c.pattern_of-line.ensures c.length_of-bytes.ensures c.Numbers-of.ensures) p.ensures
+    subst (λ bs. Fitted a.text.now a.at bs p.new.text p.result) (gate-line a.version a.x c.pattern_of-line.result c.pattern_of-line.ensures c.length_of-bytes.ensures c.numbers_of-numbers.ensures) p.ensures

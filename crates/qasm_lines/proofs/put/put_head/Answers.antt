@@ -16,4 +16,4 @@ pub returns : goal.returns
 returns c =
     let a = c.args in
     let p = c.put_pattern in
-    subst (λ bs. Fitted a.text.now 0 bs p.new.0 p.result) (head-line a.version a.n c.head_pattern-head.result c.head_pattern-head.ensures c.head_length-bytes.ensures) p.ensures
+    subst (λ bs. Fitted a.text.now 0 bs p.new.text p.result) (head-line a.version a.n c.head_pattern-head.result c.head_pattern-head.ensures c.head_length-bytes.ensures) p.ensures

@@ -22,4 +22,4 @@ pub returns : goal.returns
 returns c =
     let a = c.args in
     let p = c.put_pattern in
-    subst (λ bs. Fitted a.text.now a.at bs p.new.0 p.result) (phase-line a.version a.phase c.phase_pattern-line.result c.if-g-eq0.false c.phase_pattern-line.ensures c.phase_length-bytes.ensures) p.ensures
+    subst (λ bs. Fitted a.text.now a.at bs p.new.text p.result) (phase-line a.version a.phase c.phase_pattern-line.result c.if-g-eq0.false c.phase_pattern-line.ensures c.phase_length-bytes.ensures) p.ensures

@@ -17,4 +17,4 @@ slice_bounds-after_pattern-end c = sym (length-take-le _ _ (omega (arith, c.leng
 pub returns : goal.returns
 returns c =
     let a = c.args in
-    c.after_pattern.ensures ∙ ap (λ bs. room_after a.room (length bs)) (gate-line a.version a.x c.pattern_of-line.result c.pattern_of-line.ensures c.length_of-bytes.ensures c.Numbers-of.ensures)
+    c.after_pattern.ensures ∙ ap (λ bs. room_after a.room (length bs)) (gate-line a.version a.x c.pattern_of-line.result c.pattern_of-line.ensures c.length_of-bytes.ensures c.numbers_of-numbers.ensures)

@@ -1,6 +1,6 @@
 -- `qasm_lines::room::after_gates` meets its contract: what the gates still to come leave is what all of them leave. Assumes nothing.
 use mathlib.Core.Path.{refl}
-use Prim.Native.Nat.{◌+◌, ◌-◌}
+use Prim.Native.Nat.{◌+◌}
 use lib.ListN.{length, get_or, drop}
 use Rattle.lines.proofs.Rooms.{room-turn, room-past}
 use Rattle.qasm_lines.specs.Spelling.{gate_text, gates_text}

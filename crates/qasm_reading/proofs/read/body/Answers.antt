@@ -16,7 +16,7 @@ returns-then-bad_angle c = let a = c.args in
     let r = statement_run a.version a.name.now (words (drop a.at s)) in
     let l = words (drop c.count-g.result.next s) in
     record {
-      answer = end-angle s (length a.gates.now) a.version a.name.now a.n r.records r.phase l c.Line-of.ensures c.if-place-gt0.true (sym c.bad_angle.ensures ∙ c.if-bad_angle.true)
+      answer = end-angle s (length a.gates.now) a.version a.name.now a.n r.records r.phase l c.line_of-place.ensures c.if-place-gt0.true (sym c.bad_angle.ensures ∙ c.if-bad_angle.true)
           ∙ ap (λ x. found_answer s (length a.gates.now) (end_circuit a.version a.name.now a.n r.records r.phase x)) c.count-g.ensures.2;
       list = refl;
     }
@@ -28,7 +28,7 @@ returns-then-place-gt0 c = let a = c.args in
     let r = statement_run a.version a.name.now (words (drop a.at s)) in
     let l = words (drop c.count-g.result.next s) in
     record {
-      answer = end-statement s (length a.gates.now) a.version a.name.now a.n r.records r.phase l c.Line-of.ensures c.if-place-gt0.true (sym c.bad_angle.ensures ∙ c.if-bad_angle.false)
+      answer = end-statement s (length a.gates.now) a.version a.name.now a.n r.records r.phase l c.line_of-place.ensures c.if-place-gt0.true (sym c.bad_angle.ensures ∙ c.if-bad_angle.false)
           ∙ ap (λ x. found_answer s (length a.gates.now) (end_circuit a.version a.name.now a.n r.records r.phase x)) c.count-g.ensures.2;
       list = refl;
     }
@@ -40,7 +40,7 @@ returns-then-gates-g c = let a = c.args in
     let r = statement_run a.version a.name.now (words (drop a.at s)) in
     let l = words (drop c.count-g.result.next s) in
     let e : end_circuit a.version a.name.now a.n r.records r.phase l ≡ circuit a.version a.n r.records r.phase
-    = end-done s (length a.gates.now) a.version a.name.now a.n r.records r.phase l c.Line-of.ensures c.if-place-gt0.false in
+    = end-done s (length a.gates.now) a.version a.name.now a.n r.records r.phase l c.line_of-place.ensures c.if-place-gt0.false in
     record {
       answer = room-short s (length a.gates.now) a.version a.n r.records r.phase (omega (arith, c.count-g.ensures.0, c.if-gates-g.true))
           ∙ sym (ap (found_answer s (length a.gates.now)) (ap (end_circuit a.version a.name.now a.n r.records r.phase) (sym c.count-g.ensures.2) ∙ e));
@@ -57,7 +57,7 @@ returns c = let a = c.args in
     let r = statement_run a.version a.name.now (words (drop a.at s)) in
     let l = words (drop c.count-g.result.next s) in
     let e : end_circuit a.version a.name.now a.n r.records r.phase l ≡ circuit a.version a.n r.records r.phase
-    = end-done s (length a.gates.now) a.version a.name.now a.n r.records r.phase l c.Line-of.ensures c.if-place-gt0.false in
+    = end-done s (length a.gates.now) a.version a.name.now a.n r.records r.phase l c.line_of-place.ensures c.if-place-gt0.false in
     let d = ap (end_circuit a.version a.name.now a.n r.records r.phase) (sym c.count-g.ensures.2) ∙ e in
     record {
       answer = room-long s (length a.gates.now) a.version a.n r.records r.phase c.count-g.ensures.0 c.count-g.ensures.1 c.if-gates-g.false ∙ sym (ap (found_answer s (length a.gates.now)) d);

@@ -6,7 +6,7 @@ use Rattle.qasm_reading.proofs.Answers.{head-has, head-not}
 use Rattle.qasm_reading.proofs.read.head_fault.Goals as goal
 
 pub returns-then-has_end : goal.returns-then-has_end
-returns-then-has_end c = head-has c.args.text.now (words (drop c.args.at c.args.text.now)) (sym c.has_end.ensures ∙ c.if-has_end.true) c.Line-of.ensures
+returns-then-has_end c = head-has c.args.text.now (words (drop c.args.at c.args.text.now)) (sym c.has_end.ensures ∙ c.if-has_end.true) c.line_of.ensures
 
 pub returns : goal.returns
 returns c = head-not c.args.text.now (words (drop c.args.at c.args.text.now)) (sym c.has_end.ensures ∙ c.if-has_end.false)

@@ -22,7 +22,7 @@ overflow_add-n c = let s = c.args.text.now in
     let l = words (drop c.loop-q.at s) in
     let e = sym (ap (λ (g : Said). g.rest) c.gate-p.ensures) ∙ ap (words_at s) c.in-At.is in
     let r = flag-few c.gate-p.result.gate c.gate-p.result.record (ap (λ (g : Said). g.records) c.gate-p.ensures) in
-    omega (arith, count_room c.args.version c.args.name.now (words (drop c.args.from s)) c.loop-q.n c.loop-q.phase l c.loop-q.invariant _ e, c.as_count-n.ensures, r, words-length (drop c.args.from s), length-drop c.args.from s, c.well-formed)
+    omega (arith, count_room c.args.version c.args.name.now (words (drop c.args.from s)) c.loop-q.n c.loop-q.phase l c.loop-q.invariant _ e, c.as_count-n.ensures, r, words-length (drop c.args.from s), length-drop c.args.from s)
 
 pub loop-q-smaller : goal.loop-q-smaller
 loop-q-smaller c = gate-short c.args.version c.args.name.now (words (drop c.loop-q.at c.args.text.now)) _ (sym (ap (λ (g : Said). g.rest) c.gate-p.ensures) ∙ ap (words_at c.args.text.now) c.in-At.is)

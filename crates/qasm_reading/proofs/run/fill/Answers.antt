@@ -29,7 +29,7 @@ overflow_add-n c = let s = c.args.text.now in
     let e = sym (ap (λ (g : Said). g.rest) c.gate-p.ensures) ∙ ap (words_at s) c.in-At.is in
     let q = ap (λ (g : Said). g.records) c.gate-p.ensures in
     let h = fill-room c.args.version c.args.name.now (words (drop c.args.from s)) c.args.out.now c.loop-q.out c.loop-q.n (words (drop c.loop-q.at s)) c.loop-q.invariant _ e c.gate-p.result.gate c.gate-p.result.record q c.requires in
-    omega (arith, c.as_count-n.ensures, fill-next c.gate-p.result.gate c.loop-q.n h c.loop-q.invariant.reach, c.loop-q.invariant.size, c.well-formed)
+    omega (arith, c.as_count-n.ensures, fill-next c.gate-p.result.gate c.loop-q.n h c.loop-q.invariant.reach, c.loop-q.invariant.size)
 
 pub loop-q-smaller : goal.loop-q-smaller
 loop-q-smaller c = gate-short c.args.version c.args.name.now (words (drop c.loop-q.at c.args.text.now)) _ (sym (ap (λ (g : Said). g.rest) c.gate-p.ensures) ∙ ap (words_at c.args.text.now) c.in-At.is)

@@ -10,7 +10,7 @@ use Rattle.qasm_reading.proofs.run.put.Goals as goal
 pub offset_bounds-out-n : goal.offset_bounds-out-n
 offset_bounds-out-n c = let a = c.args in
     let h = subst (λ (b : Bool). pick b (a.n + 1) 0 ≤ length a.out.now) c.if-gate.true c.requires in
-    omega (arith, h, c.well-formed)
+    omega (arith, h)
 
 pub bounds-out-n : goal.bounds-out-n
 bounds-out-n c = let a = c.args in

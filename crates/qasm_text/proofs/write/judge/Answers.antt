@@ -23,11 +23,11 @@ returns-then-fits c =
     let a = c.args in
     let one = passed c.judge_qubits-v1.ensures c.number.ensures c.if-number-ne0.false in
     let two = passed c.judge_drawn-v2.ensures c.number-2.ensures c.if-number-ne0-2.false in
-    sym (ap (λ t. pick t Accepted Room) (sym c.fits2.ensures ∙ c.if-fits.true)) ∙ judged-room a.version a.n a.gates.now a.phase a.room one two
+    sym (ap (λ t. pick t Accepted Room) (sym c.fits.ensures ∙ c.if-fits.true)) ∙ judged-room a.version a.n a.gates.now a.phase a.room one two
 
 pub returns : goal.returns
 returns c =
     let a = c.args in
     let one = passed c.judge_qubits-v1.ensures c.number.ensures c.if-number-ne0.false in
     let two = passed c.judge_drawn-v2.ensures c.number-2.ensures c.if-number-ne0-2.false in
-    sym (ap (λ t. pick t Accepted Room) (sym c.fits2.ensures ∙ c.if-fits.false)) ∙ judged-room a.version a.n a.gates.now a.phase a.room one two
+    sym (ap (λ t. pick t Accepted Room) (sym c.fits.ensures ∙ c.if-fits.false)) ∙ judged-room a.version a.n a.gates.now a.phase a.room one two

@@ -1,18 +1,11 @@
 -- `reading::run::count` meets its contract: what is counted and what is left make up the run. Assumes nothing.
-use mathlib.Core.Path.{◌≡◌, sym, ap, ◌∙◌}
-use mathlib.Core.Option.{some}
+use mathlib.Core.Path.{sym, ap, ◌∙◌}
 use native.Mathlib.Omega.{arith}
 use lib.ListN.{drop, length-drop}
-use Rattle.reading.specs.Parsing.{read_one}
 use Rattle.spots.specs.Places.{rest_at}
-use Rattle.reading.proofs.Lines.{one-short}
+use Rattle.reading.proofs.Lines.{one-at, one-short}
 use Rattle.reading.proofs.Loops.{count-start, count-step, count-done}
 use Rattle.reading.proofs.run.count.Goals as goal
-
-step : (c : tie.After-known-told invariant-loop decreases-loop)
-    → (read_one c.args.gates (drop c.loop-q.at c.args.text.now)).rest
-    ≡ some (drop c.in-At.q c.args.text.now)
-step c = sym (ap (λ g. g.rest) c.one-p.ensures) ∙ ap (rest_at c.args.text.now) c.in-At.is
 
 pub loop-q-init : goal.loop-q-init
 loop-q-init c = count-start c.args.gates (drop c.args.from c.args.text.now)
@@ -28,13 +21,13 @@ pub overflow_add-n : goal.overflow_add-n
 overflow_add-n c =
     let l = c in
     let a = l.args in
-    omega (arith, l.loop-q.invariant.room, one-short _ _ _ (step c), length-drop a.from a.text.now, l.well-formed)
+    omega (arith, l.loop-q.invariant.room, one-short _ _ _ (one-at c.args.text.now c.args.gates c.loop-q.at c.one-p.result c.in-At.q c.one-p.ensures c.in-At.is), length-drop a.from a.text.now, l.well_formed)
 
 pub loop-q-smaller : goal.loop-q-smaller
-loop-q-smaller c = one-short _ _ _ (step c)
+loop-q-smaller c = one-short _ _ _ (one-at c.args.text.now c.args.gates c.loop-q.at c.one-p.result c.in-At.q c.one-p.ensures c.in-At.is)
 
 pub loop-q-preserved : goal.loop-q-preserved
 loop-q-preserved c =
     let l = c in
     let a = l.args in
-    count-step a.gates (drop a.from a.text.now) l.loop-q.n (drop l.loop-q.at a.text.now) (drop c.in-At.q a.text.now) l.loop-q.invariant (step c)
+    count-step a.gates (drop a.from a.text.now) l.loop-q.n (drop l.loop-q.at a.text.now) (drop c.in-At.q a.text.now) l.loop-q.invariant (one-at c.args.text.now c.args.gates c.loop-q.at c.one-p.result c.in-At.q c.one-p.ensures c.in-At.is)

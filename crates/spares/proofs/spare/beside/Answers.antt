@@ -6,6 +6,7 @@ use lib.Bits.{bit_or}
 use Rattle.chip.proofs.Rounds.{from_on, nbrs-with, nbrs-without, nbrs-start, nbrs-end}
 use borrow.Author.Rules.{rules}
 use native.Mathlib.Omega.{arith}
+use Rattle.spares.proofs.spare.beside.Goals.{then-holds, else-holds}
 use Rattle.spares.proofs.spare.beside.Goals as goal
 
 pub loop-u-init : goal.loop-u-init
@@ -16,14 +17,14 @@ loop-u-preserved c =
     let at = c.loop-u in
     let a = c.args in (
       search rules,
-      ⊎_elim
-          (λ w. ap (λ (n : ℕ). bit_or n (from_on a.t1 a.set (at.u + 1))) w.1 ∙ sym (nbrs-with a.t1 a.set at.u at.all (search rules) (sym c.holds.ensures ∙ w.0.taken)) ∙ at.invariant.1)
-          (λ w. ap (λ (n : ℕ). bit_or n (from_on a.t1 a.set (at.u + 1))) w.1 ∙ sym (nbrs-without a.t1 a.set at.u at.all (search rules) (sym c.holds.ensures ∙ w.0.left)) ∙ at.invariant.1)
-          c.if-holds.branch,
+      elim c.if-holds.branch [
+        | then-holds w ↦ ap (λ (n : ℕ). bit_or n (from_on a.near a.set (at.u + 1))) w.all-is ∙ sym (nbrs-with a.near a.set at.u at.all (search rules) (sym c.holds.ensures ∙ w.if-holds.true)) ∙ at.invariant.1
+        | else-holds w ↦ ap (λ (n : ℕ). bit_or n (from_on a.near a.set (at.u + 1))) w.all-is ∙ sym (nbrs-without a.near a.set at.u at.all (search rules) (sym c.holds.ensures ∙ w.if-holds.false)) ∙ at.invariant.1
+      ],
     )
 
 pub returns : goal.returns
 returns c =
     let at = c.loop-u in
     let a = c.args in
-    sym (nbrs-end a.t1 a.set at.u at.all (omega (arith, c.well-formed.0))) ∙ at.invariant.1
+    sym (nbrs-end a.near a.set at.u at.all (omega (arith, c.well_formed.0))) ∙ at.invariant.1

@@ -6,7 +6,7 @@ use Rattle.spots.proofs.Steps.{digit-past}
 use Rattle.spots.proofs.spot.digit.Goals as goal
 
 pub overflow_cast-x : goal.overflow_cast-x
-overflow_cast-x c = omega (arith, c.shared_slice_known-1.given c.args.at)
+overflow_cast-x c = omega (arith, c.type_inv.text c.args.at)
 
 pub returns-then-x-le57 : goal.returns-then-x-le57
 unfolding digit_of

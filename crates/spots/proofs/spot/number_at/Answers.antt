@@ -1,15 +1,15 @@
 -- `spots::spot::number_at` meets its contract: what is read so far and the digits left give the number. Assumes nothing.
 use mathlib.Core.Path.{◌≡◌, sym, ◌∙◌}
-use Prim.Native.Nat.{ℕ, ◌<◌, ◌-◌}
+use mathlib.Core.List.{List}
+use Prim.Native.Nat.{ℕ, ◌<◌}
 use native.Mathlib.Omega.{arith}
 use lib.ListN.{length, get_or}
+use Rattle.spots.specs.Numbers.{digit_of}
 use Rattle.spots.proofs.Steps.{digit-in, digit-le, digit_lt, number-zero, number-none, number_more, more-end, more-on, more-over}
 use Rattle.spots.proofs.spot.number_at.Goals as goal
 
-inside : (c : tie.Else4 invariant-loop decreases-loop) → c.loop-from.at < length c.args.text.now
-inside c =
-    let l = c in
-    digit-in l.args.text.now l.loop-from.at (λ e. c.if-d-eq10.false (c.digit-d.ensures ∙ e))
+inside : (s : List ℕ) (p d : ℕ) → d ≡ digit_of (get_or s p 0) → (d ≡ 10 → ⊥) → p < length s
+inside s p d e n = digit-in s p (λ q. n (e ∙ q))
 
 pub overflow_add-result : goal.overflow_add-result
 overflow_add-result c =
@@ -57,10 +57,10 @@ returns-then-most-v c =
     sym (l.loop-from.invariant.1 ∙ more-over a.text.now l.loop-from.at a.most l.loop-from.v (digit_lt _ (λ e. c.if-d-eq10.false (d ∙ e))) (omega (arith, d)))
 
 pub overflow_add-at : goal.overflow_add-at
-overflow_add-at c = omega (arith, inside c)
+overflow_add-at c = omega (arith, inside c.args.text.now c.loop-from.at c.digit-d.result c.digit-d.ensures c.if-d-eq10.false)
 
 pub loop-from-smaller : goal.loop-from-smaller
-loop-from-smaller c = omega (arith, inside c)
+loop-from-smaller c = omega (arith, inside c.args.text.now c.loop-from.at c.digit-d.result c.digit-d.ensures c.if-d-eq10.false)
 
 pub loop-from-preserved : goal.loop-from-preserved
 loop-from-preserved c =

@@ -1,6 +1,5 @@
 -- `statements::gate::ends_in` meets its contract. Assumes nothing.
 use mathlib.Core.Path.{refl, ap, ◌∙◌}
-use Prim.Native.Nat.{◌-◌}
 use native.Mathlib.Omega.{arith}
 use Rattle.words.specs.Places.{words_at}
 use Rattle.statements.proofs.Ends.{ends-in-none, ends-semi, ends-hit, ends_on}

@@ -1,6 +1,5 @@
 -- `statements::head::has_end` meets its contract. Assumes nothing.
 use mathlib.Core.Path.{refl, ap, ◌∙◌}
-use Prim.Native.Nat.{◌-◌}
 use native.Mathlib.Omega.{arith}
 use Rattle.words.specs.Places.{words_at}
 use Rattle.statements.proofs.Ends.{end_none, end-mark-here, end-mark-on}

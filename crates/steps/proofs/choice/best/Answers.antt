@@ -5,6 +5,7 @@ use native.Mathlib.Omega.{arith}
 use mathlib.Core.Logic.{⊎_elim}
 use Rattle.steps.proofs.Choosing.{worth-all, worth-here, worth-not, worth-other, best-hit, best_none, best-end}
 use borrow.Author.Rules.{rules}
+use Rattle.steps.proofs.choice.best.Goals.{then-may-q+else-worth-q, else-may-q}
 use Rattle.steps.proofs.choice.best.Goals as goal
 
 pub search-init : goal.search-init
@@ -24,8 +25,10 @@ loop-q-preserved c =
     let at = c.loop-q in
     let w = c.search.w in (
       search rules,
-      ⊎_elim (λ k. sym (worth-other _ _ (w - 1) at.q (search rules) k.0.taken k.1.left) ∙ at.invariant.1)
-          (λ k. sym (worth-not _ _ (w - 1) at.q (search rules) k.left) ∙ at.invariant.1) c.if-may-q.branch,
+      elim c.if-may-q.branch [
+        | then-may-q+else-worth-q k ↦ sym (worth-other _ _ (w - 1) at.q (search rules) k.if-may-q.true k.if-worth-q.false) ∙ at.invariant.1
+        | else-may-q k ↦ sym (worth-not _ _ (w - 1) at.q (search rules) k.if-may-q.false) ∙ at.invariant.1
+      ],
       at.invariant.2,
     )
 

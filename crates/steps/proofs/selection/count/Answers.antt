@@ -6,6 +6,7 @@ use native.Mathlib.Omega.{arith}
 use mathlib.Core.Logic.{⊎_elim}
 use Rattle.steps.proofs.Selecting.{counted_none, counted_next, counted-small, counted-all}
 use borrow.Author.Rules.{rules}
+use Rattle.steps.proofs.selection.count.Goals.{then-sel-k, else-sel-k}
 use Rattle.steps.proofs.selection.count.Goals as goal
 
 pub loop-k-init : goal.loop-k-init
@@ -18,8 +19,10 @@ pub loop-k-preserved : goal.loop-k-preserved
 loop-k-preserved c =
     let at = c.loop-k in (
       search rules,
-      ⊎_elim (λ w. counted_next _ at.k at.n _ true (sym w.0.taken) at.invariant.1 w.1)
-          (λ w. counted_next _ at.k at.n _ false (sym w.0.left) at.invariant.1 (omega (arith, w.1))) c.if-sel-k.branch,
+      elim c.if-sel-k.branch [
+        | then-sel-k w ↦ counted_next _ at.k at.n _ true (sym w.if-sel-k.true) at.invariant.1 w.n-is
+        | else-sel-k w ↦ counted_next _ at.k at.n _ false (sym w.if-sel-k.false) at.invariant.1 (omega (arith, w.n-is))
+      ],
     )
 
 pub returns : goal.returns

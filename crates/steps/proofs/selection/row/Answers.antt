@@ -6,6 +6,7 @@ use native.Mathlib.Omega.{arith}
 use mathlib.Core.Logic.{⊎_elim}
 use Rattle.steps.proofs.Selecting.{row-none, row_next, row_small, row-all}
 use borrow.Author.Rules.{rules}
+use Rattle.steps.proofs.selection.row.Goals.{then-is_one, else-is_one}
 use Rattle.steps.proofs.selection.row.Goals as goal
 
 pub loop-k-init : goal.loop-k-init
@@ -19,8 +20,10 @@ loop-k-preserved c =
     let at = c.loop-k in (
       search rules,
       at.invariant.1,
-      ⊎_elim (λ w. row_next _ _ _ at.k at.ones _ _ true (sym w.0.taken ∙ c.is_one.ensures) refl at.invariant.2 w.1)
-          (λ w. row_next _ _ _ at.k at.ones _ _ false (sym w.0.left ∙ c.is_one.ensures) refl at.invariant.2 (omega (arith, w.1))) c.if-is_one.branch,
+      elim c.if-is_one.branch [
+        | then-is_one w ↦ row_next _ _ _ at.k at.ones _ _ true (sym w.if-is_one.true ∙ c.is_one.ensures) refl at.invariant.2 w.ones-is
+        | else-is_one w ↦ row_next _ _ _ at.k at.ones _ _ false (sym w.if-is_one.false ∙ c.is_one.ensures) refl at.invariant.2 (omega (arith, w.ones-is))
+      ],
     )
 
 pub returns : goal.returns

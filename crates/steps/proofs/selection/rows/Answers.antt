@@ -4,6 +4,7 @@ use mathlib.Core.Logic.{⊎_elim}
 use Prim.Native.Nat.{◌-◌}
 use Rattle.steps.proofs.Selecting.{RowsCounted, rows_none, rows_few, rows-tallied, rows-passed, rows_all}
 use borrow.Author.Rules.{rules}
+use Rattle.steps.proofs.selection.rows.Goals.{then-sel-k, else-sel-k}
 use Rattle.steps.proofs.selection.rows.Goals as goal
 
 pub loop-k-init : goal.loop-k-init
@@ -17,8 +18,10 @@ loop-k-preserved c =
     let at = c.loop-k in (
       search rules,
       at.invariant.1,
-      ⊎_elim (λ w. rows-tallied _ _ at.k _ at.z _ w.0.taken refl (w.3 ∙ w.2.ensures) at.invariant.2)
-          (λ w. subst (RowsCounted _ _ _) (sym w.1) (rows-passed _ _ at.k at.z w.0.left at.invariant.2)) c.if-sel-k.branch,
+      elim c.if-sel-k.branch [
+        | then-sel-k w ↦ rows-tallied _ _ at.k _ at.z _ w.if-sel-k.true refl (w.z-is ∙ w.tallied-next.ensures) at.invariant.2
+        | else-sel-k w ↦ subst (RowsCounted _ _ _) (sym w.z-is) (rows-passed _ _ at.k at.z w.if-sel-k.false at.invariant.2)
+      ],
     )
 
 pub returns : goal.returns

@@ -5,6 +5,7 @@ use mathlib.Core.Path.{◌≡◌, sym}
 use Rattle.table.specs.Table.{tabled, held_at, grown_at, new_at}
 use Rattle.table.proofs.Ranks.{rank-le, held-not-other, held-not-past, held-there, add-over, add-held, add-new, add-full}
 use borrow.Author.Rules.{rules}
+use Rattle.table.proofs.sums.add.Goals.{then-k-len+else-parity-k, else-k-len}
 use Rattle.table.proofs.sums.add.Goals as goal
 
 pub returns-then-len-gt-PARITIES : goal.returns-then-len-gt-PARITIES
@@ -30,7 +31,7 @@ returns-then-len-lt-PARITIES c =
     let x = c.args in
     let s = tabled x.parity.now x.sum.now x.len in
     let k = c.rank-k.result in
-    let absent = ⊎_elim {C = held_at s k x.p ≡ false} (λ w. held-not-other s k _ w.0.taken w.2.left) (λ w. held-not-past s k _ w.left) c.if-k-len.branch in
+    let absent : held_at s k x.p ≡ false = elim c.if-k-len.branch [ then-k-len+else-parity-k w ↦ held-not-other s k _ w.if-k-len.true w.if-parity-k.false | else-k-len w ↦ held-not-past s k _ w.if-k-len.false ] in
     cc (add-new s x.p x.a k c.if-len-gt-PARITIES.false c.rank-k.ensures absent c.if-len-lt-PARITIES.true, c.moved_in.ensures, c.moved_in-then-len-lt-PARITIES.ensures)
 
 pub returns : goal.returns
@@ -38,5 +39,5 @@ returns c =
     let x = c.args in
     let s = tabled x.parity.now x.sum.now x.len in
     let k = c.rank-k.result in
-    let absent = ⊎_elim {C = held_at s k x.p ≡ false} (λ w. held-not-other s k _ w.0.taken w.2.left) (λ w. held-not-past s k _ w.left) c.if-k-len.branch in
+    let absent : held_at s k x.p ≡ false = elim c.if-k-len.branch [ then-k-len+else-parity-k w ↦ held-not-other s k _ w.if-k-len.true w.if-parity-k.false | else-k-len w ↦ held-not-past s k _ w.if-k-len.false ] in
     sym (add-full s x.p x.a k c.if-len-gt-PARITIES.false c.rank-k.ensures absent c.if-len-lt-PARITIES.false)

@@ -3,6 +3,7 @@ use mathlib.Core.Logic.{⊎_elim}
 use Prim.Native.Nat.{◌-◌}
 use Rattle.table.proofs.Keeping.{keeping_none, keeping-past, keeping-drop, keeping-take, keeping_all}
 use borrow.Author.Rules.{rules}
+use Rattle.table.proofs.sums.kept.Goals.{then-i-n+then-sum-i-ne0, then-i-n+else-sum-i-ne0, else-i-n}
 use Rattle.table.proofs.sums.kept.Goals as goal
 
 pub loop-i-init : goal.loop-i-init
@@ -12,15 +13,14 @@ pub loop-i-preserved : goal.loop-i-preserved
 loop-i-preserved c =
     let at = c.loop-i in
     let a = c.args in
-    ⊎_elim
-    (λ w. rw (w.2, w.3, w.4) (keeping-take a.t1 a.t2 a.n at.i at.parities at.sums at.len (search rules) (search rules) at.invariant (search rules) w.0.taken w.1.taken))
-    (⊎_elim
-    (λ w. rw (w.2, w.3, w.4) (keeping-drop a.t1 a.t2 a.n at.i at.parities at.sums at.len (search rules) (search rules) at.invariant (search rules) w.0.taken w.1.left))
-    (λ w. rw (w.1, w.2, w.3) (keeping-past a.t1 a.t2 a.n at.i at.parities at.sums at.len (search rules) (search rules) at.invariant (search rules) w.0.left)))
-    c.if-i-n.branch
+    elim c.if-i-n.branch [
+      | then-i-n+then-sum-i-ne0 w ↦ rw (w.parities-is, w.sums-is, w.len-is) (keeping-take a.parity a.sum a.n at.i at.parities at.sums at.len (search rules) (search rules) at.invariant (search rules) w.if-i-n.true w.if-sum-i-ne0.true)
+      | then-i-n+else-sum-i-ne0 w ↦ rw (w.parities-is, w.sums-is, w.len-is) (keeping-drop a.parity a.sum a.n at.i at.parities at.sums at.len (search rules) (search rules) at.invariant (search rules) w.if-i-n.true w.if-sum-i-ne0.false)
+      | else-i-n w ↦ rw (w.parities-is, w.sums-is, w.len-is) (keeping-past a.parity a.sum a.n at.i at.parities at.sums at.len (search rules) (search rules) at.invariant (search rules) w.if-i-n.false)
+    ]
 
 pub returns : goal.returns
 returns c =
     let at = c.loop-i in
     let a = c.args in
-    keeping_all a.t1 a.t2 a.n at.i at.parities at.sums at.len (search rules) (search rules) (search rules) at.invariant
+    keeping_all a.parity a.sum a.n at.i at.parities at.sums at.len (search rules) (search rules) (search rules) at.invariant

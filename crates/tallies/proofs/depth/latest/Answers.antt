@@ -11,9 +11,9 @@ loop-q-init c = (search rules, omega arith)
 pub loop-q-preserved : goal.loop-q-preserved
 loop-q-preserved c =
     let at = c.loop-q in
-    (search rules, omega (arith, at.invariant.1, c.later-most.ensures, highest-step c.args.t1 at.q (search rules)))
+    (search rules, omega (arith, at.invariant.1, c.later-most.ensures, highest-step c.args.layers at.q (search rules)))
 
 pub returns : goal.returns
 returns c =
     let at = c.loop-q in
-    omega (arith, at.invariant.1, highest-end c.args.t1 at.q (search rules))
+    omega (arith, at.invariant.1, highest-end c.args.layers at.q (search rules))

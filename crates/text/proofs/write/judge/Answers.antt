@@ -1,22 +1,10 @@
 -- `text::write::judge` meets its contract: each return is what the tests before it leave. Assumes nothing.
-use mathlib.Core.Path.{◌≡◌, sym, ap, ◌∙◌}
-use lib.ListN.{length}
+use mathlib.Core.Path.{sym, ap, ◌∙◌}
 use Rattle.sets.specs.Pick.{pick}
 use Rattle.verdicts.specs.declared.verdict.Verdict.TheVariants.{Accepted, Room}
-use Rattle.lines.specs.Lines.{text_of}
-use Rattle.text.specs.Writings.{judged_text}
 use Rattle.verdicts.proofs.Judged.{passed, refused}
-use Rattle.reading.specs.Readings.{judged_places}
 use Rattle.text.proofs.Judging.{judged-qubits, judged-couplers, judged-drawn, judged-room}
 use Rattle.text.proofs.write.judge.Goals as goal
-
-roomed : (c : tie.Else3)
-    → judged_places (length (text_of c.args.n c.args.couplers.now c.args.gates.now)) c.args.room
-    ≡ judged_text c.args.n c.args.couplers.now c.args.gates.now c.args.room
-roomed c =
-    let a = c.args in
-    judged-room a.n a.couplers.now a.gates.now a.room (passed c.judge_qubits-v1.ensures c.number.ensures c.if-number-ne0.false)
-    (passed c.judge_couplers-v2.ensures c.number-2.ensures c.if-number-ne0-2.false) (passed c.judge_drawn-v3.ensures c.number-3.ensures c.if-number-ne0-3.false)
 
 pub returns-then-number-ne0 : goal.returns-then-number-ne0
 returns-then-number-ne0 c =
@@ -43,7 +31,15 @@ returns-then-number-ne0-3 c =
     v ∙ judged-drawn a.n es gs a.room (passed c.judge_qubits-v1.ensures c.number.ensures c.if-number-ne0.false) (passed c.judge_couplers-v2.ensures c.number-2.ensures c.if-number-ne0-2.false) (refused v c.number-3.ensures c.if-number-ne0-3.true)
 
 pub returns-then-fits : goal.returns-then-fits
-returns-then-fits c = sym (ap (λ t. pick t Accepted Room) (sym c.fits2.ensures ∙ c.if-fits.true)) ∙ roomed c
+returns-then-fits c =
+    let a = c.args in
+    sym (ap (λ t. pick t Accepted Room) (sym c.fits.ensures ∙ c.if-fits.true))
+    ∙ judged-room a.n a.couplers.now a.gates.now a.room (passed c.judge_qubits-v1.ensures c.number.ensures c.if-number-ne0.false)
+    (passed c.judge_couplers-v2.ensures c.number-2.ensures c.if-number-ne0-2.false) (passed c.judge_drawn-v3.ensures c.number-3.ensures c.if-number-ne0-3.false)
 
 pub returns : goal.returns
-returns c = sym (ap (λ t. pick t Accepted Room) (sym c.fits2.ensures ∙ c.if-fits.false)) ∙ roomed c
+returns c =
+    let a = c.args in
+    sym (ap (λ t. pick t Accepted Room) (sym c.fits.ensures ∙ c.if-fits.false))
+    ∙ judged-room a.n a.couplers.now a.gates.now a.room (passed c.judge_qubits-v1.ensures c.number.ensures c.if-number-ne0.false)
+    (passed c.judge_couplers-v2.ensures c.number-2.ensures c.if-number-ne0-2.false) (passed c.judge_drawn-v3.ensures c.number-3.ensures c.if-number-ne0-3.false)

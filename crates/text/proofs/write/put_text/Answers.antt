@@ -26,6 +26,6 @@ returns c =
     let gs = a.gates.now in
     let all = text-length a.n es gs in
     let first = fitted-wrote a.text.now 0 (line_text 113 (a.n ∷ [])) (omega (arith, h, all)) p.ensures in
-    let second = fitting es p.result p.new.0 (omega (arith, h, all, first.0, p.auto.0)) q.ensures in
-    let third = fitting gs q.result q.new.0 (omega (arith, h, all, first.0, second.0, p.auto.0, q.auto.0)) r.ensures in
-    wrote_then a.text.now 0 (line_text 113 (a.n ∷ [])) (records_text es ++ records_text gs) first (wrote_then p.new.0 p.result (records_text es) (records_text gs) second third)
+    let second = fitting es p.result p.new.text (omega (arith, h, all, first.0, p.auto.text)) q.ensures in
+    let third = fitting gs q.result q.new.text (omega (arith, h, all, first.0, second.0, p.auto.text, q.auto.text)) r.ensures in
+    wrote_then a.text.now 0 (line_text 113 (a.n ∷ [])) (records_text es ++ records_text gs) first (wrote_then p.new.text p.result (records_text es) (records_text gs) second third)

@@ -1,6 +1,5 @@
 -- `words::byte::is_name` meets its contract. Assumes nothing.
 use mathlib.Core.Path.{sym, ◌∙◌}
-use Prim.Native.Nat.{◌-◌}
 use native.Mathlib.Omega.{arith}
 use Rattle.words.specs.Bytes.{small}
 use Rattle.words.proofs.Runs.{name-empty, name-first, name-other, name-on, name-off, name-all}

@@ -1,6 +1,5 @@
 -- `words::byte::is_same` meets its contract. Assumes nothing.
 use mathlib.Core.Path.{refl, ◌∙◌}
-use Prim.Native.Nat.{◌-◌}
 use native.Mathlib.Omega.{arith}
 use Rattle.words.proofs.Runs.{same-short, same-on, same-off, same-all}
 use Rattle.words.proofs.byte.is_same.Goals as goal

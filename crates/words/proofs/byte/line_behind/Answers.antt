@@ -1,12 +1,11 @@
 -- `words::byte::line_behind` meets its contract. Assumes nothing.
 use mathlib.Core.Path.{ap, ◌∙◌}
-use Prim.Native.Nat.{◌-◌}
 use native.Mathlib.Omega.{arith}
-use mathlib.Core.Logic.{⊎_elim}
 use lib.Seq.{length-take-le, take_all}
 use Rattle.words.specs.Bytes.{line_behind}
 use Rattle.words.proofs.Runs.{line_first, line-le, line-up, line-stay}
 use Rattle.words.proofs.byte.line_behind.Goals as goal
+use Rattle.words.proofs.byte.line_behind.Goals.{then-text-i-eq10, else-text-i-eq10}
 
 pub loop-i-init : goal.loop-i-init
 loop-i-init c = (omega arith, line_first c.args.text.now)
@@ -17,10 +16,10 @@ overflow_add-line c = omega (arith, line-le c.args.text.now c.loop-i.i, length-t
 pub loop-i-preserved : goal.loop-i-preserved
 loop-i-preserved c = (
   omega arith,
-  ⊎_elim
-      (λ w. line-up c.args.text.now c.loop-i.i (omega arith) c.loop-i.invariant.1 w.0.taken w.1)
-      (λ w. line-stay c.args.text.now c.loop-i.i (omega arith) c.loop-i.invariant.1 w.0.left w.1)
-      c.if-text-i-eq10.branch,
+  elim c.if-text-i-eq10.branch [
+    | then-text-i-eq10 w ↦ line-up c.args.text.now c.loop-i.i (omega arith) c.loop-i.invariant.1 w.if-text-i-eq10.true w.line-is
+    | else-text-i-eq10 w ↦ line-stay c.args.text.now c.loop-i.i (omega arith) c.loop-i.invariant.1 w.if-text-i-eq10.false w.line-is
+  ],
 )
 
 pub returns : goal.returns

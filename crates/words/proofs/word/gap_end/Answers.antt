@@ -1,7 +1,7 @@
 -- `words::word::gap_end` meets its contract. Assumes nothing.
 use mathlib.Core.Path.{refl, sym, ◌∙◌}
 use lib.ListN.{length}
-use Prim.Native.Nat.{◌-◌, ◌<◌}
+use Prim.Native.Nat.{◌<◌}
 use native.Mathlib.Omega.{arith}
 use Rattle.words.proofs.Steps.{gap-blank, gap-note}
 use Rattle.words.proofs.word.gap_end.Goals as goal

@@ -1,6 +1,5 @@
 -- `words::word::note_end` meets its contract. Assumes nothing.
 use mathlib.Core.Path.{refl, ◌∙◌}
-use Prim.Native.Nat.{◌-◌}
 use native.Mathlib.Omega.{arith}
 use Rattle.words.proofs.Steps.{note-on, note-lf, note-over}
 use Rattle.words.proofs.word.note_end.Goals as goal

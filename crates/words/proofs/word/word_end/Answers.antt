@@ -1,7 +1,7 @@
 -- `words::word::word_end` meets its contract. Assumes nothing.
 use mathlib.Core.Path.{sym, ◌∙◌}
 use lib.ListN.{length}
-use Prim.Native.Nat.{◌-◌, ◌<◌}
+use Prim.Native.Nat.{◌<◌}
 use native.Mathlib.Omega.{arith}
 use Rattle.words.proofs.Steps.{run-start, run_step, run-done}
 use Rattle.words.proofs.word.word_end.Goals as goal
