@@ -9,3 +9,4 @@ pub mod Tallying
 pub mod Beginning
 pub mod InParts
 pub mod Enough
+pub mod Cut

@@ -2,11 +2,17 @@
 // It knows `console`, and alone with the other programs the operating system.
 #![tactic(auto)]
 
+ghost use Rattle.std.specs.Prelude.{OnOk};
+ghost use Rattle.streams.specs.Printing.{PrintsFor};
+ghost use Rattle.console.specs.Printed.{laid_text};
+
 use std::io;
 use std::io::{Read, Write};
 
 // The text is read whole before anything is printed.
-fn lay<R: Read, W: Write>(reader: &mut R, writer: &mut W) -> io::Result<()> {
+fn lay<R: Read, W: Write>(reader: &mut R, writer: &mut W) -> io::Result<()>
+    ensures { OnOk result (PrintsFor laid_text (R.remaining reader.old) (W.contents writer.old) (W.contents writer.new)) }
+{
     let mut input = [0u8; console::INPUT];
     let n = streams::read_full(reader, &mut input)?;
     let mut couplers = [0u32; console::COUPLER_LINES];

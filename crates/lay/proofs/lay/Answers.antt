@@ -1,9 +1,10 @@
--- The laying program is safe and ends: each part begins behind the one before. Assumes nothing.
-use Prim.Native.Nat.{◌-◌}
-use native.Mathlib.Omega.{arith}
-use Rattle.console.proofs.Fronts.{printed-fits, printed-long}
+-- The laying program is safe and ends: each part begins behind the one before. What it prints is the whole text. Assumes nothing.
+use Rattle.std.proofs.Common.{arith, subst, sym, ◌-◌}
+use Rattle.std.specs.Io.KnownBytes.{Appends}
+use Rattle.console.proofs.Fronts.{front-is, printed-fits, printed-long}
 use Rattle.console.proofs.Beginning.{couplers-lent, couplers-whole, gates-lent, gates-whole}
 use Rattle.console.proofs.Partly.{next-later}
+use Rattle.lay.proofs.Going.{going-begun, going-on, going-ended}
 use Rattle.lay.proofs.lay.Goals as goal
 
 pub slice_bounds-out-end : goal.slice_bounds-out-end
@@ -32,3 +33,21 @@ slice_bounds-write_all-end-in-loop-from g c = printed-long c.lay_part-part.ensur
 
 pub loop-from-smaller : goal.loop-from-smaller
 loop-from-smaller g c = let e = gates-whole c.begin-begun.ensures.begins in let m = next-later _ _ c.loop-from.from _ _ e c.loop-from-test.true c.lay_part-part.ensures.1 in omega (arith, m, c.loop-from-test.true)
+
+pub loop-from-init : goal.loop-from-init
+loop-from-init g c =
+    let b = c.begin-begun.ensures.begins in
+    going-begun (g.R.Read.remaining c.args.reader.now) (g.R.Read.remaining c.read_full.new.from) (g.W.Write.contents c.args.writer.now) (g.W.Write.contents c.write_all.new.self) c.in_ok-n.n c.read_full.new.buf _ _ _ _ _ _ c.begin-begun.result
+    c.begin-begun.ensures.input_len c.in_ok-n.ensures.bytes c.in_ok-n.ensures.bound.0 c.in_ok-n.ensures.end b
+    (subst (Appends (g.W.Write.contents c.args.writer.now) (g.W.Write.contents c.write_all.new.self)) (front-is _ _ _ _ b.prints.bytes b.prints.memory) c.in_ok-write_all.ensures.bytes)
+
+pub loop-from-preserved : goal.loop-from-preserved
+loop-from-preserved g c =
+    let p = c.lay_part-part.ensures.0 in
+    let now = g.W.Write.contents c.loop-from.writer in
+    let now' = g.W.Write.contents c.write_all-in-loop-from.new.self in
+    going-on (g.R.Read.remaining c.args.reader.now) (g.W.Write.contents c.args.writer.now) now now' _ _ _ _ c.loop-from.from (gates-whole c.begin-begun.ensures.begins) c.lay_part-part.result.next c.loop-from.invariant c.loop-from-test.true
+    (subst (Appends now now') (front-is _ _ _ _ p.bytes p.memory) c.in_ok-write_all-2.ensures.bytes) c.lay_part-part.ensures.1
+
+pub returns : goal.returns
+returns g c = going-ended (g.R.Read.remaining c.args.reader.now) (g.W.Write.contents c.args.writer.now) (g.W.Write.contents c.loop-from.writer) _ _ _ _ c.loop-from.from (gates-whole c.begin-begun.ensures.begins) c.loop-from.invariant c.loop-from-test.false
