@@ -2,7 +2,10 @@
 // couplers' file. It knows `qasm_console`, and alone with the other programs the operating system.
 #![tactic(auto)]
 
+ghost use Rattle.std.specs.Prelude.{OnOk, take};
 ghost use Rattle.std.specs.Io.{ReadsAtMost};
+ghost use Rattle.streams.specs.Printing.{PrintsFor};
+ghost use Rattle.qasm_console.specs.Printed.{laid_texts};
 
 use circuit::wires;
 use console::{COUPLER_LINES, GATE_LINES, INPUT};
@@ -57,7 +60,9 @@ fn lay<R: Read, W: Write>(
     listed: usize,
     reader: &mut R,
     writer: &mut W,
-) -> io::Result<()> {
+) -> io::Result<()>
+    ensures { OnOk result (PrintsFor (laid_texts (take listed listing.now)) (R.remaining reader.old) (W.contents writer.old) (W.contents writer.new)) }
+{
     let mut input = [0u8; INPUT];
     let n = streams::read_full(reader, &mut input)?;
     let mut couplers = [0u32; COUPLER_LINES];

@@ -54,7 +54,7 @@ use Rattle.qasm_console.proofs.Reading.{gates-front, couplers-front}
 use Rattle.qasm_console.proofs.Beginning.{handed-passed, handed-refused, drawn-read, drawn-unread, texts-read, texts-unread}
 
 -- the line of a common phase is that of its rest within a turn
-phase-text : (v : Version) (g h : ℕ) → phases g 0 ≡ phases h 0 → phase_text v g ≡ phase_text v h
+pub phase-text : (v : Version) (g h : ℕ) → phases g 0 ≡ phases h 0 → phase_text v g ≡ phase_text v h
 unfolding phase_text phases
 phase-text v g h e = let z : g % 131072 ≡ h % 131072 = omega arith in ap (λ (k : ℕ). pick (eqb k 0) [] (filled (phase_pattern v) (k ∷ []))) z
 
@@ -66,7 +66,7 @@ none v = refl
 
 module _ (n : ℕ) (xs ys : List ℕ) where
   -- above the number of gates nothing more is added to the common phase
-  phase-past : (f k g : ℕ) → length ys < k → phases (phase_from n xs ys f k g) 0 ≡ phases g 0
+  pub phase-past : (f k g : ℕ) → length ys < k → phases (phase_from n xs ys f k g) 0 ≡ phases g 0
   unfolding phase_from
   phase-past zero k g l = refl
   phase-past (suc f) k g l =
