@@ -9,4 +9,3 @@ pub mod Tallying
 pub mod Beginning
 pub mod InParts
 pub mod Enough
-pub mod Cut

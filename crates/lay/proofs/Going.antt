@@ -6,17 +6,16 @@ use Rattle.streams.proofs.Known.{read-front, Leaves, leaves-less, leaves-none}
 use Rattle.lines.specs.Lines.{records_text}
 use Rattle.reading.specs.Limits.{most_bytes}
 use Rattle.console.specs.declared.printing.Begun.{Begun}
-use Rattle.console.specs.Printed.{laid_job, laid_text}
+use Rattle.console.specs.Printed.{laid_text}
 use Rattle.console.specs.Parts.{front_text, Begins, part_text, next_part, parts_from}
-use Rattle.console.proofs.Cut.{cut-printed}
+use Rattle.console.proofs.Enough.{laid-enough}
 use Rattle.console.proofs.InParts.{in_parts}
 use Rattle.console.proofs.Partly.{next-later, parts-past}
 
 -- what is read is enough of a text
 laid-read : (t : List ℕ) (left : Option (List ℕ)) (n : ℕ) (input : List ℕ) → length input ≡ most_bytes + 1 → Consumes (Some t) left (take n input) → n ≤ length input → (n < length input → IsAtEnd left)
     → laid_text (take n input) ≡ laid_text t
-unfolding laid_text
-laid-read t left n input long e h end = ap laid_text (read-front t left n input e h end ∙ ap (λ (k : ℕ). take k t) long) ∙ cut-printed laid_job t
+laid-read t left n input long e h end = ap laid_text (read-front t left n input e h end ∙ ap (λ (k : ℕ). take k t) long) ∙ laid-enough t
 
 -- the parts from k on are left of what is printed for the text; they are at most as many as g gates and one
 abbrev pub Going : Option (List ℕ) → Option (List ℕ) → Option (List ℕ) → ℕ → List ℕ → List ℕ → ℕ → ℕ → Type 0

@@ -17,43 +17,22 @@ use Rattle.qasm_reading.specs.Readings.{judged_circuit_text}
 use Rattle.console.specs.Printed.{most_coupler_lines, most_gate_lines, refusal_of, unless}
 use Rattle.console.specs.Parts.{part_text, next_part, share_part, parts_from}
 use Rattle.console.proofs.Choosing.{unless-refused}
-use Rattle.console.proofs.Cut.{cut-long}
 use Rattle.console.proofs.Partly.{next-later, parts-past}
 use Rattle.qasm_console.specs.declared.printing.BegunCircuit.{BegunCircuit}
 use Rattle.qasm_console.specs.Printed.{laid_drawing, laid_texts}
 use Rattle.qasm_console.specs.Parts.{front_texts, BeginsTexts, phase_from, behind_text}
+use Rattle.qasm_console.proofs.Enough.{drawing-enough}
 use Rattle.qasm_console.proofs.InParts.{phase-text, phase-past, in_parts}
 
--- ---- a circuit's text that is too long is refused whatever stands behind its first 65,537 bytes
-
-long-refused : (t : List ℕ) (room : ℕ) → most_bytes < length t → judged_circuit_text t room ≡ LongText
-unfolding judged_circuit_text
-long-refused t room l = rw (lt-leb (length t) most_bytes l)
-
-module _ (couplers : List ℕ) where
-  long-drawing : (t : List ℕ) → most_bytes < length t → laid_drawing couplers t ≡ refusal_of LongText
-  unfolding laid_drawing
-  long-drawing t l =
-      let e = long-refused t most_gate_lines l in
-      sym (unless-refused (judged_circuit_text t most_gate_lines) _ (λ z. let y : ◌≡◌ {A = ℕ} 11 0 = sym (ap number_of e) ∙ z in omega arith)) ∙ ap refusal_of e
-
-  cut-drawing : (t : List ℕ) → laid_drawing couplers (take (most_bytes + 1) t) ≡ laid_drawing couplers t
-  cut-drawing t = go (dec_le (length t) most_bytes)
-    where
-      go : Dec (length t ≤ most_bytes) → laid_drawing couplers (take (most_bytes + 1) t) ≡ laid_drawing couplers t
-      go (yes h) = ap (laid_drawing couplers) (take_all (most_bytes + 1) t (omega (arith, h)))
-      go (no m) =
-          let l : most_bytes < length t = omega (arith, m) in
-          long-drawing (take (most_bytes + 1) t) (cut-long t l) ∙ sym (long-drawing t l)
-
-cut-texts : (s t : List ℕ) → laid_texts s (take (most_bytes + 1) t) ≡ laid_texts s t
+-- what lies behind the bytes that are read of a circuit's text changes nothing
+circuit-enough : (s t : List ℕ) → laid_texts s (take (most_bytes + 1) t) ≡ laid_texts s t
 unfolding laid_texts
-cut-texts s t = ap (unless (judged_couplers_text s most_coupler_lines)) (cut-drawing (couplers_in (parsed_couplers s)) t)
+circuit-enough s t = ap (unless (judged_couplers_text s most_coupler_lines)) (drawing-enough (couplers_in (parsed_couplers s)) t)
 
 -- what is read is enough of it
 laid-read : (s t : List ℕ) (left : Option (List ℕ)) (n : ℕ) (input : List ℕ) → length input ≡ most_bytes + 1 → Consumes (Some t) left (take n input) → n ≤ length input → (n < length input → IsAtEnd left)
     → laid_texts s (take n input) ≡ laid_texts s t
-laid-read s t left n input long e h end = ap (laid_texts s) (read-front t left n input e h end ∙ ap (λ (k : ℕ). take k t) long) ∙ cut-texts s t
+laid-read s t left n input long e h end = ap (laid_texts s) (read-front t left n input e h end ∙ ap (λ (k : ℕ). take k t) long) ∙ circuit-enough s t
 
 -- ---- the program goes on; s is the couplers' text
 

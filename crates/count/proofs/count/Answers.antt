@@ -5,16 +5,15 @@ use Rattle.std.specs.Io.KnownBytes.{Appends, Consumes, IsAtEnd}
 use Rattle.streams.specs.Printing.{PrintsFor}
 use Rattle.streams.proofs.Known.{read-front}
 use Rattle.reading.specs.Limits.{most_bytes}
-use Rattle.console.specs.Printed.{counted_job, counted_text}
-use Rattle.console.proofs.Cut.{cut-printed}
+use Rattle.console.specs.Printed.{counted_text}
+use Rattle.console.proofs.Enough.{counted-enough}
 use Rattle.console.proofs.Fronts.{front-is, printed-fits, printed-long}
 use Rattle.count.proofs.count.Goals as goal
 
 -- what is read is enough of a text
 counted-read : (t : List ℕ) (left : Option (List ℕ)) (n : ℕ) (input : List ℕ) → length input ≡ most_bytes + 1 → Consumes (Some t) left (take n input) → n ≤ length input → (n < length input → IsAtEnd left)
     → counted_text (take n input) ≡ counted_text t
-unfolding counted_text
-counted-read t left n input long e h end = ap counted_text (read-front t left n input e h end ∙ ap (λ (k : ℕ). take k t) long) ∙ cut-printed counted_job t
+counted-read t left n input long e h end = ap counted_text (read-front t left n input e h end ∙ ap (λ (k : ℕ). take k t) long) ∙ counted-enough t
 
 -- what is printed for what was read is printed for the text
 counted-for : (text left old now : Option (List ℕ)) (n : ℕ) (input : List ℕ) → length input ≡ most_bytes + 1 → Consumes text left (take n input) → n ≤ length input → (n < length input → IsAtEnd left)

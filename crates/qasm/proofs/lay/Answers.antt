@@ -48,7 +48,7 @@ loop-from-init g c =
     let old = g.W.Write.contents c.args.writer.now in
     let now' = g.W.Write.contents c.write_all.new.self in
     going-begun (take c.args.listed c.args.listing.now) (g.R.Read.remaining c.args.reader.now) (g.R.Read.remaining c.read_full.new.from) old now' c.in_ok-n.n c.read_full.new.buf _ _ _ _ _ _ c.begin-begun.result
-    c.begin-begun.ensures.listing_len.1 c.in_ok-n.ensures.bytes c.in_ok-n.ensures.bound.0 c.in_ok-n.ensures.end b (gates-whole c.begin-begun.ensures.begins_texts)
+    c.begin-begun.ensures.listing_len.1 c.in_ok-n.ensures.bytes c.in_ok-n.ensures.bound.0 c.in_ok-n.ensures.end b (gates-whole {s = take c.args.listed c.args.listing.now} {t = take c.in_ok-n.n c.read_full.new.buf} c.begin-begun.ensures.begins_texts)
     (subst (Appends old now') (front-is _ _ _ _ b.prints.bytes b.prints.memory) c.in_ok-write_all.ensures.bytes)
 
 pub loop-from-preserved : goal.loop-from-preserved
