@@ -1,5 +1,5 @@
 -- The front of what is printed, and its parts one behind another, are all that is printed for the text that was read. Assumes nothing.
-use Rattle.std.proofs.Common.{◌≡◌, ℕ, zero, suc, ◌+◌, ◌≤◌, ◌<◌, List, [], ◌++◌, Option, None, Some, sym, ap, ◌∙◌, subst, arith, length, take}
+use Rattle.std.proofs.Common.{◌≡◌, ℕ, zero, suc, ◌+◌, ◌≤◌, ◌<◌, List, ◌++◌, Option, None, Some, sym, ap, ◌∙◌, subst, arith, length, take}
 use Rattle.std.specs.Io.KnownBytes.{Appends, Consumes, IsAtEnd}
 use Rattle.streams.specs.Printing.{PrintsFor}
 use Rattle.streams.proofs.Known.{read-front, Leaves, leaves-less, leaves-none}

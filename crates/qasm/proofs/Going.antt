@@ -1,25 +1,19 @@
 -- The front of what is printed, its parts one behind another and last the common phase are all that is printed for both texts. Assumes nothing.
-use Rattle.std.proofs.Common.{◌≡◌, ℕ, zero, suc, ◌+◌, ◌≤◌, ◌<◌, List, [], ◌++◌, Option, None, Some, sym, ap, ap₂, ◌∙◌, subst, append-nil, append_assoc, refl, arith, length, take, take_all}
-use Rattle.std.proofs.Math.Decide.{dec_le}
-use Rattle.std.proofs.lemmas.Bool.{lt-leb}
+use Rattle.std.proofs.Common.{◌≡◌, ℕ, zero, suc, ◌+◌, ◌≤◌, ◌<◌, List, [], ◌++◌, Option, None, Some, sym, ap, ap₂, ◌∙◌, subst, append-nil, append_assoc, refl, arith, length, take}
 use Rattle.std.specs.Io.KnownBytes.{Appends, Consumes, IsAtEnd}
 use Rattle.streams.specs.Printing.{PrintsFor}
 use Rattle.streams.proofs.Known.{read-front, Leaves, leaves-less, leaves-none}
-use Rattle.verdicts.specs.Verdicts.{number_of}
-use Rattle.verdicts.specs.declared.verdict.Verdict.TheVariants.{LongText}
 use Rattle.circuit.specs.Phase.{phases}
 use Rattle.reading.specs.Limits.{most_bytes}
 use Rattle.reading.specs.Readings.{couplers_in}
 use Rattle.reading.specs.Listing.{parsed_couplers, judged_couplers_text}
 use Rattle.versions.specs.declared.Version.{Version}
 use Rattle.qasm_lines.specs.Spelling.{gates_text, phase_text}
-use Rattle.qasm_reading.specs.Readings.{judged_circuit_text}
-use Rattle.console.specs.Printed.{most_coupler_lines, most_gate_lines, refusal_of, unless}
+use Rattle.console.specs.Printed.{most_coupler_lines, unless}
 use Rattle.console.specs.Parts.{part_text, next_part, share_part, parts_from}
-use Rattle.console.proofs.Choosing.{unless-refused}
 use Rattle.console.proofs.Partly.{next-later, parts-past}
 use Rattle.qasm_console.specs.declared.printing.BegunCircuit.{BegunCircuit}
-use Rattle.qasm_console.specs.Printed.{laid_drawing, laid_texts}
+use Rattle.qasm_console.specs.Printed.{laid_texts}
 use Rattle.qasm_console.specs.Parts.{front_texts, BeginsTexts, phase_from, behind_text}
 use Rattle.qasm_console.proofs.Enough.{drawing-enough}
 use Rattle.qasm_console.proofs.InParts.{phase-text, phase-past, in_parts}

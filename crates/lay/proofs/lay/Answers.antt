@@ -1,5 +1,5 @@
 -- The laying program is safe and ends: each part begins behind the one before. What it prints is the whole text. Assumes nothing.
-use Rattle.std.proofs.Common.{arith, subst, sym, ◌-◌}
+use Rattle.std.proofs.Common.{arith, subst}
 use Rattle.std.specs.Io.KnownBytes.{Appends}
 use Rattle.console.proofs.Fronts.{front-is, printed-fits, printed-long}
 use Rattle.console.proofs.Beginning.{couplers-lent, couplers-whole, gates-lent, gates-whole}

@@ -1,5 +1,5 @@
 -- The program is safe and ends: each part begins behind the one before. What it prints is the whole text. Assumes nothing.
-use Rattle.std.proofs.Common.{arith, ap, ◌∙◌, subst, take, ◌-◌}
+use Rattle.std.proofs.Common.{arith, ap, ◌∙◌, subst, take}
 use Rattle.std.proofs.lemmas.Result.{on_ok_weaker}
 use Rattle.std.specs.Io.KnownBytes.{Appends}
 use Rattle.circuit.specs.Phase.{phases}

@@ -1,5 +1,4 @@
 -- What `qasm` prints for a pair of texts: safe, and it ends, since each part begins behind the one before. Assumes nothing.
-use Prim.Native.Nat.{◌-◌}
 use native.Mathlib.Omega.{arith}
 use Rattle.console.proofs.Partly.{next-later}
 use Rattle.console.proofs.Fronts.{printed-fits, printed-long}

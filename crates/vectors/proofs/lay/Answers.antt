@@ -1,5 +1,4 @@
 -- What the laying program prints for a text: safe, and it ends, since each part begins behind the one before. Assumes nothing.
-use Prim.Native.Nat.{◌-◌}
 use native.Mathlib.Omega.{arith}
 use Rattle.console.proofs.Fronts.{printed-fits, printed-long}
 use Rattle.console.proofs.Beginning.{couplers-lent, couplers-whole, gates-lent, gates-whole}
