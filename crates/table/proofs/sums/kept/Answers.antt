@@ -1,6 +1,4 @@
 -- `table::sums::kept` meets its contract. Assumes nothing.
-use mathlib.Core.Logic.{⊎_elim}
-use Prim.Native.Nat.{◌-◌}
 use Rattle.table.proofs.Keeping.{keeping_none, keeping-past, keeping-drop, keeping-take, keeping_all}
 use borrow.Author.Rules.{rules}
 use Rattle.table.proofs.sums.kept.Goals.{then-i-n+then-sum-i-ne0, then-i-n+else-sum-i-ne0, else-i-n}
