@@ -2,12 +2,18 @@
 // It knows `console`, and alone with the other programs the operating system.
 #![tactic(auto)]
 
-use libc::{STDIN_FILENO, STDOUT_FILENO};
+use std::io;
+use std::io::{Read, Write};
 
-fn main() {
+fn count<R: Read, W: Write>(reader: &mut R, writer: &mut W) -> io::Result<()> {
     let mut input = [0u8; console::INPUT];
-    let n = io::read_full(STDIN_FILENO, &mut input);
+    let n = streams::read_full(reader, &mut input)?;
     let mut out = [0u8; console::OUTPUT];
     let k = console::counting::count_text(&input, n, &mut out);
-    io::write_all(STDOUT_FILENO, &out[..k]);
+    writer.write_all(&out[..k])
+}
+
+// A read or a write that fails ends it, with the reason on standard error and exit status 1.
+fn main(rt: HostRuntime) -> io::Result<()> {
+    count(&mut rt.reader(), &mut io::writer(&rt))
 }

@@ -2,42 +2,69 @@
 // couplers' file. It knows `qasm_console`, and alone with the other programs the operating system.
 #![tactic(auto)]
 
+ghost use Rattle.std.specs.Io.{ReadsAtMost};
+
 use circuit::wires;
 use console::{COUPLER_LINES, GATE_LINES, INPUT};
-use libc::{STDERR_FILENO, STDIN_FILENO, STDOUT_FILENO};
 use qasm_console::{OUTPUT, printing};
+use std::alloc::Global;
+use std::env::{Env, FillError};
+use std::fs::{File, Files};
+use std::io::{Read, Write};
+use std::{io, str};
+
+// Room for a name: no path has as many bytes.
+const NAME: usize = 4096;
+
+fn usage<W: Write>(errors: &mut W) -> io::Result<()> {
+    errors.write_all(b"usage: qasm COUPLERS < CIRCUIT\n")
+}
 
 // One line that names the file, and says what is wrong with it.
-fn fail(name: &[u8]) {
-    io::write_all(STDERR_FILENO, b"qasm: ");
-    os::fail(name);
+fn fail<W: Write>(errors: &mut W, name: &[u8], reason: &[u8]) -> io::Result<()> {
+    errors.write_all(b"qasm: ")?;
+    errors.write_all(name)?;
+    errors.write_all(b": ")?;
+    errors.write_all(reason)?;
+    errors.write_all(b"\n")
 }
 
-// The file, open for reading; below 0 where it cannot be read. A folder can be opened, and would pass for a file without couplers: a read of no bytes tells it apart.
-fn open(name: &[u8]) -> i32 {
-    let fd = os::open_read(name);
-    if fd < 0 {
-        return fd;
+// The same in the system's words. Behind them an error has its number, which is left out.
+fn fail_as<W: Write>(
+    errors: &mut W,
+    alloc: Global,
+    name: &[u8],
+    error: io::Error,
+) -> io::Result<()> {
+    let text = format!(in alloc; "{error}")?;
+    match text.as_str().split_once(" (os error ") {
+        Some((reason, _)) => fail(errors, name, reason.as_bytes()),
+        None => fail(errors, name, text.as_str().as_bytes()),
     }
-    let mut none = [0u8; 0];
-    if libc::read(fd, &mut none) < 0 {
-        return -1;
-    }
-    fd
 }
 
-// The couplers are read to their end before the circuit.
-fn lay(fd: i32) {
-    let mut listing = [0u8; INPUT];
-    let listed = io::read_full(fd, &mut listing);
-    libc::close(fd);
+// The file is read to its end, or as far as `listing` goes: how many bytes were read. A folder can be opened, but no byte of it can be read.
+fn read_listing<R: Files>(files: &R, name: &str, listing: &mut [u8]) -> io::Result<usize>
+    ensures { ReadsAtMost result listing.new }
+{
+    let mut file = File::open(files, name)?;
+    streams::read_full(&mut file, listing)
+}
+
+// The couplers are read to their end before the circuit: `listed` bytes of `listing`.
+fn lay<R: Read, W: Write>(
+    listing: &[u8; INPUT],
+    listed: usize,
+    reader: &mut R,
+    writer: &mut W,
+) -> io::Result<()> {
     let mut input = [0u8; INPUT];
-    let n = io::read_full(STDIN_FILENO, &mut input);
+    let n = streams::read_full(reader, &mut input)?;
     let mut couplers = [0u32; COUPLER_LINES];
     let mut gates = [0u32; GATE_LINES];
     let mut out = [0u8; OUTPUT];
     let begun = printing::begin(
-        &listing,
+        listing,
         listed,
         &input,
         n,
@@ -46,7 +73,7 @@ fn lay(fd: i32) {
         &mut out,
     );
     let k = begun.bytes;
-    io::write_all(STDOUT_FILENO, &out[..k]);
+    writer.write_all(&out[..k])?;
     let job = begun.job;
     let q = job.qubits;
     let c = job.couplers;
@@ -57,31 +84,34 @@ fn lay(fd: i32) {
     while from <= g {
         let part = printing::lay_part(version, q, &couplers[..c], &gates[..g], from, &mut out);
         let k = part.bytes;
-        io::write_all(STDOUT_FILENO, &out[..k]);
+        writer.write_all(&out[..k])?;
         phase = wires::together(phase, part.phase);
         from = part.next;
     }
     let k = printing::end(version, phase, &mut out);
-    io::write_all(STDOUT_FILENO, &out[..k]);
+    writer.write_all(&out[..k])
 }
 
-// Rattle has no exit status, so standard error alone tells that nothing was done.
-fn main() {
-    if os::arg_count() != 2 {
-        io::write_all(STDERR_FILENO, b"usage: qasm COUPLERS < CIRCUIT\n");
-        return;
+// The file that the only argument names is read, and then the circuit. What is wrong with the file is told in one line on standard error, and so is how to call the
+// program; then nothing is done, and the exit status is 0. Any other read or write that fails ends it, with the reason on standard error and exit status 1.
+fn main(rt: HostRuntime) -> io::Result<()> {
+    let mut errors = rt.stderr();
+    let mut name = [0u8; NAME];
+    if !matches!(rt.arg(2, &mut name), Err(FillError::NotPresent)) {
+        return usage(&mut errors);
     }
-    let mut name = io::buffer();
-    let n = os::arg(1, &mut name);
-    // A name that is longer than any path: its first bytes are told.
-    if os::errno() != 0 {
-        fail(&name);
-        return;
+    let n = match rt.arg(1, &mut name) {
+        Ok(n) => n,
+        Err(FillError::NotPresent) => return usage(&mut errors),
+        // Its first bytes are told.
+        Err(FillError::TooLong) => return fail(&mut errors, &name, b"File name too long"),
+    };
+    let Ok(path) = str::from_utf8(&name[..n]) else {
+        return fail(&mut errors, &name[..n], b"The name is not UTF-8");
+    };
+    let mut listing = [0u8; INPUT];
+    match read_listing(&rt, path, &mut listing) {
+        Ok(listed) => lay(&listing, listed, &mut rt.reader(), &mut io::writer(&rt)),
+        Err(error) => fail_as(&mut errors, rt.alloc(), &name[..n], error),
     }
-    let fd = open(&name[..n]);
-    if fd < 0 {
-        fail(&name[..n]);
-        return;
-    }
-    lay(fd);
 }

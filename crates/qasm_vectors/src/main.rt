@@ -3,16 +3,17 @@
 // is not 0, the common phase that was read, a `p` line. It knows what `qasm` knows, and the entry points.
 #![tactic(auto)]
 
-ghost use Rattle.std.specs.Prelude.{◌≤◌, length};
+ghost use Rattle.std.specs.Prelude.{◌≤◌, length, IfOk};
 
 use circuit::wires;
 use console::{COUPLER_LINES, GATE_LINES, INPUT};
-use libc::{STDIN_FILENO, STDOUT_FILENO};
 use lines::{print, put};
 use qasm_console::{OUTPUT, printing};
 use qasm_reading::read;
 use qasm_reading::read::CircuitReading;
 use qasm_text::write;
+use std::io;
+use std::io::{Read, Write};
 use text::write::Writing;
 use verdicts::verdict;
 use verdicts::verdict::Verdict;
@@ -91,7 +92,7 @@ fn copy(text: &[u8], input: &mut [u8]) {
 }
 
 // What `qasm` prints.
-fn lay(listing: &[u8], text: &[u8]) {
+fn lay<W: Write>(writer: &mut W, listing: &[u8], text: &[u8]) -> io::Result<()> {
     let mut first = [0u8; INPUT];
     copy(listing, &mut first);
     let mut second = [0u8; INPUT];
@@ -109,7 +110,7 @@ fn lay(listing: &[u8], text: &[u8]) {
         &mut out,
     );
     let k = begun.bytes;
-    io::write_all(STDOUT_FILENO, &out[..k]);
+    writer.write_all(&out[..k])?;
     let job = begun.job;
     let q = job.qubits;
     let c = job.couplers;
@@ -120,77 +121,83 @@ fn lay(listing: &[u8], text: &[u8]) {
     while from <= g {
         let part = printing::lay_part(version, q, &couplers[..c], &gates[..g], from, &mut out);
         let k = part.bytes;
-        io::write_all(STDOUT_FILENO, &out[..k]);
+        writer.write_all(&out[..k])?;
         phase = wires::together(phase, part.phase);
         from = part.next;
     }
     let k = printing::end(version, phase, &mut out);
-    io::write_all(STDOUT_FILENO, &out[..k]);
+    writer.write_all(&out[..k])
 }
 
-fn say(v: Verdict) {
+fn say<W: Write>(writer: &mut W, v: Verdict) -> io::Result<()> {
     let mut out = [0u8; LINE];
     let k = print::refusal(verdict::number(v), verdict::place(v), &mut out);
-    io::write_all(STDOUT_FILENO, &out[..k]);
+    writer.write_all(&out[..k])
 }
 
-fn say_phase(phase: u32) {
+fn say_phase<W: Write>(writer: &mut W, phase: u32) -> io::Result<()> {
     if phase == 0 {
-        return;
+        return Ok(());
     }
     let mut out = [0u8; LINE];
     let numbers = [phase as usize];
     let k = put::put_line(&mut out, 0, b'p', &numbers);
-    io::write_all(STDOUT_FILENO, &out[..k]);
+    writer.write_all(&out[..k])
 }
 
-fn write_scant(version: Version, n: usize, gates: &[u32], phase: u32) {
+fn write_scant<W: Write>(
+    writer: &mut W,
+    version: Version,
+    n: usize,
+    gates: &[u32],
+    phase: u32,
+) -> io::Result<()> {
     let mut text = [0u8; ROOM];
     match write::write(version, n, gates, phase, &mut text) {
-        Writing::Written { bytes: _ } => say(Verdict::Accepted),
-        Writing::Refused { verdict } => say(verdict),
+        Writing::Written { bytes: _ } => say(writer, Verdict::Accepted),
+        Writing::Refused { verdict } => say(writer, verdict),
     }
 }
 
-fn read_scant(text: &[u8]) {
+fn read_scant<W: Write>(writer: &mut W, text: &[u8]) -> io::Result<()> {
     let mut gates = [0u32; GATES];
     match read::read(text, &mut gates) {
         CircuitReading::Read { circuit } => {
-            say(Verdict::Accepted);
-            say_phase(circuit.phase);
+            say(writer, Verdict::Accepted)?;
+            say_phase(writer, circuit.phase)?;
             let version = circuit.version;
             let g = circuit.gates;
-            write_scant(version, circuit.qubits, &gates[..g], circuit.phase);
+            write_scant(writer, version, circuit.qubits, &gates[..g], circuit.phase)
         }
-        CircuitReading::Refused { verdict } => say(verdict),
+        CircuitReading::Refused { verdict } => say(writer, verdict),
     }
 }
 
-fn answer(listing: &[u8], text: &[u8]) {
-    lay(listing, text);
-    read_scant(text);
+fn answer<W: Write>(writer: &mut W, listing: &[u8], text: &[u8]) -> io::Result<()> {
+    lay(writer, listing, text)?;
+    read_scant(writer, text)
 }
 
 // Prints for a pair whose second text is closed; what stays for the next turn.
-fn turn(bytes: &[u8], start: usize) -> Pair
+fn turn<W: Write>(writer: &mut W, bytes: &[u8], start: usize) -> io::Result<Pair>
     requires { start ≤ length bytes.now }
-    ensures { result.start ≤ result.held }
+    ensures { IfOk result (λ pair. pair.start ≤ pair.held) }
 {
     let held = bytes.len();
     if closing(&bytes[start..]) == 0 {
-        return Pair { start, held };
+        return Ok(Pair { start, held });
     }
     if start == 0 {
-        return Pair { start: held, held };
+        return Ok(Pair { start: held, held });
     }
-    answer(own(&bytes[..start]), own(&bytes[start..]));
-    Pair { start: 0, held: 0 }
+    answer(writer, own(&bytes[..start]), own(&bytes[start..]))?;
+    Ok(Pair { start: 0, held: 0 })
 }
 
 // Goes over a piece of the bundle; `pair` of `bytes` came before it. What stays for the next piece.
-fn each(piece: &[u8], bytes: &mut [u8], pair: Pair) -> Pair
+fn each<W: Write>(writer: &mut W, piece: &[u8], bytes: &mut [u8], pair: Pair) -> io::Result<Pair>
     requires { pair.start ≤ pair.held }
-    ensures { result.start ≤ result.held }
+    ensures { IfOk result (λ left. left.start ≤ left.held) }
 {
     let mut start = pair.start;
     let mut held = pair.held;
@@ -198,20 +205,26 @@ fn each(piece: &[u8], bytes: &mut [u8], pair: Pair) -> Pair
         if held < bytes.len() {
             bytes[held] = piece[i];
             let m = held + 1;
-            let next = turn(&bytes[..m], start);
+            let next = turn(writer, &bytes[..m], start)?;
             start = next.start;
             held = next.held;
         }
     }
-    Pair { start, held }
+    Ok(Pair { start, held })
 }
 
-fn main() {
+fn run<R: Read, W: Write>(reader: &mut R, writer: &mut W) -> io::Result<()> {
     let mut bytes = [0u8; 2 * TEXT];
     let mut pair = Pair { start: 0, held: 0 };
     for _ in 0..BUNDLE / PIECE {
         let mut piece = [0u8; PIECE];
-        let n = io::read_full(STDIN_FILENO, &mut piece);
-        pair = each(&piece[..n], &mut bytes, pair);
+        let n = streams::read_full(reader, &mut piece)?;
+        pair = each(writer, &piece[..n], &mut bytes, pair)?;
     }
+    Ok(())
+}
+
+// A read or a write that fails ends it, with the reason on standard error and exit status 1.
+fn main(rt: HostRuntime) -> io::Result<()> {
+    run(&mut rt.reader(), &mut io::writer(&rt))
 }

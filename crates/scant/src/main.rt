@@ -6,10 +6,11 @@ ghost use Rattle.std.specs.Prelude.{◌≤◌, length};
 
 use console::{COUPLER_LINES, GATE_LINES};
 use laying::lay::Answer;
-use libc::{STDIN_FILENO, STDOUT_FILENO};
 use lines::print;
 use reading::read;
 use reading::read::Reading;
+use std::io;
+use std::io::{Read, Write};
 use stretches::job;
 use text::write;
 use text::write::Writing;
@@ -34,22 +35,27 @@ const ROOM: usize = 29;
 // Room for an `x` line: no number has more than 20 digits.
 const LINE: usize = 32;
 
-fn say(v: Verdict) {
+fn say<W: Write>(writer: &mut W, v: Verdict) -> io::Result<()> {
     let mut out = [0u8; LINE];
     let k = print::refusal(verdict::number(v), verdict::place(v), &mut out);
-    io::write_all(STDOUT_FILENO, &out[..k]);
+    writer.write_all(&out[..k])
 }
 
-fn read_scant(text: &[u8]) {
+fn read_scant<W: Write>(writer: &mut W, text: &[u8]) -> io::Result<()> {
     let mut couplers = [0u32; COUPLERS];
     let mut gates = [0u32; GATES];
     match read::read(text, &mut couplers, &mut gates) {
-        Reading::Read { job: _ } => say(Verdict::Accepted),
-        Reading::Refused { verdict } => say(verdict),
+        Reading::Read { job: _ } => say(writer, Verdict::Accepted),
+        Reading::Refused { verdict } => say(writer, verdict),
     }
 }
 
-fn lay_scant(n: usize, couplers: &[u32], gates: &[u32]) {
+fn lay_scant<W: Write>(
+    writer: &mut W,
+    n: usize,
+    couplers: &[u32],
+    gates: &[u32],
+) -> io::Result<()> {
     let mut laid = [0u32; RECORDS];
     match job::lay_job(n, couplers, gates, &mut laid) {
         Answer::Laid {
@@ -58,56 +64,72 @@ fn lay_scant(n: usize, couplers: &[u32], gates: &[u32]) {
             rotations: _,
             depth: _,
             phase: _,
-        } => say(Verdict::Accepted),
-        Answer::Refused { verdict } => say(verdict),
+        } => say(writer, Verdict::Accepted),
+        Answer::Refused { verdict } => say(writer, verdict),
     }
 }
 
-fn write_scant(n: usize, couplers: &[u32], gates: &[u32]) {
+fn write_scant<W: Write>(
+    writer: &mut W,
+    n: usize,
+    couplers: &[u32],
+    gates: &[u32],
+) -> io::Result<()> {
     let mut text = [0u8; ROOM];
     match write::write(n, couplers, gates, &mut text) {
-        Writing::Written { bytes: _ } => say(Verdict::Accepted),
-        Writing::Refused { verdict } => say(verdict),
+        Writing::Written { bytes: _ } => say(writer, Verdict::Accepted),
+        Writing::Refused { verdict } => say(writer, verdict),
     }
 }
 
-fn lay_and_write(n: usize, couplers: &[u32], gates: &[u32]) {
-    lay_scant(n, couplers, gates);
-    write_scant(n, couplers, gates);
+fn lay_and_write<W: Write>(
+    writer: &mut W,
+    n: usize,
+    couplers: &[u32],
+    gates: &[u32],
+) -> io::Result<()> {
+    lay_scant(writer, n, couplers, gates)?;
+    write_scant(writer, n, couplers, gates)
 }
 
 // Laying and writing get the lists as the text has them, good or bad: for that reading is lent enough.
-fn turn(text: &[u8]) {
-    read_scant(text);
+fn turn<W: Write>(writer: &mut W, text: &[u8]) -> io::Result<()> {
+    read_scant(writer, text)?;
     let mut couplers = [0u32; COUPLER_LINES];
     let mut gates = [0u32; GATE_LINES];
     match read::read(text, &mut couplers, &mut gates) {
         Reading::Read { job } => {
             let c = job.couplers;
             let g = job.gates;
-            lay_and_write(job.qubits, &couplers[..c], &gates[..g]);
+            lay_and_write(writer, job.qubits, &couplers[..c], &gates[..g])
         }
-        Reading::Refused { verdict: _ } => {}
+        Reading::Refused { verdict: _ } => Ok(()),
     }
 }
 
 // A line `--` closes each text, and no text has a `-` of its own: it ends at the first one.
-fn each(bundle: &[u8])
+fn each<W: Write>(writer: &mut W, bundle: &[u8]) -> io::Result<()>
     requires { length bundle.now ≤ 131072 }
 {
     let mut start: usize = 0;
     for i in 0..bundle.len() {
         if start <= i {
             if bundle[i] == b'-' {
-                turn(&bundle[start..i]);
+                turn(writer, &bundle[start..i])?;
                 start = i + 3;
             }
         }
     }
+    Ok(())
 }
 
-fn main() {
+fn run<R: Read, W: Write>(reader: &mut R, writer: &mut W) -> io::Result<()> {
     let mut bundle = [0u8; BUNDLE];
-    let n = io::read_full(STDIN_FILENO, &mut bundle);
-    each(&bundle[..n]);
+    let n = streams::read_full(reader, &mut bundle)?;
+    each(writer, &bundle[..n])
+}
+
+// A read or a write that fails ends it, with the reason on standard error and exit status 1.
+fn main(rt: HostRuntime) -> io::Result<()> {
+    run(&mut rt.reader(), &mut io::writer(&rt))
 }

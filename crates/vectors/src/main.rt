@@ -2,12 +2,13 @@
 // Neither prints the common phase that an acceptance returns, which is the sum over the stretches: where it is not 0, a `p` line with it follows. It knows what `lay` and `count` know.
 #![tactic(auto)]
 
-ghost use Rattle.std.specs.Prelude.{◌≤◌, length};
+ghost use Rattle.std.specs.Prelude.{◌≤◌, length, IfOk};
 
 use circuit::wires;
 use console::{counting, printing};
-use libc::{STDIN_FILENO, STDOUT_FILENO};
 use lines::put;
+use std::io;
+use std::io::{Read, Write};
 
 // Room for the stored bundle, which is read in pieces.
 const BUNDLE: usize = 1048576;
@@ -51,7 +52,7 @@ fn read(text: &[u8], input: &mut [u8]) {
 }
 
 // What the laying program prints; the sum of the phases that laying returns for the parts.
-fn lay(text: &[u8]) -> u32 {
+fn lay<W: Write>(writer: &mut W, text: &[u8]) -> io::Result<u32> {
     let mut input = [0u8; console::INPUT];
     read(text, &mut input);
     let mut couplers = [0u32; console::COUPLER_LINES];
@@ -59,7 +60,7 @@ fn lay(text: &[u8]) -> u32 {
     let mut out = [0u8; console::OUTPUT];
     let begun = printing::begin(&input, text.len(), &mut couplers, &mut gates, &mut out);
     let k = begun.bytes;
-    io::write_all(STDOUT_FILENO, &out[..k]);
+    writer.write_all(&out[..k])?;
     let job = begun.job;
     let c = job.couplers;
     let g = job.gates;
@@ -68,68 +69,74 @@ fn lay(text: &[u8]) -> u32 {
     while from <= g {
         let part = printing::lay_part(job.qubits, &couplers[..c], &gates[..g], from, &mut out);
         let k = part.bytes;
-        io::write_all(STDOUT_FILENO, &out[..k]);
+        writer.write_all(&out[..k])?;
         phase = wires::together(phase, part.phase);
         from = part.next;
     }
-    phase
+    Ok(phase)
 }
 
-fn count(text: &[u8]) {
+fn count<W: Write>(writer: &mut W, text: &[u8]) -> io::Result<()> {
     let mut input = [0u8; console::INPUT];
     read(text, &mut input);
     let mut out = [0u8; console::OUTPUT];
     let k = counting::count_text(&input, text.len(), &mut out);
-    io::write_all(STDOUT_FILENO, &out[..k]);
+    writer.write_all(&out[..k])
 }
 
-fn say_phase(phase: u32) {
+fn say_phase<W: Write>(writer: &mut W, phase: u32) -> io::Result<()> {
     if phase == 0 {
-        return;
+        return Ok(());
     }
     let mut out = [0u8; LINE];
     let numbers = [phase as usize];
     let k = put::put_line(&mut out, 0, b'p', &numbers);
-    io::write_all(STDOUT_FILENO, &out[..k]);
+    writer.write_all(&out[..k])
 }
 
 // Prints for a text that is closed; how many of its bytes stay for the next turn.
-fn turn(text: &[u8]) -> usize
-    ensures { result ≤ length text.now }
+fn turn<W: Write>(writer: &mut W, text: &[u8]) -> io::Result<usize>
+    ensures { IfOk result (λ k. k ≤ length text.now) }
 {
     let n = text.len();
     if n < 3 {
-        return n;
+        return Ok(n);
     }
     if closes(text) {
         let body = n - 3;
-        let phase = lay(&text[..body]);
-        count(&text[..body]);
-        say_phase(phase);
-        return 0;
+        let phase = lay(writer, &text[..body])?;
+        count(writer, &text[..body])?;
+        say_phase(writer, phase)?;
+        return Ok(0);
     }
-    n
+    Ok(n)
 }
 
 // Goes over a piece of the bundle; the first k bytes of `text` came before it. How many stay for the next piece.
-fn each(piece: &[u8], text: &mut [u8], k: usize) -> usize {
+fn each<W: Write>(writer: &mut W, piece: &[u8], text: &mut [u8], k: usize) -> io::Result<usize> {
     let mut k = k;
     for i in 0..piece.len() {
         if k < text.len() {
             text[k] = piece[i];
             let m = k + 1;
-            k = turn(&text[..m]);
+            k = turn(writer, &text[..m])?;
         }
     }
-    k
+    Ok(k)
 }
 
-fn main() {
+fn run<R: Read, W: Write>(reader: &mut R, writer: &mut W) -> io::Result<()> {
     let mut text = [0u8; TEXT];
     let mut k = 0;
     for _ in 0..BUNDLE / PIECE {
         let mut piece = [0u8; PIECE];
-        let n = io::read_full(STDIN_FILENO, &mut piece);
-        k = each(&piece[..n], &mut text, k);
+        let n = streams::read_full(reader, &mut piece)?;
+        k = each(writer, &piece[..n], &mut text, k)?;
     }
+    Ok(())
+}
+
+// A read or a write that fails ends it, with the reason on standard error and exit status 1.
+fn main(rt: HostRuntime) -> io::Result<()> {
+    run(&mut rt.reader(), &mut io::writer(&rt))
 }

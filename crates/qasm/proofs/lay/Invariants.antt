@@ -2,7 +2,7 @@ use Prim.Native.Nat.{◌+◌, ◌-◌}
 use Rattle.qasm.proofs.lay.Given as goal
 
 abbrev pub invariant-loop-from : goal.invariant-loop-from
-invariant-loop-from l = Unit {0}
+invariant-loop-from g l = Unit {0}
 
 abbrev pub decreases-loop-from : goal.decreases-loop-from
-decreases-loop-from l = l.g + 1 - l.from
+decreases-loop-from g l = l.g + 1 - l.from

@@ -16,26 +16,26 @@ module _ (bytes : List ℕ) (k b : ℕ) (l : k < length bytes) where
   long = sym (length-take-le (k + 1) (set bytes k b) fits)
 
 pub loop-i-init : goal.loop-i-init
-loop-i-init c = (refl, c.requires)
+loop-i-init g c = (refl, c.requires)
 
 pub slice_bounds-turn-end : goal.slice_bounds-turn-end
-slice_bounds-turn-end c = fits c.loop-i.bytes c.loop-i.held (get_or c.args.piece.now c.loop-i.i 0) c.if-held-bytes.true
+slice_bounds-turn-end g c = fits c.loop-i.bytes c.loop-i.held (get_or c.args.piece.now c.loop-i.i 0) c.if-held-bytes.true
 
 pub slice_bounds-turn-end-then-held-bytes : goal.slice_bounds-turn-end-then-held-bytes
-slice_bounds-turn-end-then-held-bytes c = long c.loop-i.bytes c.loop-i.held (get_or c.args.piece.now c.loop-i.i 0) c.if-held-bytes.true
+slice_bounds-turn-end-then-held-bytes g c = long c.loop-i.bytes c.loop-i.held (get_or c.args.piece.now c.loop-i.i 0) c.if-held-bytes.true
 
 pub turn-next-requires : goal.turn-next-requires
-turn-next-requires c = omega (arith, long c.loop-i.bytes c.loop-i.held (get_or c.args.piece.now c.loop-i.i 0) c.if-held-bytes.true, c.loop-i.invariant.1)
+turn-next-requires g c = omega (arith, long c.loop-i.bytes c.loop-i.held (get_or c.args.piece.now c.loop-i.i 0) c.if-held-bytes.true, c.loop-i.invariant.1)
 
 pub loop-i-preserved : goal.loop-i-preserved
-loop-i-preserved c =
+loop-i-preserved g c =
     ⊎_elim
     (λ w. (ap length w.4 ∙ simp length-set c.loop-i.invariant.0, omega (arith, w.5, w.6, w.3.ensures)))
     (λ w. (ap length w.1 ∙ c.loop-i.invariant.0, omega (arith, w.2, w.3, c.loop-i.invariant.1)))
     c.if-held-bytes.branch
 
 pub shape_of-bytes : goal.shape_of-bytes
-shape_of-bytes c = c.loop-i.invariant.0
+shape_of-bytes g c = c.loop-i.invariant.0
 
 pub returns : goal.returns
-returns c = c.loop-i.invariant.1
+returns g c = c.loop-i.invariant.1

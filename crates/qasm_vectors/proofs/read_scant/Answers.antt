@@ -25,7 +25,7 @@ module _ (t gs₀ gs : List ℕ) (room : ℕ) {r : CircuitReading} {j : Circuit}
   gates-long = front_long (circuit_gates (parsed_circuit t)) gs₀ gs j.gates counted (g ∙ ap (λ (x : CircuitReading). lent_after (circuit_verdict x) (circuit_gates (parsed_circuit t)) gs₀) d)
 
 pub slice_bounds-gates-end : goal.slice_bounds-gates-end
-slice_bounds-gates-end c = gates_fit _ _ _ _ c.read.ensures.0 c.read.ensures.1 c.in-Read.is
+slice_bounds-gates-end g c = gates_fit _ _ _ _ c.read.ensures.0 c.read.ensures.1 c.in-Read.is
 
 pub slice_bounds-write_scant-end : goal.slice_bounds-write_scant-end
-slice_bounds-write_scant-end c = gates-long _ _ _ _ c.read.ensures.0 c.read.ensures.1 c.in-Read.is
+slice_bounds-write_scant-end g c = gates-long _ _ _ _ c.read.ensures.0 c.read.ensures.1 c.in-Read.is

@@ -4,4 +4,4 @@ use lib.Seq.{length-take-le}
 use Rattle.qasm_vectors.proofs.turn.Goals as goal
 
 pub slice_bounds-own-end : goal.slice_bounds-own-end
-slice_bounds-own-end c = sym (length-take-le _ _ c.requires)
+slice_bounds-own-end g c = sym (length-take-le _ _ c.requires)

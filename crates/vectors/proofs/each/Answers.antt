@@ -16,16 +16,16 @@ module _ (text : List ℕ) (k b : ℕ) (l : k < length text) where
   long = sym (length-take-le (k + 1) (set text k b) fits)
 
 pub loop-i-init : goal.loop-i-init
-loop-i-init c = refl
+loop-i-init g c = refl
 
 pub slice_bounds-turn-end : goal.slice_bounds-turn-end
-slice_bounds-turn-end c = fits c.loop-i.text c.loop-i.k (get_or c.args.piece.now c.loop-i.i 0) c.if-k-text.true
+slice_bounds-turn-end g c = fits c.loop-i.text c.loop-i.k (get_or c.args.piece.now c.loop-i.i 0) c.if-k-text.true
 
 pub slice_bounds-turn-end-then-k-text : goal.slice_bounds-turn-end-then-k-text
-slice_bounds-turn-end-then-k-text c = long c.loop-i.text c.loop-i.k (get_or c.args.piece.now c.loop-i.i 0) c.if-k-text.true
+slice_bounds-turn-end-then-k-text g c = long c.loop-i.text c.loop-i.k (get_or c.args.piece.now c.loop-i.i 0) c.if-k-text.true
 
 pub loop-i-preserved : goal.loop-i-preserved
-loop-i-preserved c = ⊎_elim (λ w. ap length w.4 ∙ simp length-set c.loop-i.invariant) (λ w. ap length w.1 ∙ c.loop-i.invariant) c.if-k-text.branch
+loop-i-preserved g c = ⊎_elim (λ w. ap length w.4 ∙ simp length-set c.loop-i.invariant) (λ w. ap length w.1 ∙ c.loop-i.invariant) c.if-k-text.branch
 
 pub shape_of-text : goal.shape_of-text
-shape_of-text c = c.loop-i.invariant
+shape_of-text g c = c.loop-i.invariant

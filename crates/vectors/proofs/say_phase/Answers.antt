@@ -6,7 +6,7 @@ use Rattle.lines.proofs.Writes.{fitted-within, fitted-long}
 use Rattle.vectors.proofs.say_phase.Goals as goal
 
 pub slice_bounds-out-end : goal.slice_bounds-out-end
-slice_bounds-out-end c = fitted-within (line_text _ _) (replicate {A = ℕ} 32 0) _ _ c.put_line-k.ensures
+slice_bounds-out-end g c = fitted-within (line_text _ _) (replicate {A = ℕ} 32 0) _ _ c.put_line-k.ensures
 
 pub slice_bounds-write_all-end : goal.slice_bounds-write_all-end
-slice_bounds-write_all-end c = fitted-long (line_text _ _) (replicate {A = ℕ} 32 0) _ _ c.put_line-k.ensures
+slice_bounds-write_all-end g c = fitted-long (line_text _ _) (replicate {A = ℕ} 32 0) _ _ c.put_line-k.ensures

@@ -1,10 +1,10 @@
 use mathlib.Core.Path.{◌≡◌}
 use Prim.Native.Nat.{◌-◌}
 use lib.ListN.{length}
-use Rattle.vectors.proofs.main.Given as goal
+use Rattle.vectors.proofs.run.Given as goal
 
 abbrev pub invariant-loop : goal.invariant-loop
-invariant-loop l = length l.text ≡ 131072
+invariant-loop g l = length l.text ≡ 131072
 
 abbrev pub decreases-loop : goal.decreases-loop
-decreases-loop l = 16 - l.counter
+decreases-loop g l = 16 - l.counter
