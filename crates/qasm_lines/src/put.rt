@@ -44,7 +44,8 @@ pub fn put_phase(text: &mut [u8], at: usize, version: Version, phase: u32) -> us
     ensures { (result ≡ fitted_end (phase_text version phase) at (length text.old)) × (text.new ≡ fitted_at (phase_text version phase) at text.old) }
 {
     let g = phase % 131072;
-    if g == 0 {
+    let is_none = g == 0;
+    if is_none {
         return at;
     }
     let line = spelling::phase_pattern(version);

@@ -91,7 +91,8 @@ fn kept(parity: [u32; Job::PARITIES], sum: [u32; Job::PARITIES], n: usize) -> Su
     let mut len: usize = 0;
     for i in 0..Job::PARITIES {
         if i < n {
-            if sum[i] != 0 {
+            let is_kept = sum[i] != 0;
+            if is_kept {
                 parities[len] = parity[i];
                 sums[len] = sum[i];
                 len += 1;

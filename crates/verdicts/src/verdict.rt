@@ -66,6 +66,7 @@ pub fn place(v: Verdict) -> usize
 }
 
 // Test 1.
+#[tactic(auto, unfolding(crate::specs::Verdicts::judged_qubits))]
 pub fn judge_qubits(n: usize) -> Verdict
     ensures { result ≡ judged_qubits n }
 {

@@ -1,7 +1,5 @@
 use mathlib.Core.Path.{sym, ap, ◌∙◌}
-use mathlib.Core.Logic.{⊎_elim}
 use lib.ListN.{length}
-use Prim.Native.Nat.{◌-◌}
 use Rattle.flips.proofs.Putting.{put-none, put-not, put_next, put_all}
 use borrow.Author.Rules.{rules}
 use Rattle.flips.proofs.put_xs.Goals.{then-asks_flip, else-asks_flip}

@@ -1,7 +1,6 @@
 -- `chip::couplers::in_order` meets its contract: what is written, and then what the pairs that are left write. Assumes nothing.
 use mathlib.Core.Path.{sym, ◌∙◌, ap₂}
-use Prim.Native.Nat.{ℕ, ◌-◌}
-use mathlib.Core.Logic.{⊎_elim}
+use Prim.Native.Nat.{ℕ}
 use mathlib.Core.List.{List}
 use Rattle.chip.proofs.Order.{writing-none, writing-with, writing-without, writing-all, pairs-room, record_is, ordered}
 use borrow.Author.Rules.{rules}

@@ -1,6 +1,6 @@
 -- `chip::couplers::near` meets its contract: what is added so far, and then the records that are left. Assumes nothing.
 use mathlib.Core.Path.{refl, sym, ap, ◌∙◌}
-use Prim.Native.Nat.{◌+◌, ◌-◌}
+use Prim.Native.Nat.{◌+◌}
 use lib.ListN.{drop}
 use Rattle.chip.specs.Couplers.{add_of, add_all, near_of}
 use Rattle.chip.proofs.Neighbours.{all-step, all_end}

@@ -1,6 +1,5 @@
 -- `chip::search::reached` meets its contract: what is reached and what is left are as the search has them. Assumes nothing.
 use mathlib.Core.Path.{subst}
-use Prim.Native.Nat.{◌-◌}
 use Rattle.chip.proofs.Searching.{Searching, searching-none, searching-next, searching-all, searching-less, lowest-left}
 use borrow.Author.Rules.{rules}
 use Rattle.chip.proofs.search.reached.Goals as goal

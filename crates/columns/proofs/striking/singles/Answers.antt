@@ -1,6 +1,6 @@
 -- `columns::striking::singles` meets its contract: what is gathered, with the columns from k on. Assumes nothing.
 use mathlib.Core.Path.{sym, ap, ◌∙◌}
-use Prim.Native.Nat.{ℕ, ◌+◌, ◌-◌}
+use Prim.Native.Nat.{ℕ, ◌+◌}
 use lib.Bits.{bit_or, or_zero_l}
 use lib.ListN.{drop}
 use Rattle.columns.specs.Striking.{singles_of}

@@ -1,8 +1,7 @@
 -- `columns::striking::strike` meets its contract: what is left to strike off leads to the same memory. Assumes nothing.
 use mathlib.Core.Path.{◌≡◌, refl, sym, ap, ◌∙◌}
-use mathlib.Core.Logic.{⊎_elim}
 use mathlib.Core.List.{List}
-use Prim.Native.Nat.{ℕ, ◌-◌}
+use Prim.Native.Nat.{ℕ}
 use lib.ListN.{length}
 use Rattle.columns.specs.Pieces.{held, wrote}
 use Rattle.columns.specs.Striking.{strike_row, strike_off}

@@ -1,6 +1,5 @@
 -- `columns::striking::strike_row` meets its contract: what is left to strike off leads to the same memory. Assumes nothing.
 use mathlib.Core.Path.{refl, ◌∙◌}
-use Prim.Native.Nat.{◌-◌}
 use native.Mathlib.Nat.{sub-zero}
 use Rattle.columns.proofs.Strikes.{row_next, row-end}
 use borrow.Author.Rules.{rules}

@@ -1,5 +1,4 @@
 -- `columns::turning::turn_all` meets its contract: the columns passed are turned, the others stand as they did. Assumes nothing.
-use Prim.Native.Nat.{◌-◌}
 use Rattle.columns.proofs.Turns.{turned_none, turned-next, turned-all}
 use borrow.Author.Rules.{rules}
 use Rattle.columns.proofs.turning.turn_all.Goals as goal

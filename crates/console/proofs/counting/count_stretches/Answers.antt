@@ -1,5 +1,4 @@
 -- `console::counting::count_stretches` meets its contract: what is counted already, and what is still to come. Assumes nothing.
-use Prim.Native.Nat.{◌-◌}
 use native.Mathlib.Omega.{arith}
 use Rattle.stretches.proofs.Judging.{lent-within}
 use Rattle.console.proofs.Tallying.{counting-none, counting-accepts, counting-fits, counting-next, counting-end}

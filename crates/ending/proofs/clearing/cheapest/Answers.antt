@@ -1,5 +1,4 @@
 -- `ending::clearing::cheapest` meets its contract: the choice that is left to make is the whole choice. Assumes nothing.
-use Prim.Native.Nat.{◌-◌}
 use Rattle.ending.proofs.Choosing.{cheapest-start, cheapest-next, cheapest-end}
 use borrow.Author.Rules.{rules}
 use Rattle.ending.proofs.clearing.cheapest.Goals as goal

@@ -1,5 +1,4 @@
 -- `ending::closing::cnots` meets its contract: the CNOTs counted and those to come. Assumes nothing.
-use Prim.Native.Nat.{◌-◌}
 use Rattle.ending.proofs.Writing.{count_next, count-end, back_one}
 use borrow.Author.Rules.{rules}
 use native.Mathlib.Omega.{arith}

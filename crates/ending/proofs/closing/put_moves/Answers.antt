@@ -1,6 +1,5 @@
 -- `ending::closing::put_moves` meets its contract: the moves written and those to come. Assumes nothing.
 use mathlib.Core.Path.{refl, ◌∙◌}
-use Prim.Native.Nat.{◌-◌}
 use Rattle.ending.proofs.Writing.{writes_start, writes-on, writes_end, moves_more, moves-done, moves-all}
 use borrow.Author.Rules.{rules}
 use Rattle.ending.proofs.closing.put_moves.Goals as goal

@@ -1,5 +1,4 @@
 -- `ending::mirror::mirrored` meets its contract: the rows so far, and then the gates that are left. Assumes nothing.
-use Prim.Native.Nat.{◌-◌}
 use Rattle.ending.proofs.Writing.{mirror-start, mirror-next, mirror-end}
 use borrow.Author.Rules.{rules}
 use Rattle.ending.proofs.mirror.mirrored.Goals as goal

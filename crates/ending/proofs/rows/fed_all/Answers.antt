@@ -1,5 +1,4 @@
 -- `ending::rows::fed_all` meets its contract. Assumes nothing.
-use Prim.Native.Nat.{◌-◌}
 use Rattle.ending.proofs.Loops.{rowed-start, rowed-next, rowed-end}
 use borrow.Author.Rules.{rules}
 use Rattle.ending.proofs.rows.fed_all.Goals as goal

@@ -1,5 +1,4 @@
 -- `ending::rows::moved` meets its contract: the moves passed and those to come. Assumes nothing.
-use Prim.Native.Nat.{◌-◌}
 use Rattle.ending.proofs.Loops.{moved-start, moved-next, moved-end}
 use borrow.Author.Rules.{rules}
 use Rattle.ending.proofs.rows.moved.Goals as goal

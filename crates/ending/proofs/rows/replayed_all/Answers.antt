@@ -1,6 +1,5 @@
 -- `ending::rows::replayed_all` meets its contract: the rows so far, and then the gates that are left. Assumes nothing.
 use mathlib.Core.Path.{refl}
-use Prim.Native.Nat.{◌-◌}
 use Rattle.ending.proofs.Loops.{replayed-next, replayed-end}
 use borrow.Author.Rules.{rules}
 use Rattle.ending.proofs.rows.replayed_all.Goals as goal

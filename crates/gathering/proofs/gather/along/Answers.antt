@@ -1,7 +1,6 @@
 -- `gathering::gather::along` meets its contract. The loop's invariant is `Gathered`; the measure is the number of members still to be taken out.
 -- Assumes nothing.
 use mathlib.Core.Path.{refl, ap, ◌∙◌}
-use Prim.Native.Nat.{◌-◌}
 use Rattle.gathering.specs.Gather.{moves_in}
 use Rattle.gathering.proofs.GatherCode.{gathered-start, gathered_next, gathered-end, along-is}
 use borrow.Author.Rules.{rules}

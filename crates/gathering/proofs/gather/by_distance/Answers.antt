@@ -1,6 +1,5 @@
 -- `gathering::gather::by_distance` meets its contract. The loop's invariant is `Ordering`; the measure is what is left of twenty.
 -- Assumes nothing.
-use Prim.Native.Nat.{◌-◌}
 use Rattle.gathering.proofs.OrderCode.{ordering-start, ordering-stop, ordering-full, ordering-next}
 use borrow.Author.Rules.{rules}
 use Rattle.gathering.proofs.gather.by_distance.Goals as goal

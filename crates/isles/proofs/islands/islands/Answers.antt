@@ -1,5 +1,4 @@
 -- `isles::islands::islands` meets its contract: the islands of the qubits passed are found. Assumes nothing.
-use Prim.Native.Nat.{◌-◌}
 use Rattle.isles.proofs.Isles.{found_none, found-next, found_all}
 use borrow.Author.Rules.{rules}
 use native.Mathlib.Omega.{arith}

@@ -1,5 +1,4 @@
 -- `judging::reach::some_scattered` meets its contract: no parity passed is scattered. Assumes nothing.
-use Prim.Native.Nat.{◌-◌}
 use Rattle.judging.proofs.Scattering.{looking-none, looking-hit, looking-next, looking-end}
 use borrow.Author.Rules.{rules}
 use Rattle.judging.proofs.reach.some_scattered.Goals as goal

@@ -1,6 +1,5 @@
 -- `judging::reach::stray` meets its contract: no wire passed leaves its island. Assumes nothing.
 use mathlib.Core.Path.{◌≡◌, sym, ◌∙◌}
-use Prim.Native.Nat.{◌-◌}
 use native.Mathlib.Omega.{arith}
 use Rattle.sets.proofs.Finding.{first-all, first-here, first_next, first-end}
 use Rattle.judging.specs.Tests.{stray_at}

@@ -1,7 +1,5 @@
 -- `laying::lay::lay_on` meets its contract: the islands below q are laid. Assumes nothing.
 use mathlib.Core.Path.{sym, ◌∙◌}
-use mathlib.Core.Logic.{⊎_elim}
-use Prim.Native.Nat.{◌-◌}
 use Rattle.laying.proofs.Walking.{walked_none, walked-moved, walked_all, walked-not, walked-led, phase-is, idles}
 use borrow.Author.Rules.{rules}
 use Rattle.laying.proofs.lay.lay_on.Goals.{then-lowest-q, else-lowest-q}

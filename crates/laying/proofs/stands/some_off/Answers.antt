@@ -1,6 +1,5 @@
 -- `laying::stands::some_off` meets its contract: no wire passed is off. Assumes nothing.
 use mathlib.Core.Path.{sym, ◌∙◌}
-use Prim.Native.Nat.{◌-◌}
 use Rattle.laying.proofs.Standing.{seeking-first, seeking-hit, seeking-next, seeking-end}
 use borrow.Author.Rules.{rules}
 use Rattle.laying.proofs.stands.some_off.Goals as goal

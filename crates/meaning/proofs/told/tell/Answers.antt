@@ -1,7 +1,6 @@
 -- `meaning::told::tell` meets its contract: the gates before the loop's place are told, and none of them brings the 257th parity. Assumes nothing.
 use mathlib.Core.Path.{refl}
-use mathlib.Core.Logic.{⊎_elim}
-use Prim.Native.Nat.{◌-◌, ◌<◌}
+use Prim.Native.Nat.{◌<◌}
 use lib.ListN.{length}
 use Rattle.meaning.specs.declared.told.Meaning.{Meaning}
 use Rattle.table.specs.Table.{tabled}

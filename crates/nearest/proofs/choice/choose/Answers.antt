@@ -1,6 +1,5 @@
 -- `nearest::choice::choose` meets its contract: the columns still to try lead to the same choice. Assumes nothing.
 use mathlib.Core.Path.{◌∙◌}
-use Prim.Native.Nat.{◌-◌}
 use Rattle.nearest.proofs.Choosing.{columns-start, columns-next, columns-end}
 use borrow.Author.Rules.{rules}
 use Rattle.nearest.proofs.choice.choose.Goals as goal

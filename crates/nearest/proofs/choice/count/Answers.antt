@@ -1,5 +1,4 @@
 -- `nearest::choice::count` meets its contract: what is counted and what is still to come. Assumes nothing.
-use Prim.Native.Nat.{◌-◌}
 use Rattle.nearest.proofs.Counting.{counting-start, counting-next, counting-few, counting-over, counting-end}
 use Rattle.nearest.proofs.Wholes.{detour-few, bound-few, bound-most, bound-next, whole-next}
 use borrow.Author.Rules.{rules}

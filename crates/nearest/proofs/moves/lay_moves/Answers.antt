@@ -1,6 +1,5 @@
 -- `nearest::moves::lay_moves` meets its contract: the moves still to come lead to the same memory. Assumes nothing.
 use mathlib.Core.Path.{refl, ◌∙◌}
-use Prim.Native.Nat.{◌-◌}
 use native.Mathlib.Nat.{sub-zero}
 use Rattle.nearest.proofs.Moving.{move-next, move-end}
 use borrow.Author.Rules.{rules}

@@ -1,5 +1,4 @@
 -- `nearest::orders::from_all` meets its contract: the rows so far. Assumes nothing.
-use Prim.Native.Nat.{◌-◌}
 use Rattle.nearest.proofs.Tabled.{rows_start, rows_next, rows_all}
 use borrow.Author.Rules.{rules}
 use native.Mathlib.Omega.{arith}

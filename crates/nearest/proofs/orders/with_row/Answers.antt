@@ -1,6 +1,5 @@
 -- `nearest::orders::with_row` meets its contract: what is still to be stored. Assumes nothing.
 use mathlib.Core.Path.{refl}
-use Prim.Native.Nat.{◌-◌}
 use Rattle.nearest.proofs.Tabled.{row-start, row_next, row-end}
 use borrow.Author.Rules.{rules}
 use native.Mathlib.Omega.{arith}

@@ -1,8 +1,6 @@
 -- `nearest::sure::mutual` meets its contract. Assumes nothing.
-use Prim.Native.Nat.{◌-◌}
 use Rattle.nearest.proofs.Sureness.{told-not, symm-start, symm-next, symm-all}
 use borrow.Author.Rules.{rules}
-use borrow.Author.Tests.{not-false}
 use Rattle.nearest.proofs.sure.mutual.Goals as goal
 
 pub loop-u-init : goal.loop-u-init

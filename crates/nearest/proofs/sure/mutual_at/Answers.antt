@@ -1,8 +1,6 @@
 -- `nearest::sure::mutual_at` meets its contract. Assumes nothing.
-use Prim.Native.Nat.{◌-◌}
 use Rattle.nearest.proofs.Sureness.{told-not, mutual-start, mutual-next, mutual-all}
 use borrow.Author.Rules.{rules}
-use borrow.Author.Tests.{not-false}
 use Rattle.nearest.proofs.sure.mutual_at.Goals as goal
 
 pub returns-then-near-u-ge-ABOVE : goal.returns-then-near-u-ge-ABOVE

@@ -7,10 +7,10 @@ use Rattle.qasm_lines.proofs.Spelt.{phase-pattern-most, phase-line, phase-text-n
 use Rattle.qasm_lines.proofs.Placed.{no_line}
 use Rattle.qasm_lines.proofs.put.put_phase.Goals as goal
 
-pub returns-then-g-eq0 : goal.returns-then-g-eq0
-returns-then-g-eq0 c =
+pub returns-then-is_none : goal.returns-then-is_none
+returns-then-is_none c =
     let a = c.args in
-    subst (λ bs. Fitted a.text.now a.at bs a.text.now a.at) (sym (phase-text-none a.version a.phase c.if-g-eq0.true)) (no_line a.text.now a.at)
+    subst (λ bs. Fitted a.text.now a.at bs a.text.now a.at) (sym (phase-text-none a.version a.phase c.if-is_none.true)) (no_line a.text.now a.at)
 
 pub slice_bounds-line-end : goal.slice_bounds-line-end
 slice_bounds-line-end c = omega (arith, c.phase_length-bytes.ensures, phase-pattern-most c.args.version)
@@ -22,4 +22,4 @@ pub returns : goal.returns
 returns c =
     let a = c.args in
     let p = c.put_pattern in
-    subst (λ bs. Fitted a.text.now a.at bs p.new.text p.result) (phase-line a.version a.phase c.phase_pattern-line.result c.if-g-eq0.false c.phase_pattern-line.ensures c.phase_length-bytes.ensures) p.ensures
+    subst (λ bs. Fitted a.text.now a.at bs p.new.text p.result) (phase-line a.version a.phase c.phase_pattern-line.result c.if-is_none.false c.phase_pattern-line.ensures c.phase_length-bytes.ensures) p.ensures

@@ -1,7 +1,6 @@
 -- `spares::spare::beside` meets its contract: what is gathered, with the neighbours of the members from u on. Assumes nothing.
 use mathlib.Core.Path.{sym, ap, ◌∙◌}
-use Prim.Native.Nat.{ℕ, ◌+◌, ◌-◌}
-use mathlib.Core.Logic.{⊎_elim}
+use Prim.Native.Nat.{ℕ, ◌+◌}
 use lib.Bits.{bit_or}
 use Rattle.chip.proofs.Rounds.{from_on, nbrs-with, nbrs-without, nbrs-start, nbrs-end}
 use borrow.Author.Rules.{rules}

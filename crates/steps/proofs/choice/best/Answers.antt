@@ -2,7 +2,6 @@
 use mathlib.Core.Path.{refl, sym, ◌∙◌}
 use Prim.Native.Nat.{◌-◌}
 use native.Mathlib.Omega.{arith}
-use mathlib.Core.Logic.{⊎_elim}
 use Rattle.steps.proofs.Choosing.{worth-all, worth-here, worth-not, worth-other, best-hit, best_none, best-end}
 use borrow.Author.Rules.{rules}
 use Rattle.steps.proofs.choice.best.Goals.{then-may-q+else-worth-q, else-may-q}

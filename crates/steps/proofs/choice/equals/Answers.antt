@@ -1,6 +1,6 @@
 -- `steps::choice::equals` meets its contract: the places passed are filled. Assumes nothing.
 use mathlib.Core.Path.{◌∙◌}
-use Prim.Native.Nat.{◌-◌, ◌<◌}
+use Prim.Native.Nat.{◌<◌}
 use native.Mathlib.Omega.{arith}
 use lib.ListN.{length-set}
 use Rattle.sets.proofs.Tabling.{filled_next, filled-all}

@@ -1,9 +1,7 @@
 -- `steps::selection::count` meets its contract: n is the count of the places passed. Assumes nothing.
 use mathlib.Core.Path.{sym}
-use Prim.Native.Nat.{◌-◌}
 use mathlib.Core.Bool.{true, false}
 use native.Mathlib.Omega.{arith}
-use mathlib.Core.Logic.{⊎_elim}
 use Rattle.steps.proofs.Selecting.{counted_none, counted_next, counted-small, counted-all}
 use borrow.Author.Rules.{rules}
 use Rattle.steps.proofs.selection.count.Goals.{then-sel-k, else-sel-k}

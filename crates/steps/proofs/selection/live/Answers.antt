@@ -1,6 +1,5 @@
 -- `steps::selection::live` meets its contract: the places passed are marked. Assumes nothing.
 use mathlib.Core.Path.{refl, ◌∙◌}
-use Prim.Native.Nat.{◌-◌}
 use lib.ListN.{length-set}
 use Rattle.sets.proofs.Tabling.{marked-none, marked_next}
 use Rattle.steps.proofs.Selecting.{live_all}

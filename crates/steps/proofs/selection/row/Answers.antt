@@ -1,9 +1,7 @@
 -- `steps::selection::row` meets its contract: the ones of the places passed are counted. Assumes nothing.
 use mathlib.Core.Path.{refl, sym, ◌∙◌}
-use Prim.Native.Nat.{◌-◌}
 use mathlib.Core.Bool.{true, false}
 use native.Mathlib.Omega.{arith}
-use mathlib.Core.Logic.{⊎_elim}
 use Rattle.steps.proofs.Selecting.{row-none, row_next, row_small, row-all}
 use borrow.Author.Rules.{rules}
 use Rattle.steps.proofs.selection.row.Goals.{then-is_one, else-is_one}

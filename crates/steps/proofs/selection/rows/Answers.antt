@@ -1,7 +1,5 @@
 -- `steps::selection::rows` meets its contract: the columns passed are tallied. Assumes nothing.
 use mathlib.Core.Path.{refl, sym, ◌∙◌, subst}
-use mathlib.Core.Logic.{⊎_elim}
-use Prim.Native.Nat.{◌-◌}
 use Rattle.steps.proofs.Selecting.{RowsCounted, rows_none, rows_few, rows-tallied, rows-passed, rows_all}
 use borrow.Author.Rules.{rules}
 use Rattle.steps.proofs.selection.rows.Goals.{then-sel-k, else-sel-k}

@@ -1,6 +1,5 @@
 -- `steps::selection::with_one` meets its contract: the places passed are marked. Assumes nothing.
 use mathlib.Core.Path.{◌∙◌}
-use Prim.Native.Nat.{◌-◌}
 use lib.ListN.{length-set}
 use Rattle.sets.proofs.Tabling.{marked-none, marked_next}
 use Rattle.steps.proofs.Selecting.{ones-all}

@@ -1,6 +1,5 @@
 -- `steps::selection::zeros` meets its contract: the places passed are marked. Assumes nothing.
 use mathlib.Core.Path.{◌∙◌}
-use Prim.Native.Nat.{◌-◌}
 use lib.ListN.{length-set}
 use Rattle.sets.proofs.Tabling.{marked-none, marked_next}
 use Rattle.steps.proofs.Selecting.{zeros-all}

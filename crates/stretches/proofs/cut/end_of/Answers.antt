@@ -1,6 +1,5 @@
 -- `stretches::cut::end_of` meets its contract: no Hadamard was passed. Assumes nothing.
 use mathlib.Core.Path.{refl, sym, ◌∙◌}
-use Prim.Native.Nat.{◌-◌}
 use Rattle.stretches.proofs.Going.{end-here, end-next, end-past}
 use borrow.Author.Rules.{rules}
 use Rattle.stretches.proofs.cut.end_of.Goals as goal

@@ -1,5 +1,4 @@
 -- `stretches::job::judge_room` meets its contract: what is left of the room, and what is still due. Assumes nothing.
-use Prim.Native.Nat.{◌-◌}
 use native.Mathlib.Omega.{arith}
 use Rattle.stretches.proofs.Judging.{eighth-none, eighth-counted, eighth-short, eighth-full, eighth-next, eighth-end, lent-within}
 use borrow.Author.Rules.{rules}

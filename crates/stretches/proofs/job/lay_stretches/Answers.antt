@@ -1,5 +1,4 @@
 -- `stretches::job::lay_stretches` meets its contract: what is laid already, and what is still to come. Assumes nothing.
-use Prim.Native.Nat.{◌-◌}
 use native.Mathlib.Omega.{arith}
 use Rattle.stretches.proofs.Judging.{lent-within}
 use Rattle.stretches.proofs.Laying.{laying-none, laying-accepts, laying-fits, behind-fits, laying-next, laying-end}

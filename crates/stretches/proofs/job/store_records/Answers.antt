@@ -1,6 +1,5 @@
 -- `stretches::job::store_records` meets its contract: the records passed are stored. Assumes nothing.
 use mathlib.Core.Path.{refl}
-use Prim.Native.Nat.{◌-◌}
 use native.Mathlib.Omega.{arith}
 use Rattle.stretches.proofs.Laying.{stored-none, stored_next, stored-all}
 use borrow.Author.Rules.{rules}

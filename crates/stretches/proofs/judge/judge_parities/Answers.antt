@@ -1,5 +1,4 @@
 -- `stretches::judge::judge_parities` meets its contract: every stretch passed stays within 256 parities. Assumes nothing.
-use Prim.Native.Nat.{◌-◌}
 use native.Mathlib.Omega.{arith}
 use Rattle.stretches.proofs.Judging.{sixth-none, sixth-over, sixth-next, sixth-end, lent-within}
 use borrow.Author.Rules.{rules}

@@ -1,5 +1,4 @@
 -- `stretches::judge::judge_reaches` meets its contract: every stretch passed can be reached. Assumes nothing.
-use Prim.Native.Nat.{◌-◌}
 use native.Mathlib.Omega.{arith}
 use Rattle.tallies.specs.Tally.{bound_of}
 use Rattle.judging.proofs.Judging.{verdict-found}

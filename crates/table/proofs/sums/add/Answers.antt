@@ -1,6 +1,5 @@
 -- `table::sums::add` meets its contract: the parity is held, is new, or finds the table full. Assumes nothing.
 use mathlib.Core.Bool.{false}
-use mathlib.Core.Logic.{⊎_elim}
 use mathlib.Core.Path.{◌≡◌, sym}
 use Rattle.table.specs.Table.{tabled, held_at, grown_at, new_at}
 use Rattle.table.proofs.Ranks.{rank-le, held-not-other, held-not-past, held-there, add-over, add-held, add-new, add-full}

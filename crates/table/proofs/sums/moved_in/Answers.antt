@@ -1,6 +1,5 @@
 -- `table::sums::moved_in` meets its contract: what is carried, put in where the loop stands, is always the same list. Assumes nothing.
 use mathlib.Core.Path.{◌≡◌, refl, ◌∙◌}
-use Prim.Native.Nat.{◌-◌}
 use native.Mathlib.Omega.{arith}
 use lib.ListN.{length-set}
 use Rattle.table.proofs.Moving.{put_step, drop-step, put-end}

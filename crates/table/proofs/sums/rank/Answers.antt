@@ -1,6 +1,5 @@
 -- `table::sums::rank` meets its contract: no place passed stops the search. Assumes nothing.
 use mathlib.Core.Path.{◌≡◌, refl, sym, ◌∙◌}
-use Prim.Native.Nat.{◌-◌}
 use native.Mathlib.Omega.{arith}
 use Rattle.sets.proofs.Finding.{first-here, first_next, first-end}
 use Rattle.table.specs.Table.{rank_of}

@@ -1,5 +1,4 @@
 -- `tallies::depth::latest` meets its contract: the most so far and what is left make the whole. Assumes nothing.
-use Prim.Native.Nat.{◌-◌}
 use native.Mathlib.Omega.{arith}
 use Rattle.tallies.proofs.Layers.{highest-step, highest-end}
 use borrow.Author.Rules.{rules}

@@ -1,6 +1,5 @@
 -- `tallies::tally::cnots` meets its contract: what is counted and what is left make the whole. Assumes nothing.
 use mathlib.Core.Path.{ap}
-use Prim.Native.Nat.{◌-◌}
 use native.Mathlib.Omega.{arith}
 use Rattle.tallies.specs.Tally.{one_cnot, cnots_of}
 use Rattle.tallies.proofs.Tallies.{left_step, left_end, left-bounded, one-cnot}

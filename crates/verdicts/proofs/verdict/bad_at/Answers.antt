@@ -1,6 +1,5 @@
 -- `verdicts::verdict::bad_at` meets its contract: no record passed fails. Assumes nothing.
 use mathlib.Core.Path.{◌≡◌, sym, ap, ◌∙◌}
-use Prim.Native.Nat.{◌-◌}
 use native.Mathlib.Omega.{arith}
 use lib.ListN.{length}
 use Rattle.sets.proofs.Finding.{first-all, first-here, first_next, first-end}

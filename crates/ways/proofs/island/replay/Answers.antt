@@ -1,5 +1,4 @@
 -- `ways::island::replay` meets its contract: the records passed are written. Assumes nothing.
-use Prim.Native.Nat.{◌-◌}
 use Rattle.ways.proofs.Replaying.{replayed-none, replayed-next, replayed-all}
 use borrow.Author.Rules.{rules}
 use Rattle.ways.proofs.island.replay.Goals as goal

@@ -1,7 +1,7 @@
 -- `tallies::depth::Layers::feed_all` meets its contract: the layers so far, with the gates left put into them, are always the same; no layer is higher than at first by more than the gates passed. Assumes nothing.
 use mathlib.Core.Path.{refl, sym, ap, ◌∙◌}
 use mathlib.Core.List.{List}
-use Prim.Native.Nat.{ℕ, ◌+◌, ◌-◌}
+use Prim.Native.Nat.{ℕ, ◌+◌}
 use native.Mathlib.Omega.{arith}
 use lib.ListN.{drop}
 use Rattle.gates.specs.declared.gate.Gate.{Gate}
