@@ -76,7 +76,8 @@ fn reduced(count: i64) -> u32
     ensures { result ≡ reduced_of count }
 {
     let rest = count % 131072;
-    if rest < 0 {
+    let is_negative = rest < 0;
+    if is_negative {
         return (rest + 131072) as u32;
     }
     rest as u32

@@ -69,7 +69,8 @@ fn ending(
 ) -> usize
     ensures { Emits out.old at (ending_of near set asked mirror) out.new result }
 {
-    if sets::size(set) < 2 {
+    let is_done = sets::size(set) < 2;
+    if is_done {
         return at;
     }
     match clearing::cheapest(near, set, asked, mirror) {

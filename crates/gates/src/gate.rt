@@ -42,7 +42,8 @@ pub fn decode(x: u32, n: usize) -> Gate
     }
     if kind == 3 {
         if a < n {
-            if b == 0 {
+            let is_plain = b == 0;
+            if is_plain {
                 return Gate::X { qubit: a };
             }
         }

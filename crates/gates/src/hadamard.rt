@@ -9,7 +9,8 @@ pub fn is_hadamard(x: u32, n: usize) -> bool
     let a = (x / 65536 % 256) as usize;
     if x / 16777216 == 4 {
         if a < n {
-            if x % 65536 == 0 {
+            let is_plain = x % 65536 == 0;
+            if is_plain {
                 return true;
             }
         }

@@ -58,7 +58,8 @@ pub fn judge_on(
     if verdict::number(listed) != 0 {
         return listed;
     }
-    if Job::GATES < gates.len() {
+    let is_many = Job::GATES < gates.len();
+    if is_many {
         return Verdict::ManyGates;
     }
     let drawn = verdict::judge_gates(gates, n);

@@ -111,7 +111,8 @@ pub fn lay(n: usize, couplers: &[u32], gates: &[u32], out: &mut [u32]) -> Answer
     let near = couplers::near(couplers, n);
     let islands = islands::islands(near);
     let verdict = judge::judge_on(n, couplers, islands, gates, out.len());
-    if verdict::number(verdict) != 0 {
+    let is_refused = verdict::number(verdict) != 0;
+    if is_refused {
         return Answer::Refused { verdict };
     }
     let mut laid = [0u32; tally::LARGEST];

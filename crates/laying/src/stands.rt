@@ -32,7 +32,8 @@ pub(crate) fn stands(own: Own) -> bool
 {
     let terms = own.terms;
     let asked = own.asked;
-    if terms.len == 0 {
+    let is_bare = terms.len == 0;
+    if is_bare {
         !some_off(own.set, asked)
     } else {
         false

@@ -24,5 +24,6 @@ pub fn letter_of(kind: u32) -> u8
 pub fn fields_of(kind: u32) -> usize
     ensures { result ≡ fields_in kind }
 {
-    if kind < 3 { 2 } else { 1 }
+    let is_pair = kind < 3;
+    if is_pair { 2 } else { 1 }
 }

@@ -1,5 +1,5 @@
 -- The front of what is printed, and what is handed on behind it. Assumes nothing.
-use mathlib.Core.Path.{◌≡◌, sym, ap, ap₂, ◌∙◌, subst}
+use mathlib.Core.Path.{◌≡◌, refl, sym, ap, ap₂, ◌∙◌, subst}
 use mathlib.Core.Bool.{Bool}
 use mathlib.Core.List.{List}
 use Prim.Native.Nat.{ℕ, ◌+◌}
@@ -22,7 +22,7 @@ use Rattle.qasm_reading.specs.declared.read.CircuitReading.TheVariants.{Read, Re
 use Rattle.qasm_reading.specs.Parsing.{parsed_circuit}
 use Rattle.qasm_reading.specs.Readings.{circuit_gates, circuit_in, judged_circuit_text, circuit_reading, circuit_verdict}
 use Rattle.qasm_reading.proofs.Said.{circuit-counted, circuit-read-says, circuit-unread-says}
-use Rattle.console.specs.Printed.{most_coupler_lines, most_gate_lines, Prints, refusal_of}
+use Rattle.console.specs.Printed.{unless, most_coupler_lines, most_gate_lines, Prints, refusal_of}
 use Rattle.console.proofs.Beginning.{first-passed, first-refused}
 use Rattle.console.proofs.Choosing.{unless-passed, unless-refused, prints-same}
 use Rattle.qasm_console.specs.declared.printing.BegunCircuit.{BegunCircuit}
@@ -124,6 +124,11 @@ module _ (s t : List ℕ) where
   unfolding handed_texts
   texts-unread ne = ap (λ (b : Bool). pick b (handed_drawing listed t) nothing_handed) (ne_eqb (number_of listing) 0 ne)
 
+-- what is printed first for two texts, in the words of the couplers' verdict. The other laws of it cite this one and see no text of its definition.
+pub front-texts-is : (s t : List ℕ) → front_texts s t ≡ unless (judged_couplers_text s most_coupler_lines) (front_drawing (couplers_in (parsed_couplers s)) t)
+unfolding front_texts
+front-texts-is s t = refl
+
 -- its reader was lent cs₀, and left cs
 module _ (s t cs₀ cs gs₀ gs out out' : List ℕ) (lent : length cs₀ ≡ most_coupler_lines) (r : Reading) (e : r ≡ couplers_reading s (length cs₀)) (f : cs ≡ lent_after (read_verdict r) (couplers_in (parsed_couplers s)) cs₀) (b : BegunCircuit) where
   answer : r ≡ couplers_reading s most_coupler_lines
@@ -133,23 +138,21 @@ module _ (s t cs₀ cs gs₀ gs out out' : List ℕ) (lent : length cs₀ ≡ mo
   couplers-are = f ∙ ap (λ (x : Reading). lent_after (read_verdict x) (couplers_in (parsed_couplers s)) cs₀) answer
 
   pub texts-begun : (j : Job) → r ≡ answers.Read j → BeginsCircuit (take j.couplers cs) t gs₀ out b gs out' → BeginsTexts s t cs₀ gs₀ out b cs gs out'
-  unfolding front_texts
   texts-begun j d c =
       let said = listed-says s most_coupler_lines j (sym answer ∙ d) in
       let l : take j.couplers cs ≡ couplers_in (parsed_couplers s) = ap (λ (i : ℕ). take i cs) (listed-count s j (sym answer ∙ d)) ∙ couplers-front s j cs₀ cs (sym answer ∙ d) couplers-are in
       record {
-        prints = prints-same (ap (λ (xs : List ℕ). front_drawing xs t) l ∙ unless-passed (judged_couplers_text s most_coupler_lines) _ said.0) c.prints;
+        prints = prints-same (ap (λ (xs : List ℕ). front_drawing xs t) l ∙ unless-passed (judged_couplers_text s most_coupler_lines) _ said.0 ∙ sym (front-texts-is s t)) c.prints;
         handed = c.handed ∙ ap (λ (xs : List ℕ). handed_drawing xs t) l ∙ sym (texts-read s t said.0);
         couplers_read = couplers-are;
         gates_read = c.gates_read ∙ sym (ap (λ (y : Bool). pick y (gates_after t gs₀) gs₀) (eq-eqb (number_of (judged_couplers_text s most_coupler_lines)) 0 said.0));
       }
 
   pub texts-unbegun : (v : Verdict) → r ≡ answers.Refused v → gs ≡ gs₀ → Prints most_shown (refusal_of v) out b.bytes out' → handed_in b ≡ nothing_handed → BeginsTexts s t cs₀ gs₀ out b cs gs out'
-  unfolding front_texts
   texts-unbegun v d g p h =
       let said = unlisted-says s most_coupler_lines v (sym answer ∙ d) in
       record {
-        prints = prints-same (ap refusal_of said.1 ∙ unless-refused (judged_couplers_text s most_coupler_lines) _ said.0) p;
+        prints = prints-same (ap refusal_of said.1 ∙ unless-refused (judged_couplers_text s most_coupler_lines) _ said.0 ∙ sym (front-texts-is s t)) p;
         handed = h ∙ sym (texts-unread s t said.0);
         couplers_read = couplers-are;
         gates_read = g ∙ sym (ap (λ (y : Bool). pick y (gates_after t gs₀) gs₀) (ne_eqb (number_of (judged_couplers_text s most_coupler_lines)) 0 said.0));

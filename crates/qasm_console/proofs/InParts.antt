@@ -51,7 +51,7 @@ use Rattle.qasm_console.specs.declared.printing.BegunCircuit.{BegunCircuit}
 use Rattle.qasm_console.specs.Printed.{whole_phase, laid_circuit, laid_drawing, laid_texts}
 use Rattle.qasm_console.specs.Parts.{front_circuit, front_drawing, front_texts, Handed, nothing_handed, handed_circuit, handed_drawing, handed_in, gates_after, BeginsCircuit, BeginsTexts, phase_from, behind_text}
 use Rattle.qasm_console.proofs.Reading.{gates-front, couplers-front}
-use Rattle.qasm_console.proofs.Beginning.{handed-passed, handed-refused, drawn-read, drawn-unread, texts-read, texts-unread}
+use Rattle.qasm_console.proofs.Beginning.{front-texts-is, handed-passed, handed-refused, drawn-read, drawn-unread, texts-read, texts-unread}
 
 -- the line of a common phase is that of its rest within a turn
 pub phase-text : (v : Version) (g h : ℕ) → phases g 0 ≡ phases h 0 → phase_text v g ≡ phase_text v h
@@ -175,14 +175,14 @@ module _ {s t couplers gates out couplers' gates' out' : List ℕ} {r : BegunCir
   going = behind_text (handed_in r) (take r.job.couplers couplers') (take r.job.gates gates')
 
   unlisted-parts : (v : Verdict) → couplers_reading s most_coupler_lines ≡ answers.Refused v → laid_texts s t ≡ front_texts s t ++ going
-  unfolding laid_texts front_texts
+  unfolding laid_texts
   unlisted-parts v e =
       let ne = (unlisted-says s most_coupler_lines v e).0 in
-      sym (unless-refused (judged_couplers_text s most_coupler_lines) _ ne) ∙ unless-refused (judged_couplers_text s most_coupler_lines) _ ne
+      sym (unless-refused (judged_couplers_text s most_coupler_lines) _ ne) ∙ unless-refused (judged_couplers_text s most_coupler_lines) _ ne ∙ sym (front-texts-is s t)
       ∙ sym (append-nil (front_texts s t)) ∙ ap (λ (x : List ℕ). front_texts s t ++ x) (sym (none-behind (handed_in r) (take r.job.couplers couplers') gates' (b.handed ∙ texts-unread s t ne)))
 
   listed-parts : (i : Job) → couplers_reading s most_coupler_lines ≡ answers.Read i → laid_texts s t ≡ front_texts s t ++ going
-  unfolding laid_texts front_texts handed_circuit
+  unfolding laid_texts handed_circuit
   listed-parts i e =
       let z = (listed-says s most_coupler_lines i e).0 in
       let xs : List ℕ = couplers_in (parsed_couplers s) in
@@ -192,7 +192,7 @@ module _ {s t couplers gates out couplers' gates' out' : List ℕ} {r : BegunCir
       let same : number_of (judged_circuit_text t most_gate_lines) ≡ 0 → take r.job.couplers couplers' ≡ xs =
       λ y. ap (λ (k : ℕ). take k couplers') (ap (λ (k : Handed). k.job.couplers) (h ∙ drawn-read xs t y)) ∙ front in
       sym (unless-passed (judged_couplers_text s most_coupler_lines) _ z) ∙ drawing-parts xs t gates gates' (take r.job.couplers couplers') (handed_in r) h g same
-      ∙ ap (λ (x : List ℕ). x ++ going) (unless-passed (judged_couplers_text s most_coupler_lines) _ z)
+      ∙ ap (λ (x : List ℕ). x ++ going) (unless-passed (judged_couplers_text s most_coupler_lines) _ z ∙ sym (front-texts-is s t))
 
   pub in_parts : laid_texts s t ≡ front_texts s t ++ behind_text (handed_in r) (take r.job.couplers couplers') (take r.job.gates gates')
   in_parts = go (couplers_reading s most_coupler_lines) refl

@@ -55,7 +55,8 @@ pub fn number_at(text: &[u8], from: usize, most: u32) -> Fetched
     ensures { got_of text.now result ≡ read_number most (some (drop from text.now)) }
 {
     let first = digit(text, from);
-    if first == 0 {
+    let is_nought = first == 0;
+    if is_nought {
         return Fetched {
             value: 0,
             next: Spot::At(from + 1),

@@ -67,7 +67,8 @@ pub fn lay_island(own: Own, out: &mut [u32], at: usize) -> usize
     let a = by_steps(own, &mut first);
     let mut second = [0u32; tally::LARGEST];
     let b = by_nearest(own, &mut second);
-    if b < a {
+    let is_shorter = b < a;
+    if is_shorter {
         return replay(&second[..b], out, at);
     }
     replay(&first[..a], out, at)

@@ -52,7 +52,8 @@ pub fn number(text: &[u8], from: Spot, most: u32) -> Fetched
             match stop {
                 Spot::Lost => p,
                 Spot::At(e) => {
-                    if e < w.len() {
+                    let is_longer = e < w.len();
+                    if is_longer {
                         return Fetched {
                             value: p.value,
                             next: Spot::Lost,

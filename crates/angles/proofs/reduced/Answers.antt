@@ -12,11 +12,11 @@ overflow_add-result c = more-fits c.args.count c.ranges.count
 pub overflow_cast-result : goal.overflow_cast-result
 overflow_cast-result c = more-casts c.args.count c.ranges.count
 
-pub returns-then-rest-lt0 : goal.returns-then-rest-lt0
-returns-then-rest-lt0 c = more-count c.args.count c.ranges.count c.if-rest-lt0.true
+pub returns-then-is_negative : goal.returns-then-is_negative
+returns-then-is_negative c = more-count c.args.count c.ranges.count c.if-is_negative.true
 
 pub overflow_cast-result-2 : goal.overflow_cast-result-2
-overflow_cast-result-2 c = whole-casts c.args.count c.ranges.count c.if-rest-lt0.false
+overflow_cast-result-2 c = whole-casts c.args.count c.ranges.count c.if-is_negative.false
 
 pub returns : goal.returns
-returns c = whole-count c.args.count c.ranges.count c.if-rest-lt0.false
+returns c = whole-count c.args.count c.ranges.count c.if-is_negative.false

@@ -4,5 +4,5 @@ use lib.ListN.{get_or-eq_default}
 use borrow.Author.Rules.{rules}
 use Rattle.chip.proofs.search.neighbours.Goals as goal
 
-pub returns-else-u-lt-QUBITS : goal.returns-else-u-lt-QUBITS
-returns-else-u-lt-QUBITS c = sym (get_or-eq_default c.args.near 0 {n = c.args.u} (search rules))
+pub returns-else-is_qubit : goal.returns-else-is_qubit
+returns-else-is_qubit c = sym (get_or-eq_default c.args.near 0 {n = c.args.u} (search rules))

@@ -27,13 +27,13 @@ pub returns-then-kind-eq2 : goal.returns-then-kind-eq2
 unfolding gate_of cnot_of rotation_of x_of kind_in a_in b_in
 returns-then-kind-eq2 c = simp (ne_eqb _ _ c.if-kind-eq1.false, eq-eqb _ _ c.if-kind-eq2.true, le-ltb _ _ c.if-a-n-2.false)
 
-pub returns-then-b-eq0 : goal.returns-then-b-eq0
+pub returns-then-is_plain : goal.returns-then-is_plain
 unfolding gate_of cnot_of rotation_of x_of kind_in a_in b_in
-returns-then-b-eq0 c = simp (ne_eqb _ _ c.if-kind-eq1.false, ne_eqb _ _ c.if-kind-eq2.false, eq-eqb _ _ c.if-kind-eq3.true, lt-ltb _ _ c.if-a-n-3.true, eq-eqb _ _ c.if-b-eq0.true)
+returns-then-is_plain c = simp (ne_eqb _ _ c.if-kind-eq1.false, ne_eqb _ _ c.if-kind-eq2.false, eq-eqb _ _ c.if-kind-eq3.true, lt-ltb _ _ c.if-a-n-3.true, eq-eqb _ _ c.if-is_plain.true)
 
-pub returns-else-b-eq0 : goal.returns-else-b-eq0
+pub returns-else-is_plain : goal.returns-else-is_plain
 unfolding gate_of cnot_of rotation_of x_of kind_in a_in b_in
-returns-else-b-eq0 c = simp (ne_eqb _ _ c.if-kind-eq1.false, ne_eqb _ _ c.if-kind-eq2.false, eq-eqb _ _ c.if-kind-eq3.true, lt-ltb _ _ c.if-a-n-3.true, ne_eqb _ _ c.if-b-eq0.false)
+returns-else-is_plain c = simp (ne_eqb _ _ c.if-kind-eq1.false, ne_eqb _ _ c.if-kind-eq2.false, eq-eqb _ _ c.if-kind-eq3.true, lt-ltb _ _ c.if-a-n-3.true, ne_eqb _ _ c.if-is_plain.false)
 
 pub returns-else-a-n-3 : goal.returns-else-a-n-3
 unfolding gate_of cnot_of rotation_of x_of kind_in a_in b_in

@@ -4,13 +4,13 @@ use Rattle.gates.specs.Layout.{kind_in, a_in, b_in}
 use Rattle.gates.specs.Hadamards.{is_hadamard}
 use Rattle.gates.proofs.hadamard.is_hadamard.Goals as goal
 
-pub returns-then-x-eq0 : goal.returns-then-x-eq0
+pub returns-then-is_plain : goal.returns-then-is_plain
 unfolding is_hadamard kind_in a_in b_in
-returns-then-x-eq0 c = simp (eq-eqb _ _ c.if-x-eq4.true, lt-ltb _ _ c.if-a-n.true, eq-eqb _ _ c.if-x-eq0.true)
+returns-then-is_plain c = simp (eq-eqb _ _ c.if-x-eq4.true, lt-ltb _ _ c.if-a-n.true, eq-eqb _ _ c.if-is_plain.true)
 
-pub returns-else-x-eq0 : goal.returns-else-x-eq0
+pub returns-else-is_plain : goal.returns-else-is_plain
 unfolding is_hadamard kind_in a_in b_in
-returns-else-x-eq0 c = simp (eq-eqb _ _ c.if-x-eq4.true, lt-ltb _ _ c.if-a-n.true, ne_eqb _ _ c.if-x-eq0.false)
+returns-else-is_plain c = simp (eq-eqb _ _ c.if-x-eq4.true, lt-ltb _ _ c.if-a-n.true, ne_eqb _ _ c.if-is_plain.false)
 
 pub returns-else-a-n : goal.returns-else-a-n
 unfolding is_hadamard kind_in a_in b_in

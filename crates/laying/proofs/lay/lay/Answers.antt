@@ -10,10 +10,10 @@ use Rattle.ways.proofs.Owned.{part-fits, part-long}
 use Rattle.laying.proofs.Answering.{circuit-on, refused, copied}
 use Rattle.laying.proofs.lay.lay.Goals as goal
 
-pub returns-then-number-ne0 : goal.returns-then-number-ne0
-returns-then-number-ne0 c = let a = c.args in
+pub returns-then-is_refused : goal.returns-then-is_refused
+returns-then-is_refused c = let a = c.args in
     let v = verdict-found a.n a.couplers.now _ a.gates.now _ _ c.near-near.ensures c.islands-islands.ensures c.judge_on-verdict.result c.judge_on-verdict.ensures in
-    refused a.n a.couplers.now a.gates.now a.out.now c.judge_on-verdict.result v (λ e. c.if-number-ne0.true (c.number.ensures ∙ e))
+    refused a.n a.couplers.now a.gates.now a.out.now c.judge_on-verdict.result v (λ e. c.if-is_refused.true (c.number-is_refused.ensures ∙ e))
 
 pub lay_on-outcome-requires : goal.lay_on-outcome-requires
 lay_on-outcome-requires c = let a = c.args in
@@ -22,7 +22,7 @@ lay_on-outcome-requires c = let a = c.args in
       couplers = a.couplers.now;
       near_are = c.near-near.ensures;
       islands_are = c.islands-islands.ensures;
-      layable = job-layable a.n a.couplers.now a.gates.now _ (ap number_of (sym v) ∙ sym c.number.ensures ∙ c.if-number-ne0.false);
+      layable = job-layable a.n a.couplers.now a.gates.now _ (ap number_of (sym v) ∙ sym c.number-is_refused.ensures ∙ c.if-is_refused.false);
     }
 
 pub slice_bounds-laid-end : goal.slice_bounds-laid-end
@@ -47,4 +47,4 @@ returns c = let a = c.args in
     let v = verdict-found a.n a.couplers.now _ a.gates.now _ _ c.near-near.ensures c.islands-islands.ensures c.judge_on-verdict.result c.judge_on-verdict.ensures in
     let l = c.lay_on-outcome.ensures in
     let o = circuit-on a.n a.couplers.now a.gates.now a.out.now _ c.near-near.ensures in
-    copied a.n a.couplers.now a.gates.now a.out.now (ap number_of (sym v) ∙ sym c.number.ensures ∙ c.if-number-ne0.false) _ _ (l.0.0 ∙ ap (emit zeros 0) o) (l.0.1 ∙ ap (emit_at zeros 0) o) _ _ _ l.1 c.counted.ensures c.replay.ensures.0
+    copied a.n a.couplers.now a.gates.now a.out.now (ap number_of (sym v) ∙ sym c.number-is_refused.ensures ∙ c.if-is_refused.false) _ _ (l.0.0 ∙ ap (emit zeros 0) o) (l.0.1 ∙ ap (emit_at zeros 0) o) _ _ _ l.1 c.counted.ensures c.replay.ensures.0

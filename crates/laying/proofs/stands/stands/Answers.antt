@@ -7,10 +7,10 @@ use Rattle.sets.proofs.Deciding.{both-not}
 use Rattle.laying.specs.Stands.{stands_of}
 use Rattle.laying.proofs.stands.stands.Goals as goal
 
-pub returns-then-terms-eq0 : goal.returns-then-terms-eq0
+pub returns-then-is_bare : goal.returns-then-is_bare
 unfolding stands_of
-returns-then-terms-eq0 c = sym (ap₂ (λ (t s : Bool). both t (not s)) (eq-eqb _ 0 c.if-terms-eq0.true) (sym c.some_off.ensures))
+returns-then-is_bare c = sym (ap₂ (λ (t s : Bool). both t (not s)) (eq-eqb _ 0 c.if-is_bare.true) (sym c.some_off.ensures))
 
-pub returns-else-terms-eq0 : goal.returns-else-terms-eq0
+pub returns-else-is_bare : goal.returns-else-is_bare
 unfolding stands_of
-returns-else-terms-eq0 c = sym (both-not _ _ (ne_eqb _ 0 c.if-terms-eq0.false))
+returns-else-is_bare c = sym (both-not _ _ (ne_eqb _ 0 c.if-is_bare.false))

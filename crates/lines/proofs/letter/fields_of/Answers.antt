@@ -3,10 +3,10 @@ use borrow.Author.Tests.{lt-ltb, le-ltb}
 use Rattle.lines.specs.Lines.{fields_in}
 use Rattle.lines.proofs.letter.fields_of.Goals as goal
 
-pub returns-then-kind-lt3 : goal.returns-then-kind-lt3
+pub returns-then-is_pair : goal.returns-then-is_pair
 unfolding fields_in
-returns-then-kind-lt3 c = simp (lt-ltb _ _ c.if-kind-lt3.true)
+returns-then-is_pair c = simp (lt-ltb _ _ c.if-is_pair.true)
 
-pub returns-else-kind-lt3 : goal.returns-else-kind-lt3
+pub returns-else-is_pair : goal.returns-else-is_pair
 unfolding fields_in
-returns-else-kind-lt3 c = simp (le-ltb _ _ c.if-kind-lt3.false)
+returns-else-is_pair c = simp (le-ltb _ _ c.if-is_pair.false)

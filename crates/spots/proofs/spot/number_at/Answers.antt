@@ -14,12 +14,12 @@ inside s p d e n = digit-in s p (λ q. n (e ∙ q))
 pub overflow_add-result : goal.overflow_add-result
 overflow_add-result c =
     let a = c.args in
-    omega (arith, digit-in a.text.now a.from (λ e. let z : ◌≡◌ {A = ℕ} 0 10 = sym c.if-first-eq0.true ∙ c.digit-first.ensures ∙ e in omega arith))
+    omega (arith, digit-in a.text.now a.from (λ e. let z : ◌≡◌ {A = ℕ} 0 10 = sym c.if-is_nought.true ∙ c.digit-first.ensures ∙ e in omega arith))
 
-pub returns-then-first-eq0 : goal.returns-then-first-eq0
-returns-then-first-eq0 c =
+pub returns-then-is_nought : goal.returns-then-is_nought
+returns-then-is_nought c =
     let a = c.args in
-    sym (number-zero a.text.now a.from a.most (sym c.digit-first.ensures ∙ c.if-first-eq0.true))
+    sym (number-zero a.text.now a.from a.most (sym c.digit-first.ensures ∙ c.if-is_nought.true))
 
 pub returns-then-first-eq10 : goal.returns-then-first-eq10
 returns-then-first-eq10 c =
@@ -30,7 +30,7 @@ pub loop-from-init : goal.loop-from-init
 loop-from-init c =
     let a = c.args in
     let d = c.digit-first.ensures in
-    (omega arith, number_more a.text.now a.from a.most (λ e. c.if-first-eq0.false (d ∙ e)) (digit_lt _ (λ e. c.if-first-eq10.false (d ∙ e))))
+    (omega arith, number_more a.text.now a.from a.most (λ e. c.if-is_nought.false (d ∙ e)) (digit_lt _ (λ e. c.if-first-eq10.false (d ∙ e))))
 
 pub overflow_cast-result : goal.overflow_cast-result
 overflow_cast-result c = omega arith

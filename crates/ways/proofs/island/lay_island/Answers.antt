@@ -14,12 +14,12 @@ pub slice_bounds-replay-end : goal.slice_bounds-replay-end
 unfolding bound_of
 slice_bounds-replay-end c = part-long (second (share_in c.args.own)) _ _ c.by_nearest-b.ensures.0 c.by_nearest-b.ensures.1
 
-pub returns-then-b-a : goal.returns-then-b-a
+pub returns-then-is_shorter : goal.returns-then-is_shorter
 unfolding bound_of
-returns-then-b-a c = let s = share_in c.args.own in
+returns-then-is_shorter c = let s = share_in c.args.own in
     let a = c.by_steps-a.ensures in
     let b = c.by_nearest-b.ensures in
-    laid_on s _ _ _ _ (in_memory (second s)) _ (memory-second s (omega (arith, part_count (first s) _ _ a.0 a.1, part_count (second s) _ _ b.0 b.1, c.if-b-a.true)))
+    laid_on s _ _ _ _ (in_memory (second s)) _ (memory-second s (omega (arith, part_count (first s) _ _ a.0 a.1, part_count (second s) _ _ b.0 b.1, c.if-is_shorter.true)))
     (part_held (second s) _ _ b.0 b.1) c.replay.ensures.0 c.replay.ensures.1
 
 pub slice_bounds-first-end : goal.slice_bounds-first-end
@@ -35,5 +35,5 @@ unfolding bound_of
 returns c = let s = share_in c.args.own in
     let a = c.by_steps-a.ensures in
     let b = c.by_nearest-b.ensures in
-    laid_on s _ _ _ _ (in_memory (first s)) _ (memory-first s (omega (arith, part_count (first s) _ _ a.0 a.1, part_count (second s) _ _ b.0 b.1, c.if-b-a.false)))
+    laid_on s _ _ _ _ (in_memory (first s)) _ (memory-first s (omega (arith, part_count (first s) _ _ a.0 a.1, part_count (second s) _ _ b.0 b.1, c.if-is_shorter.false)))
     (part_held (first s) _ _ a.0 a.1) c.replay-2.ensures.0 c.replay-2.ensures.1

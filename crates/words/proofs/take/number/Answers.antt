@@ -12,8 +12,8 @@ returns-then-text-start c = rw c.in-At.is (word-number-none _ (c.next-b.ensures.
 pub slice_bounds-w-end : goal.slice_bounds-w-end
 slice_bounds-w-end c = c.next-b.ensures.inside c.if-text-start.false
 
-pub returns-then-e-w : goal.returns-then-e-w
-returns-then-e-w c = rw c.in-At.is (word-number-more _ _ _ (c.next-b.ensures.found c.if-text-start.false) c.args.most c.number_at-p.result.value c.in-At-stop.e (sym c.number_at-p.ensures ∙ ap (λ p. record { value = c.number_at-p.result.value; rest = rest_at (part c.next-b.result.from c.next-b.result.to c.args.text.now) p }) c.in-At-stop.is) c.if-e-w.true)
+pub returns-then-is_longer : goal.returns-then-is_longer
+returns-then-is_longer c = rw c.in-At.is (word-number-more _ _ _ (c.next-b.ensures.found c.if-text-start.false) c.args.most c.number_at-p.result.value c.in-At-stop.e (sym c.number_at-p.ensures ∙ ap (λ p. record { value = c.number_at-p.result.value; rest = rest_at (part c.next-b.result.from c.next-b.result.to c.args.text.now) p }) c.in-At-stop.is) c.if-is_longer.true)
 
 pub returns-in-Lost : goal.returns-in-Lost
 unfolding numbered
@@ -22,5 +22,5 @@ returns-in-Lost c = rw c.in-Lost.is
 pub returns-in-Lost-stop : goal.returns-in-Lost-stop
 returns-in-Lost-stop c = rw (c.in-At.is, c.in-Lost-stop.is) (word-number-lost _ _ _ (c.next-b.ensures.found c.if-text-start.false) c.args.most c.number_at-p.result.value (sym c.number_at-p.ensures ∙ ap (λ p. record { value = c.number_at-p.result.value; rest = rest_at (part c.next-b.result.from c.next-b.result.to c.args.text.now) p }) c.in-Lost-stop.is))
 
-pub returns-else-e-w : goal.returns-else-e-w
-returns-else-e-w c = rw c.in-At.is (word-number-all _ _ _ (c.next-b.ensures.found c.if-text-start.false) c.args.most c.number_at-p.result.value c.in-At-stop.e (sym c.number_at-p.ensures ∙ ap (λ p. record { value = c.number_at-p.result.value; rest = rest_at (part c.next-b.result.from c.next-b.result.to c.args.text.now) p }) c.in-At-stop.is) c.if-e-w.false)
+pub returns-else-is_longer : goal.returns-else-is_longer
+returns-else-is_longer c = rw c.in-At.is (word-number-all _ _ _ (c.next-b.ensures.found c.if-text-start.false) c.args.most c.number_at-p.result.value c.in-At-stop.e (sym c.number_at-p.ensures ∙ ap (λ p. record { value = c.number_at-p.result.value; rest = rest_at (part c.next-b.result.from c.next-b.result.to c.args.text.now) p }) c.in-At-stop.is) c.if-is_longer.false)

@@ -7,11 +7,11 @@ use Rattle.words.proofs.word.note_end.Goals as goal
 pub loop-i-init : goal.loop-i-init
 loop-i-init c = (omega arith, refl)
 
-pub returns-then-text-i-eq10 : goal.returns-then-text-i-eq10
-returns-then-text-i-eq10 c = (c.loop-i.invariant.0, note-lf c.args.text.now c.loop-i.i c.loop-i-test.true c.if-text-i-eq10.true ∙ c.loop-i.invariant.1)
+pub returns-then-is_end : goal.returns-then-is_end
+returns-then-is_end c = (c.loop-i.invariant.0, note-lf c.args.text.now c.loop-i.i c.loop-i-test.true c.if-is_end.true ∙ c.loop-i.invariant.1)
 
 pub loop-i-preserved : goal.loop-i-preserved
-loop-i-preserved c = (omega arith, note-on c.args.text.now c.loop-i.i c.loop-i-test.true c.if-text-i-eq10.false ∙ c.loop-i.invariant.1)
+loop-i-preserved c = (omega arith, note-on c.args.text.now c.loop-i.i c.loop-i-test.true c.if-is_end.false ∙ c.loop-i.invariant.1)
 
 pub returns : goal.returns
 returns c = (c.loop-i.invariant.0, note-over c.args.text.now c.loop-i.i c.loop-i-test.false ∙ c.loop-i.invariant.1)
