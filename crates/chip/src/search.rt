@@ -9,8 +9,7 @@ use gates::job::Job;
 pub fn neighbours(near: [u32; Job::QUBITS], u: usize) -> u32
     ensures { result ≡ get_or near u 0 }
 {
-    let is_qubit = u < Job::QUBITS;
-    if is_qubit { near[u] } else { 0 }
+    near.get(u).copied().unwrap_or(0)
 }
 
 // `from`, and all that chains inside `within` join to it. Each turn looks at the lowest that is left:

@@ -1,5 +1,6 @@
 -- One gate fed to the wires. Assumes nothing.
 use mathlib.Core.Path.{◌≡◌, sym, ap, ap₂, ◌∙◌}
+use mathlib.Core.Logic.{◌⊎◌, inl, inr}
 use mathlib.Core.List.{List}
 use Prim.Native.Nat.{ℕ}
 use Rattle.sets.specs.Columns.{cnot}
@@ -20,10 +21,7 @@ module _ (w : Wires) (g : Gate) where
   unfolding fed_wires step
   wires-x q fs e h = ap (λ (zs : List ℕ). record { parity = w.parity; flip = zs }) h ∙ ap (fed_wires w) (sym e)
 
-  pub wires-rotation : (q a : ℕ) → g ≡ Rotation q a → w ≡ fed_wires w g
+  pub wires-same : ((q : ℕ) × (a : ℕ) × (g ≡ Rotation q a)) ⊎ (g ≡ Bad) → w ≡ fed_wires w g
   unfolding fed_wires step flip_step
-  wires-rotation q a e = ap (fed_wires w) (sym e)
-
-  pub wires-bad : g ≡ Bad → w ≡ fed_wires w g
-  unfolding fed_wires step flip_step
-  wires-bad e = ap (fed_wires w) (sym e)
+  wires-same (inl (q, a, e)) = ap (fed_wires w) (sym e)
+  wires-same (inr e) = ap (fed_wires w) (sym e)

@@ -13,44 +13,41 @@ use gates::job::Job;
 #[derive(Clone, Copy)]
 pub struct Wires {
     pub parity: [u32; Job::QUBITS],
-    // 1 where a wire is flipped, else 0.
+    // 1 where a wire is flipped, else 0: a CNOT joins flips as it joins parities.
     pub flip: [u32; Job::QUBITS],
-}
-
-// The parities, or the flips, after a CNOT; nothing changes where a wire is past the end.
-pub fn joined(parity: [u32; Job::QUBITS], control: usize, target: usize) -> [u32; Job::QUBITS]
-    ensures { result ≡ cnot control target parity }
-{
-    if control < Job::QUBITS {
-        if target < Job::QUBITS {
-            let mut next = parity;
-            next[target] = parity[control] ^ parity[target];
-            return next;
-        }
-    }
-    parity
 }
 
 // The parity of wire q, or its flip; 0 past the end.
 pub fn borne_on(parity: [u32; Job::QUBITS], q: usize) -> u32
     ensures { result ≡ get_or parity q 0 }
 {
-    if q < Job::QUBITS { parity[q] } else { 0 }
+    parity.get(q).copied().unwrap_or(0)
+}
+
+// The parities, or the flips, after a CNOT; nothing changes where a wire is past the end.
+pub fn joined(parity: [u32; Job::QUBITS], control: usize, target: usize) -> [u32; Job::QUBITS]
+    ensures { result ≡ cnot control target parity }
+{
+    let mut next = parity;
+    if target < Job::QUBITS {
+        next[target] = borne_on(parity, control) ^ parity[target];
+    }
+    next
 }
 
 // The flips after an X.
 pub fn turned_over(flip: [u32; Job::QUBITS], q: usize) -> [u32; Job::QUBITS]
     ensures { result ≡ flip_step (X q) flip }
 {
+    let mut next = flip;
     if q < Job::QUBITS {
-        let mut next = flip;
         next[q] = 1 ^ flip[q];
-        return next;
     }
-    flip
+    next
 }
 
 // What an angle comes to in its parity's sum, on a wire of that flip.
+#[tactic(auto, using(std::proofs::lemmas::Bool::Decides::nat_tests), unfolding(crate::specs::Circuit::takes))]
 pub fn taken(flip: u32, angle: u32) -> u32
     ensures { result ≡ takes flip angle }
 {
@@ -62,6 +59,7 @@ pub fn taken(flip: u32, angle: u32) -> u32
 }
 
 // And what it adds to the common phase, in half units.
+#[tactic(auto, using(std::proofs::lemmas::Bool::Decides::nat_tests), unfolding(crate::specs::Phase::shifts))]
 pub fn shift(flip: u32, angle: u32) -> u32
     ensures { result ≡ shifts flip angle }
 {
@@ -69,6 +67,7 @@ pub fn shift(flip: u32, angle: u32) -> u32
 }
 
 // Two common phases together.
+#[tactic(auto, unfolding(crate::specs::Phase::phases))]
 pub fn together(a: u32, b: u32) -> u32
     ensures { result ≡ phases a b }
 {
@@ -76,6 +75,7 @@ pub fn together(a: u32, b: u32) -> u32
 }
 
 impl Wires {
+    #[tactic(auto, unfolding(crate::specs::State::wires_of, crate::specs::Circuit::run, crate::specs::Circuit::start, sets::specs::Columns::units, crate::specs::Flips::flip_run, crate::specs::Flips::no_flips))]
     pub fn new() -> Self
         ensures { result ≡ wires_of [] }
     {
@@ -91,25 +91,17 @@ impl Wires {
     pub fn feed(self, g: Gate) -> Self
         ensures { result ≡ fed_wires self g }
     {
+        let Wires { parity, flip } = self;
         match g {
-            Gate::Cnot { control, target } => {
-                let parity = self.parity;
-                let flip = self.flip;
-                Wires {
-                    parity: joined(parity, control, target),
-                    flip: joined(flip, control, target),
-                }
-            }
-            Gate::Rotation { qubit: _, angle: _ } => self,
-            Gate::X { qubit } => {
-                let parity = self.parity;
-                let flip = self.flip;
-                Wires {
-                    parity,
-                    flip: turned_over(flip, qubit),
-                }
-            }
-            Gate::Bad => self,
+            Gate::Cnot { control, target } => Wires {
+                parity: joined(parity, control, target),
+                flip: joined(flip, control, target),
+            },
+            Gate::X { qubit } => Wires {
+                parity,
+                flip: turned_over(flip, qubit),
+            },
+            Gate::Rotation { .. } | Gate::Bad => self,
         }
     }
 }

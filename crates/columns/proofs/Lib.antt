@@ -7,3 +7,4 @@ pub mod Laid
 pub mod Parts
 pub mod Struck
 pub mod Inside
+pub mod Working

@@ -5,12 +5,9 @@ use Prim.Native.Nat.{ℕ, min, ◌<◌}
 use native.Mathlib.Omega.{arith}
 use native.Mathlib.Decide.{dec_lt}
 use lib.ListN.{length, take}
-use lib.Seq.{length-take-le, take_all}
+use lib.Seq.{take_all}
 
 module _ (count : ℕ) (xs : List ℕ) (all : length xs ≡ 256) (n : ℕ) (e : n ≡ min count 256) where
-  pub part-long : n ≡ length (take n xs)
-  part-long = sym (length-take-le n xs (omega (arith, e)))
-
   pub part-is : take n xs ≡ take count xs
   part-is = go (dec_lt count 256)
     where

@@ -31,10 +31,6 @@ pub alone-yes : (x : ℕ) → single_of x ≡ true → x ≡ alone_of x
 unfolding alone_of
 alone-yes x e = rw e
 
-pub alone-no : (x : ℕ) → single_of x ≡ false → 0 ≡ alone_of x
-unfolding alone_of
-alone-no x e = rw e
-
 singles-cons : (x : ℕ) (xs : List ℕ) → singles_of (x ∷ xs) ≡ bit_or (alone_of x) (singles_of xs)
 unfolding singles_of
 singles-cons x xs = refl

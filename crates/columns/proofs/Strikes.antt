@@ -48,12 +48,12 @@ lone-many q x e = rw e
 -- ---- one column, as the code leaves it
 
 module _ (q : ℕ) (angles : List ℕ) (k : ℕ) (xs out : List ℕ) (at : ℕ) where
-  pub struck : (x : ℕ) {out' : List ℕ} {a v : ℕ} → x ≡ get_or xs k 0 → single_of x ≡ true → lowest_of x ≡ q → v ≡ get_or angles k 0 → out' ≡ emit out at (Rotation q v ∷ []) → a ≡ emit_at out at (Rotation q v ∷ [])
+  pub struck : {out' : List ℕ} {a v : ℕ} → lone_at q (get_or xs k 0) ≡ true → v ≡ get_or angles k 0 → out' ≡ emit out at (Rotation q v ∷ []) → a ≡ emit_at out at (Rotation q v ∷ [])
       → held (set xs k 0) out' a ≡ wrote out at (strike_one q angles k xs)
   unfolding wrote
-  struck x ex e h ev eo ea =
+  struck e ev eo ea =
       held-is refl (eo ∙ ap (λ (w : ℕ). emit out at (Rotation q w ∷ [])) ev) (ea ∙ ap (λ (w : ℕ). emit_at out at (Rotation q w ∷ [])) ev)
-      ∙ ap (wrote out at) (sym (strike-yes q angles k xs (ap (lone_at q) (sym ex) ∙ lone-yes q x e h)))
+      ∙ ap (wrote out at) (sym (strike-yes q angles k xs e))
 
   pub not-struck : lone_at q (get_or xs k 0) ≡ false → held xs out at ≡ wrote out at (strike_one q angles k xs)
   not-struck e = wrote_none out at xs ∙ ap (wrote out at) (sym (strike-no q angles k xs e))

@@ -4,3 +4,5 @@
 
 pub mod striking;
 pub mod turning;
+pub mod way;
+pub mod work;

@@ -1,5 +1,5 @@
 -- The front of what is printed, and where the first part begins. Assumes nothing.
-use mathlib.Core.Path.{◌≡◌, refl, sym, ap, ap₂, ◌∙◌, subst}
+use mathlib.Core.Path.{◌≡◌, refl, sym, ap, ap₂, ◌∙◌}
 use mathlib.Core.Bool.{Bool}
 use mathlib.Core.List.{List, []}
 use Prim.Native.Nat.{ℕ, ◌+◌, ◌≤◌}
@@ -7,18 +7,17 @@ use native.Mathlib.Omega.{arith}
 use lib.ListN.{length, take}
 use lib.Seq.{length-take-le}
 use borrow.Author.Tests.{eq-eqb, ne_eqb}
+use Rattle.std.specs.Prelude.{Result, Ok, Err}
+use Rattle.verdicts.specs.declared.verdict.Refusal.{Refusal}
 use Rattle.sets.specs.Pick.{pick}
 use Rattle.gates.specs.declared.job.Job.{Job}
-use Rattle.verdicts.specs.declared.verdict.Verdict.{Verdict}
-use Rattle.verdicts.specs.Verdicts.{number_of}
+use Rattle.verdicts.specs.Verdicts.{Verdict, number_of}
 use Rattle.chip.specs.Couplers.{near_of}
 use Rattle.chip.specs.Ordered.{ordered_list}
 use Rattle.stretches.specs.Tests.{judged_stretches}
 use Rattle.lines.specs.Lines.{text_of}
 use Rattle.reading.specs.Parsing.{parsed}
-use Rattle.reading.specs.Readings.{couplers_in, gates_in, job_in, read_job, judged_reading, reading_of, read_verdict, lent_after}
-use Rattle.reading.specs.declared.read.Reading.{Reading}
-use Rattle.reading.specs.declared.read.Reading.TheVariants.{Read, Refused}
+use Rattle.reading.specs.Readings.{couplers_in, gates_in, job_in, read_job, judged_reading, reading_of, lent_after}
 use Rattle.reading.proofs.Said.{read-says}
 use Rattle.console.specs.Printed.{most_coupler_lines, most_gate_lines, most_printed, Prints, refusal_of}
 use Rattle.console.specs.Parts.{front_job, front_text, first_part, first_of_text, Begins}
@@ -46,18 +45,18 @@ module _ (n : ℕ) (xs ys : List ℕ) where
 
 -- ---- a text
 
-module _ (s cs₀ gs₀ cs gs : List ℕ) (lc : length cs₀ ≡ most_coupler_lines) (lg : length gs₀ ≡ most_gate_lines) (r : Reading)
-    (e : r ≡ reading_of s (length cs₀) (length gs₀)) (f : cs ≡ lent_after (read_verdict r) (couplers_in (parsed s)) cs₀) (g : gs ≡ lent_after (read_verdict r) (gates_in (parsed s)) gs₀) (out out' : List ℕ) (bytes from : ℕ) where
+module _ (s cs₀ gs₀ cs gs : List ℕ) (lc : length cs₀ ≡ most_coupler_lines) (lg : length gs₀ ≡ most_gate_lines) (r : Result Job Refusal)
+    (e : r ≡ reading_of s (length cs₀) (length gs₀)) (f : cs ≡ lent_after r (couplers_in (parsed s)) cs₀) (g : gs ≡ lent_after r (gates_in (parsed s)) gs₀) (out out' : List ℕ) (bytes from : ℕ) where
   reading : r ≡ reading_of s most_coupler_lines most_gate_lines
   reading = e ∙ ap₂ (reading_of s) lc lg
 
-  couplers-are : cs ≡ lent_after (read_verdict (reading_of s most_coupler_lines most_gate_lines)) (couplers_in (parsed s)) cs₀
-  couplers-are = f ∙ ap (λ (x : Reading). lent_after (read_verdict x) (couplers_in (parsed s)) cs₀) reading
+  couplers-are : cs ≡ lent_after (reading_of s most_coupler_lines most_gate_lines) (couplers_in (parsed s)) cs₀
+  couplers-are = f ∙ ap (λ (x : Result Job Refusal). lent_after x (couplers_in (parsed s)) cs₀) reading
 
-  gates-are : gs ≡ lent_after (read_verdict (reading_of s most_coupler_lines most_gate_lines)) (gates_in (parsed s)) gs₀
-  gates-are = g ∙ ap (λ (x : Reading). lent_after (read_verdict x) (gates_in (parsed s)) gs₀) reading
+  gates-are : gs ≡ lent_after (reading_of s most_coupler_lines most_gate_lines) (gates_in (parsed s)) gs₀
+  gates-are = g ∙ ap (λ (x : Result Job Refusal). lent_after x (gates_in (parsed s)) gs₀) reading
 
-  pub begun-read : (j : Job) → r ≡ Read j → Prints most_printed (front_job j.qubits (take j.couplers cs) (take j.gates gs)) out bytes out' → from ≡ first_part j.qubits (take j.couplers cs) (take j.gates gs)
+  pub begun-read : (j : Job) → r ≡ Ok j → Prints most_printed (front_job j.qubits (take j.couplers cs) (take j.gates gs)) out bytes out' → from ≡ first_part j.qubits (take j.couplers cs) (take j.gates gs)
       → Begins s cs₀ gs₀ out (record { job = j; bytes = bytes; from = from }) cs gs out'
   unfolding front_text first_of_text
   begun-read j d p k = record {
@@ -71,7 +70,7 @@ module _ (s cs₀ gs₀ cs gs : List ℕ) (lc : length cs₀ ≡ most_coupler_li
     gates_read = gates-are;
   }
 
-  pub begun-unread : (v : Verdict) → r ≡ Refused v → Prints most_printed (refusal_of v) out bytes out'
+  pub begun-unread : (v : Refusal) → r ≡ Err v → Prints most_printed (refusal_of (Err v)) out bytes out'
       → Begins s cs₀ gs₀ out (record { job = record { qubits = 0; couplers = 0; gates = 0 }; bytes = bytes; from = 1 }) cs gs out'
   unfolding front_text first_of_text
   begun-unread v d p = record {
@@ -83,23 +82,19 @@ module _ (s cs₀ gs₀ cs gs : List ℕ) (lc : length cs₀ ≡ most_coupler_li
     gates_read = gates-are;
   }
 
--- under another name of the text
-pub begins-same : {s t cs gs out cs' gs' out' : List ℕ} {r : Begun} → s ≡ t → Begins s cs gs out r cs' gs' out' → Begins t cs gs out r cs' gs' out'
-begins-same {cs = cs} {gs = gs} {out = out} {cs' = cs'} {gs' = gs'} {out' = out'} {r = r} e b = subst (λ (x : List ℕ). Begins x cs gs out r cs' gs' out') e b
-
 -- ---- what beginning leaves can be lent on: the lists of the job, at the front of their memories
 
 module _ {s cs gs out cs' gs' out' : List ℕ} {r : Begun} (b : Begins s cs gs out r cs' gs' out') where
-  abbrev said : Reading
+  abbrev said : Result Job Refusal
   said = reading_of s most_coupler_lines most_gate_lines
 
-  counted : (w : Reading) → said ≡ w → (r.job.couplers ≤ length cs') × (r.job.gates ≤ length gs')
-  counted (Read j) e =
+  counted : (w : Result Job Refusal) → said ≡ w → (r.job.couplers ≤ length cs') × (r.job.gates ≤ length gs')
+  counted (Ok j) e =
       let q : r.job ≡ job_in (parsed s) = b.job ∙ ap read_job e ∙ (read-says s most_coupler_lines most_gate_lines j e).1 in (
-        front_fits (couplers_in (parsed s)) cs cs' r.job.couplers (ap (λ (i : Job). i.couplers) q ∙ couplers-counted (parsed s)) (b.couplers_read ∙ ap (λ (x : Reading). lent_after (read_verdict x) (couplers_in (parsed s)) cs) e),
-        front_fits (gates_in (parsed s)) gs gs' r.job.gates (ap (λ (i : Job). i.gates) q ∙ gates-counted (parsed s)) (b.gates_read ∙ ap (λ (x : Reading). lent_after (read_verdict x) (gates_in (parsed s)) gs) e),
+        front_fits (couplers_in (parsed s)) cs cs' r.job.couplers (ap (λ (i : Job). i.couplers) q ∙ couplers-counted (parsed s)) (b.couplers_read ∙ ap (λ (x : Result Job Refusal). lent_after x (couplers_in (parsed s)) cs) e),
+        front_fits (gates_in (parsed s)) gs gs' r.job.gates (ap (λ (i : Job). i.gates) q ∙ gates-counted (parsed s)) (b.gates_read ∙ ap (λ (x : Result Job Refusal). lent_after x (gates_in (parsed s)) gs) e),
       )
-  counted (Refused v) e =
+  counted (Err v) e =
       let q : r.job ≡ record { qubits = 0; couplers = 0; gates = 0 } = b.job ∙ ap read_job e in
       (omega (arith, ap (λ (i : Job). i.couplers) q), omega (arith, ap (λ (i : Job). i.gates) q))
 

@@ -9,10 +9,10 @@ use lib.Dec.{eqb, leb, ltb}
 use lib.ListN.{length, get_or, take}
 use lib.Seq.{take_all, length-take-le}
 use borrow.Author.Tests.{eqb-true, leb-true, leb-false, ltb-true, ltb-false}
+use Rattle.std.specs.Prelude.{Err}
 use Rattle.sets.specs.Pick.{pick}
-use Rattle.verdicts.specs.declared.verdict.Verdict.{Verdict}
-use Rattle.verdicts.specs.declared.verdict.Verdict.TheVariants.{LongText}
-use Rattle.verdicts.specs.Verdicts.{number_of, place_of}
+use Rattle.verdicts.specs.declared.verdict.Refusal.TheVariants.{LongText}
+use Rattle.verdicts.specs.Verdicts.{Verdict, number_of, place_of, verdict_in}
 use Rattle.verdicts.proofs.Judged.{no_nine}
 use Rattle.tallies.specs.Tally.{largest}
 use Rattle.judging.specs.Tests.{verdict_of}
@@ -25,7 +25,7 @@ use Rattle.lines.specs.Lines.{fields_text, line_text, text_of, refusal_text, cou
 use Rattle.lines.proofs.Digits.{digits-small, digits-big}
 use Rattle.reading.specs.Limits.{most_bytes}
 use Rattle.reading.specs.Parsing.{parsed}
-use Rattle.reading.specs.Readings.{couplers_in, gates_in, job_in, judged_reading, read_verdict}
+use Rattle.reading.specs.Readings.{couplers_in, gates_in, job_in, judged_reading}
 use Rattle.reading.proofs.Answers.{answer-long}
 use Rattle.reading.proofs.Enough as reads
 use Rattle.text.proofs.Values.{reading-verdict}
@@ -131,19 +131,19 @@ module _ (s : List ℕ) where
 
 -- a text above its limit is refused with 11, whatever it holds
 module _ (s : List ℕ) (long : most_bytes < length s) where
-  judged-long : judged_reading s most_coupler_lines most_gate_lines ≡ LongText
-  judged-long = sym (reading-verdict s most_coupler_lines most_gate_lines) ∙ sym (ap read_verdict (answer-long s most_coupler_lines most_gate_lines long))
+  judged-long : judged_reading s most_coupler_lines most_gate_lines ≡ Err LongText
+  judged-long = sym (reading-verdict s most_coupler_lines most_gate_lines) ∙ sym (ap verdict_in (answer-long s most_coupler_lines most_gate_lines long))
 
-  refused-long : (text : List ℕ) → unless (judged_reading s most_coupler_lines most_gate_lines) text ≡ refusal_of LongText
+  refused-long : (text : List ℕ) → unless (judged_reading s most_coupler_lines most_gate_lines) text ≡ refusal_of (Err LongText)
   refused-long text =
       sym (unless-refused (judged_reading s most_coupler_lines most_gate_lines) text (λ z. let y : ◌≡◌ {A = ℕ} 11 0 = sym (ap number_of judged-long) ∙ z in omega arith))
       ∙ ap refusal_of judged-long
 
-  laid-long : laid_text s ≡ refusal_of LongText
+  laid-long : laid_text s ≡ refusal_of (Err LongText)
   unfolding laid_text
   laid-long = refused-long _
 
-  counted-long : counted_text s ≡ refusal_of LongText
+  counted-long : counted_text s ≡ refusal_of (Err LongText)
   unfolding counted_text
   counted-long = refused-long _
 
@@ -152,7 +152,7 @@ module _ (s : List ℕ) where
   abbrev seen : List ℕ
   seen = take (most_bytes + 1) s
 
-  pub either-length : (f : List ℕ → List ℕ) → ((t : List ℕ) → most_bytes < length t → f t ≡ refusal_of LongText) → f (take (most_bytes + 1) s) ≡ f s
+  pub either-length : (f : List ℕ → List ℕ) → ((t : List ℕ) → most_bytes < length t → f t ≡ refusal_of (Err LongText)) → f (take (most_bytes + 1) s) ≡ f s
   either-length f long = go (leb (length s) (most_bytes + 1)) refl
     where
       go : (b : Bool) → leb (length s) (most_bytes + 1) ≡ b → f seen ≡ f s

@@ -4,7 +4,9 @@ pub mod Passing
 pub mod Whole
 pub mod Reading
 pub mod Writing
+pub mod Forms
 pub mod Partly
+pub mod Going
 pub mod Tallying
 pub mod Beginning
 pub mod InParts

@@ -5,22 +5,21 @@ use mathlib.Core.List.{List, [], ◌∷◌, ◌++◌}
 use Prim.Native.Nat.{ℕ, zero, suc, ◌+◌, ◌≤◌, ◌<◌}
 use native.Mathlib.Omega.{arith}
 use native.Mathlib.Decide.{dec_lt}
-use lib.ListN.{length, drop, length-map, length-append, length-take}
+use lib.ListN.{length, length-append}
 use lib.Seq.{sets, length-sets}
 use borrow.Author.Tests.{le-leb, lt-leb}
 use Rattle.sets.specs.Pick.{pick}
-use Rattle.gates.specs.Layout.{record_of}
-use Rattle.verdicts.specs.declared.verdict.Verdict.{Verdict}
+use Rattle.std.specs.Prelude.{Ok, Err}
+use Rattle.verdicts.specs.declared.verdict.Refusal.{Refusal}
 use Rattle.verdicts.specs.Verdicts.{number_of}
+use Rattle.verdicts.proofs.Judged.{stopped}
 use Rattle.tallies.specs.Tally.{largest}
-use Rattle.laying.specs.declared.lay.Answer.{Answer}
-use Rattle.laying.specs.declared.lay.Answer.TheVariants.{Laid, Refused}
+use Rattle.laying.specs.declared.lay.Laid.{Laid}
 use Rattle.judging.specs.Tests.{verdict_of}
-use Rattle.laying.specs.Answers.{circuit_of, answered, output_of, phase_in}
-use Rattle.laying.proofs.Demands.{demand-2-fits}
+use Rattle.laying.specs.Answers.{Answer, answered, output_of, phase_in}
 use Rattle.laying.proofs.Said.{refused_says}
 use Rattle.sets.specs.Lists.{All}
-use Rattle.stretches.specs.Stretches.{end_at, stretch_at, rest_from}
+use Rattle.stretches.specs.Stretches.{stretch_at, rest_from}
 use Rattle.stretches.specs.Asked.{Accepts}
 use Rattle.stretches.specs.Laid.{stretch_records}
 use Rattle.stretches.specs.Parts.{hadamard_at, part_at, laid_from}
@@ -28,13 +27,11 @@ use Rattle.stretches.proofs.Alone.{alone-counts}
 use Rattle.sets.proofs.Lists.{all_head, all_tail}
 use Rattle.stretches.proofs.Judging.{lent-step}
 use Rattle.stretches.proofs.Parting.{parts_none, parts-step}
-use Rattle.lines.specs.Lines.{record_text, records_text}
-use Rattle.lines.specs.Lent.{lines_end, lines_at}
-use Rattle.lines.proofs.Writes.{Wrote, wrote_then, sets-onto, records-append, text-length}
+use Rattle.lines.specs.Lent.{lines_end, lines_at, Wrote}
+use Rattle.lines.proofs.Writes.{wrote_then, sets-onto}
 use Rattle.lines.proofs.Joined.{joined-append}
 use Rattle.lines.proofs.Recorded.{lines_fit}
-use Rattle.reading.proofs.Sizes.{text-most}
-use Rattle.console.specs.Printed.{most_printed, Prints, refusal_of, unless}
+use Rattle.console.specs.Printed.{Prints, refusal_of, unless}
 use Rattle.console.specs.Parts.{part_text, next_part, share_part, parts_from}
 use Rattle.console.proofs.Choosing.{unless-passed, unless-refused}
 
@@ -63,38 +60,23 @@ module _ (room : ℕ) (line : ℕ → List ℕ) (text : List ℕ → List ℕ) (
         memory = w.1 ∙ ap (sets out 0) (sym e) ∙ sets-onto (text (R ++ h)) out l;
       }
 
--- as the lines of a job
-pub records-printed : (R h L out out₁ out₂ : List ℕ) (at bytes : ℕ) → length out ≡ most_printed → L ≡ R → length R ≤ largest → length h ≤ 1
-    → at ≡ lines_end record_text L 0 (length out) → out₁ ≡ lines_at record_text L 0 out → bytes ≡ lines_end record_text h at (length out₁) → out₂ ≡ lines_at record_text h at out₁
-    → Prints most_printed (records_text (R ++ h)) out bytes out₂
-unfolding records_text
-records-printed R h L out out₁ out₂ at bytes lent is few one =
-    both-printed most_printed record_text records_text refl (λ x xs. refl) R h L out out₁ out₂ at bytes lent is
-    (omega (arith, text-most 0 [] (R ++ h) (omega arith), text-length 0 [] (R ++ h), ap length (records-append R h), length-append (records_text R) (records_text h), length-append R h, few, one))
-
 -- a stretch that was laid into a memory, which was `old`
 module _ (n : ℕ) (xs s old : List ℕ) (long : length old ≡ largest) (a : Answer) (e : a ≡ answered n xs s (length old)) where
   at-largest : answered n xs s largest ≡ a
   at-largest = sym (ap (answered n xs s) long) ∙ sym e
 
-  module _ (laid : List ℕ) (m : laid ≡ output_of n xs s old) (k c t d f : ℕ) (l : a ≡ Laid k c t d f) where
+  module _ (laid : List ℕ) (m : laid ≡ output_of n xs s old) (r : Laid) (l : a ≡ Ok r) where
     pub laid-passed : number_of (verdict_of n xs s largest) ≡ 0
-    laid-passed = sym (ap (λ (room : ℕ). number_of (verdict_of n xs s room)) long) ∙ (alone-counts n xs s old laid long a e m k c t d f l).passed
+    laid-passed = sym (ap (λ (room : ℕ). number_of (verdict_of n xs s room)) long) ∙ (alone-counts n xs s old laid long a e m r l).passed
 
-    pub records-few : length (stretch_records n xs s) ≤ largest
-    records-few = omega (arith, length-map (circuit_of n xs s) record_of, demand-2-fits n xs s largest laid-passed)
-
-    pub laid_said : (text : List ℕ) → text ≡ unless (verdict_of n xs s largest) text
-    laid_said text = unless-passed (verdict_of n xs s largest) text laid-passed
-
-    pub laid-share : f ≡ phase_in (answered n xs s largest)
+    pub laid-share : r.phase ≡ phase_in (answered n xs s largest)
     laid-share = sym (ap phase_in (at-largest ∙ l))
 
-  module _ (v : Verdict) (l : a ≡ Refused v) where
-    pub refused-said : (text : List ℕ) → refusal_of v ≡ unless (verdict_of n xs s largest) text
+  module _ (v : Refusal) (l : a ≡ Err v) where
+    pub refused-said : (text : List ℕ) → refusal_of (Err v) ≡ unless (verdict_of n xs s largest) text
     refused-said text =
         let r = refused_says n xs s largest v (at-largest ∙ l) in
-        ap refusal_of r.1 ∙ unless-refused (verdict_of n xs s largest) text r.0
+        ap refusal_of (sym r) ∙ unless-refused (verdict_of n xs s largest) text (stopped refl r)
 
     pub refused-share : 0 ≡ phase_in (answered n xs s largest)
     refused-share = sym (ap phase_in (at-largest ∙ l))
@@ -131,9 +113,6 @@ module _ (n : ℕ) (xs ys : List ℕ) (k : ℕ) where
     unfolding share_part
     part-share =
         ap (λ (t : List ℕ). phase_in (answered n xs t largest)) e ∙ sym (ap (λ (b : Bool). pick b (phase_in (answered n xs (stretch_at n ys k) largest)) 0) (le-leb k (length ys) l))
-
-    pub behind-one : length h ≤ 1
-    behind-one = omega (arith, ap length d, length-take 1 (drop (end_at n ys k) ys))
 
 -- the next part begins later, so that the program ends: m is the place of the next part, g the number of gates
 pub next-later : (n : ℕ) (ys : List ℕ) (k g m : ℕ) → g ≡ length ys → k ≤ g → m ≡ next_part n ys k → k < m

@@ -6,11 +6,12 @@ use Prim.Native.Nat.{ℕ, ◌≤◌, ◌<◌}
 use native.Mathlib.Omega.{arith}
 use lib.ListN.{length, get_or}
 use borrow.Author.Tests.{le-ltb}
+use Rattle.std.specs.Prelude.{Ok, Err}
 use Rattle.sets.specs.Pick.{pick}
 use Rattle.sets.proofs.Finding.{first-is}
 use Rattle.gates.specs.Limits.{most_qubits, most_couplers}
 use Rattle.gates.specs.Layout.{packed, coupler_of, is_wrong}
-use Rattle.verdicts.specs.declared.verdict.Verdict.TheVariants.{Accepted, ManyCouplers, WrongCoupler}
+use Rattle.verdicts.specs.declared.verdict.Refusal.TheVariants.{ManyCouplers, WrongCoupler}
 use Rattle.verdicts.specs.Verdicts.{first_failing, wrong_at, judged_couplers}
 use Rattle.chip.specs.Graph.{Near}
 use Rattle.chip.specs.Couplers.{near_of}
@@ -26,10 +27,10 @@ order-right n xs few k h = go (ordered-sound (near_of n xs) k h)
         let u = near-below n xs a b r in
         ap (λ (x : ℕ). is_wrong (coupler_of n x)) q ∙ ap is_wrong (coupler-packed n a b (omega arith) u.0 u.1 (λ (z : a ≡ b). omega arith))
 
-pub order-accepted : (n : ℕ) (xs : List ℕ) → n ≤ most_qubits → judged_couplers n (ordered_list (near_of n xs)) ≡ Accepted
+pub order-accepted : (n : ℕ) (xs : List ℕ) → n ≤ most_qubits → judged_couplers n (ordered_list (near_of n xs)) ≡ Ok tt
 unfolding judged_couplers wrong_at first_failing
 order-accepted n xs few =
     let L = ordered_list (near_of n xs) in
     let f : ℕ → Bool = λ k. is_wrong (coupler_of n (get_or L k 0)) in
     let w : wrong_at n L ≡ length L = first-is f (length L) (length L) (omega arith) (λ (z : length L < length L). absurd (omega arith)) (order-right n xs few) in
-    ap₂ (λ (s t : Bool). pick s ManyCouplers (pick t (WrongCoupler (wrong_at n L)) Accepted)) (le-ltb most_couplers (length L) (ordered-few (near_of n xs))) (le-ltb (wrong_at n L) (length L) (omega (arith, w)))
+    ap₂ (λ (s t : Bool). pick s (Err ManyCouplers) (pick t (Err (WrongCoupler (wrong_at n L))) (Ok tt))) (le-ltb most_couplers (length L) (ordered-few (near_of n xs))) (le-ltb (wrong_at n L) (length L) (omega (arith, w)))

@@ -3,14 +3,13 @@ use mathlib.Core.Path.{◌≡◌, refl, sym, ap, ap₂, ◌∙◌}
 use mathlib.Core.List.{List}
 use Prim.Native.Nat.{ℕ, ◌≤◌}
 use lib.ListN.{length, take}
+use Rattle.std.specs.Prelude.{Result, Ok, Err}
+use Rattle.verdicts.specs.declared.verdict.Refusal.{Refusal}
 use Rattle.gates.specs.declared.job.Job.{Job}
-use Rattle.verdicts.specs.declared.verdict.Verdict.{Verdict}
 use Rattle.verdicts.specs.Verdicts.{number_of}
 use Rattle.lines.specs.Lent.{onto}
 use Rattle.reading.specs.Parsing.{Parsed, misfit, job, parsed}
-use Rattle.reading.specs.Readings.{couplers_in, gates_in, job_in, judged_reading, reading_of, read_verdict, lent_after}
-use Rattle.reading.specs.declared.read.Reading.{Reading}
-use Rattle.reading.specs.declared.read.Reading.TheVariants.{Read, Refused}
+use Rattle.reading.specs.Readings.{couplers_in, gates_in, job_in, judged_reading, reading_of, lent_after}
 use Rattle.reading.proofs.Said.{read-says, unread-says}
 use Rattle.console.specs.Printed.{most_coupler_lines, most_gate_lines, refusal_of, unless}
 use Rattle.console.proofs.Fronts.{front_fits, front_long, front-is}
@@ -25,8 +24,8 @@ gates-counted (misfit k) = refl
 gates-counted (job n es gs) = refl
 
 -- a text that was read: j, and the lists at the front of cs and gs
-module _ (s cs₀ gs₀ cs gs : List ℕ) (lc : length cs₀ ≡ most_coupler_lines) (lg : length gs₀ ≡ most_gate_lines) (r : Reading) (j : Job)
-    (e : r ≡ reading_of s (length cs₀) (length gs₀)) (d : r ≡ Read j) (f : cs ≡ lent_after (read_verdict r) (couplers_in (parsed s)) cs₀) (g : gs ≡ lent_after (read_verdict r) (gates_in (parsed s)) gs₀) where
+module _ (s cs₀ gs₀ cs gs : List ℕ) (lc : length cs₀ ≡ most_coupler_lines) (lg : length gs₀ ≡ most_gate_lines) (r : Result Job Refusal) (j : Job)
+    (e : r ≡ reading_of s (length cs₀) (length gs₀)) (d : r ≡ Ok j) (f : cs ≡ lent_after r (couplers_in (parsed s)) cs₀) (g : gs ≡ lent_after r (gates_in (parsed s)) gs₀) where
   both_read : (number_of (judged_reading s most_coupler_lines most_gate_lines) ≡ 0) × (j ≡ job_in (parsed s))
   both_read = read-says s most_coupler_lines most_gate_lines j (sym (ap₂ (reading_of s) lc lg) ∙ sym e ∙ d)
 
@@ -43,10 +42,10 @@ module _ (s cs₀ gs₀ cs gs : List ℕ) (lc : length cs₀ ≡ most_coupler_li
   gates-count = ap (λ (k : Job). k.gates) the-job ∙ gates-counted (parsed s)
 
   couplers-there : cs ≡ onto (couplers_in (parsed s)) cs₀
-  couplers-there = f ∙ ap (λ (x : Reading). lent_after (read_verdict x) (couplers_in (parsed s)) cs₀) d
+  couplers-there = f ∙ ap (λ (x : Result Job Refusal). lent_after x (couplers_in (parsed s)) cs₀) d
 
   gates-there : gs ≡ onto (gates_in (parsed s)) gs₀
-  gates-there = g ∙ ap (λ (x : Reading). lent_after (read_verdict x) (gates_in (parsed s)) gs₀) d
+  gates-there = g ∙ ap (λ (x : Result Job Refusal). lent_after x (gates_in (parsed s)) gs₀) d
 
   pub couplers-within : j.couplers ≤ length cs
   couplers-within = front_fits (couplers_in (parsed s)) cs₀ cs j.couplers couplers-count couplers-there
@@ -75,11 +74,11 @@ module _ (s cs₀ gs₀ cs gs : List ℕ) (lc : length cs₀ ≡ most_coupler_li
       ∙ unless-passed (judged_reading s most_coupler_lines most_gate_lines) _ passed
 
 -- a text that was refused
-module _ (s : List ℕ) (a b : ℕ) (la : a ≡ most_coupler_lines) (lb : b ≡ most_gate_lines) (r : Reading) (v : Verdict) (e : r ≡ reading_of s a b) (d : r ≡ Refused v) where
-  no : (number_of (judged_reading s most_coupler_lines most_gate_lines) ≡ 0 → ⊥) × (v ≡ judged_reading s most_coupler_lines most_gate_lines)
+module _ (s : List ℕ) (a b : ℕ) (la : a ≡ most_coupler_lines) (lb : b ≡ most_gate_lines) (r : Result Job Refusal) (v : Refusal) (e : r ≡ reading_of s a b) (d : r ≡ Err v) where
+  no : (number_of (judged_reading s most_coupler_lines most_gate_lines) ≡ 0 → ⊥) × (Err v ≡ judged_reading s most_coupler_lines most_gate_lines)
   no = unread-says s most_coupler_lines most_gate_lines v (sym (ap₂ (reading_of s) la lb) ∙ sym e ∙ d)
 
-  pub text-unread : (text : List ℕ) → refusal_of v ≡ unless (judged_reading s most_coupler_lines most_gate_lines) text
+  pub text-unread : (text : List ℕ) → refusal_of (Err v) ≡ unless (judged_reading s most_coupler_lines most_gate_lines) text
   text-unread text = ap refusal_of no.1 ∙ unless-refused (judged_reading s most_coupler_lines most_gate_lines) text no.0
 
   -- a text that is no job's has none

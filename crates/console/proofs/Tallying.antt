@@ -10,8 +10,7 @@ use Rattle.gates.specs.declared.gate.Gate.TheVariants.{Bad}
 use Rattle.gates.specs.Limits.{most_qubits, most_gates}
 use Rattle.gates.specs.Layout.{gate_of, gates_of, record_of}
 use Rattle.gates.proofs.Hadamards.{hadamard-bad}
-use Rattle.verdicts.specs.declared.verdict.Verdict.{Verdict}
-use Rattle.verdicts.specs.Verdicts.{number_of}
+use Rattle.verdicts.specs.Verdicts.{Verdict, number_of}
 use Rattle.tallies.specs.Tally.{tally, one_cnot, one_rotation, cnots_of, rotations_of, layered, layers_from, layers_after, highest, depth_of, bound_of, largest}
 use Rattle.tallies.proofs.Tallies.{cnots-append, rotations-append, cnots-most, rotations-most}
 use Rattle.tallies.proofs.DepthLaws.{highest-layers}

@@ -2,6 +2,7 @@
 use Rattle.std.specs.Prelude.{◌≡◌, List, [], ◌++◌, ℕ, zero, suc, ◌+◌, eqb, leb, length}
 use Rattle.sets.specs.Pick.{pick}
 use Rattle.verdicts.specs.Verdicts.{number_of}
+use Rattle.circuit.specs.Phase.{phases}
 use Rattle.tallies.specs.Tally.{largest}
 use Rattle.chip.specs.Couplers.{near_of}
 use Rattle.chip.specs.Ordered.{ordered_list}
@@ -13,7 +14,7 @@ use Rattle.stretches.specs.Laid.{stretch_records}
 use Rattle.stretches.specs.Parts.{hadamard_at}
 use Rattle.lines.specs.Lines.{text_of}
 use Rattle.reading.specs.Parsing.{parsed}
-use Rattle.reading.specs.Readings.{couplers_in, gates_in, job_in, read_job, judged_reading, reading_of, read_verdict, lent_after}
+use Rattle.reading.specs.Readings.{couplers_in, gates_in, job_in, read_job, judged_reading, reading_of, lent_after}
 use Rattle.console.specs.Printed.{most_coupler_lines, most_gate_lines, most_printed, Prints, unless, printed_for}
 use Rattle.console.specs.declared.printing.Begun.{Begun}
 
@@ -39,8 +40,8 @@ pub record Begins (s couplers gates out : List ℕ) (r : Begun) (couplers' gates
   pub prints : Prints most_printed (front_text s) out r.bytes out'
   pub job : r.job ≡ read_job (reading_of s most_coupler_lines most_gate_lines)
   pub from : r.from ≡ first_of_text s
-  pub couplers_read : couplers' ≡ lent_after (read_verdict (reading_of s most_coupler_lines most_gate_lines)) (couplers_in (parsed s)) couplers
-  pub gates_read : gates' ≡ lent_after (read_verdict (reading_of s most_coupler_lines most_gate_lines)) (gates_in (parsed s)) gates
+  pub couplers_read : couplers' ≡ lent_after (reading_of s most_coupler_lines most_gate_lines) (couplers_in (parsed s)) couplers
+  pub gates_read : gates' ≡ lent_after (reading_of s most_coupler_lines most_gate_lines) (gates_in (parsed s)) gates
 
 -- ---- the part of the stretch that begins at k: its gates, and the Hadamard behind it, as `text` writes records; nothing above the number of gates
 
@@ -61,3 +62,17 @@ share_part n couplers gates k = pick (leb k (length gates)) (phase_in (answered 
 unfoldable pub parts_from : (List ℕ → List ℕ) → ℕ → List ℕ → List ℕ → ℕ → ℕ → List ℕ
 parts_from text n couplers gates zero k = []
 parts_from text n couplers gates (suc f) k = part_text text n couplers gates k ++ parts_from text n couplers gates f (next_part n gates k)
+
+-- ---- the shares of the common phase of f parts, the first of which begins at k, added to g one by one
+
+unfoldable pub phase_from : ℕ → List ℕ → List ℕ → ℕ → ℕ → ℕ → ℕ
+phase_from n couplers gates zero k g = g
+phase_from n couplers gates (suc f) k g = phase_from n couplers gates f (next_part n gates k) (phases g (share_part n couplers gates k))
+
+-- those of all parts of a text; where it is refused there is none
+unfoldable pub phase_of_text : List ℕ → ℕ
+phase_of_text s =
+    let n = (job_in (parsed s)).qubits in
+    let couplers = couplers_in (parsed s) in
+    let gates = gates_in (parsed s) in
+    pick (eqb (number_of (judged_reading s most_coupler_lines most_gate_lines)) 0) (phase_from n couplers gates (length gates + 1) (first_part n couplers gates) 0) 0

@@ -1,16 +1,15 @@
 -- What the laying and the counting program print for a text, and the memory that they lend (document 01, "The job text").
-use Rattle.std.specs.Prelude.{◌≡◌, List, ℕ, ◌+◌, ◌*◌, eqb, length}
+use Rattle.std.specs.Prelude.{◌≡◌, List, [], ◌∷◌, ℕ, ◌+◌, ◌*◌, eqb, length}
 use Rattle.sets.specs.Pick.{pick}
 use Rattle.gates.specs.Limits.{most_couplers}
 use Rattle.gates.specs.Layout.{gates_of}
-use Rattle.verdicts.specs.declared.verdict.Verdict.{Verdict}
-use Rattle.verdicts.specs.Verdicts.{number_of, place_of}
+use Rattle.verdicts.specs.Verdicts.{Verdict, number_of, place_of}
 use Rattle.tallies.specs.Tally.{cnots_of, rotations_of, depth_of, largest}
 use Rattle.chip.specs.Couplers.{near_of}
 use Rattle.chip.specs.Ordered.{ordered_list}
 use Rattle.stretches.specs.Tests.{judged_stretches}
 use Rattle.stretches.specs.Laid.{job_records}
-use Rattle.lines.specs.Lines.{text_of, refusal_text, counts_text}
+use Rattle.lines.specs.Lines.{line_text, text_of, refusal_text, counts_text}
 use Rattle.lines.specs.Lent.{onto}
 use Rattle.reading.specs.Parsing.{parsed}
 use Rattle.reading.specs.Readings.{couplers_in, gates_in, job_in, judged_reading}
@@ -29,6 +28,10 @@ most_gate_lines = 16383
 abbrev pub most_printed : ℕ
 most_printed = 6 + 12 * most_couplers + 12 * largest
 
+-- an `x` line has at most 26: a number of two digits, and a place of at most twenty
+abbrev pub most_refused : ℕ
+most_refused = 26
+
 -- s is printed whole into `room` bytes of lent memory: r bytes at its front; what lies behind them stays
 pub record Prints (room : ℕ) (s out : List ℕ) (r : ℕ) (out' : List ℕ) : Type 0 where
   pub lent : length out ≡ room
@@ -40,6 +43,10 @@ pub record Prints (room : ℕ) (s out : List ℕ) (r : ℕ) (out' : List ℕ) : 
 -- "On refusal it prints only one line, parted by tabs: `x`, number, place"
 unfoldable pub refusal_of : Verdict → List ℕ
 refusal_of v = refusal_text (number_of v) (place_of v)
+
+-- a common phase in a line of its own, which begins with `p`; none where it is 0
+unfoldable pub phase_line : ℕ → List ℕ
+phase_line g = pick (eqb g 0) [] (line_text 112 (g ∷ []))
 
 -- the text, unless v refuses
 unfoldable pub unless : Verdict → List ℕ → List ℕ

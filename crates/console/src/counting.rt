@@ -11,16 +11,13 @@ ghost use Rattle.stretches.specs.Laid.{stretch_records, job_records};
 ghost use Rattle.reading.specs.Limits.{most_bytes};
 ghost use Rattle.console.specs.Printed.{most_printed, Prints, counted_job, counted_text};
 
-use crate::{COUPLER_LINES, GATE_LINES, INPUT, OUTPUT, refusing};
+use crate::{COUPLER_LINES, GATE_LINES, INPUT, OUTPUT, front, refusing};
 use laying::lay;
-use laying::lay::Answer;
 use lines::print;
 use reading::read;
-use reading::read::Reading;
 use stretches::{cut, judge};
 use tallies::depth::Layers;
 use tallies::tally;
-use verdicts::verdict;
 
 // What is counted so far, and the layer of the last CNOT on each wire.
 #[derive(Clone, Copy)]
@@ -37,21 +34,15 @@ fn count_stretch(n: usize, couplers: &[u32], stretch: &[u32], counts: Counts) ->
 {
     let mut laid = [0u32; tally::LARGEST];
     match lay::lay(n, couplers, stretch, &mut laid) {
-        Answer::Laid {
-            records,
-            cnots,
-            rotations,
-            depth: _,
-            phase: _,
-        } => {
+        Ok(more) => {
             let layers = counts.layers;
             Counts {
-                cnots: counts.cnots + cnots,
-                rotations: counts.rotations + rotations,
-                layers: layers.fed(&laid[..records], n),
+                cnots: counts.cnots + more.cnots,
+                rotations: counts.rotations + more.rotations,
+                layers: layers.fed(&laid[..more.records], n),
             }
         }
-        Answer::Refused { verdict: _ } => counts,
+        Err(_) => counts,
     }
 }
 
@@ -77,28 +68,36 @@ fn count_stretches(n: usize, couplers: &[u32], gates: &[u32]) -> Counts
 fn count_job(n: usize, couplers: &[u32], gates: &[u32], out: &mut [u8; OUTPUT]) -> usize
     ensures { Prints most_printed (counted_job n couplers.now gates.now) out.old result out.new }
 {
-    let verdict = judge::judge(n, couplers, gates);
-    if verdict::number(verdict) != 0 {
-        return refusing::print_refusal(verdict, out);
+    match judge::judge(n, couplers, gates) {
+        Ok(()) => {
+            let counts = count_stretches(n, couplers, gates);
+            let layers = counts.layers;
+            print::counts(counts.cnots, counts.rotations, layers.highest(), out)
+        }
+        Err(refusal) => refusing::print_refusal(Err(refusal), out),
     }
-    let counts = count_stretches(n, couplers, gates);
-    let layers = counts.layers;
-    print::counts(counts.cnots, counts.rotations, layers.highest(), out)
 }
 
-// `len` bytes of `input` were read.
-pub fn count_text(input: &[u8; INPUT], len: usize, out: &mut [u8; OUTPUT]) -> usize
-    ensures input_len { length input.now ≡ most_bytes + 1 }
-    ensures prints { Prints most_printed (counted_text (take len input.now)) out.old result out.new }
+// What is said of a text: the line of its counts, or a refusal.
+pub fn count(text: &[u8], out: &mut [u8; OUTPUT]) -> usize
+    ensures { Prints most_printed (counted_text text.now) out.old result out.new }
 {
     let mut couplers = [0u32; COUPLER_LINES];
     let mut gates = [0u32; GATE_LINES];
-    match read::read(refusing::front(input, len), &mut couplers, &mut gates) {
-        Reading::Read { job } => {
+    match read::read(text, &mut couplers, &mut gates) {
+        Ok(job) => {
             let c = job.couplers;
             let g = job.gates;
             count_job(job.qubits, &couplers[..c], &gates[..g], out)
         }
-        Reading::Refused { verdict } => refusing::print_refusal(verdict, out),
+        Err(refusal) => refusing::print_refusal(Err(refusal), out),
     }
+}
+
+// The same of `len` bytes of `input`.
+pub fn count_text(input: &[u8; INPUT], len: usize, out: &mut [u8; OUTPUT]) -> usize
+    ensures input_len { length input.now ≡ most_bytes + 1 }
+    ensures prints { Prints most_printed (counted_text (take len input.now)) out.old result out.new }
+{
+    count(front::first(input, len), out)
 }

@@ -1,5 +1,6 @@
 // What the two programs for jobs print for a text: it is read, judged, and laid stretch by stretch;
-// the first refusal decides. It knows texts and laying, and no operating system.
+// the first refusal decides. It knows texts and laying, and of the operating system only that it
+// can be written to.
 #![tactic(auto)]
 
 use gates::job::Job;
@@ -7,7 +8,11 @@ use reading::read;
 use tallies::tally;
 
 pub mod counting;
+pub mod form;
+pub mod front;
+pub mod parts;
 pub mod printing;
+pub mod programs;
 pub mod refusing;
 
 // Lent for what is read: one byte more than a job's text may have, so that the reader sees a longer one.

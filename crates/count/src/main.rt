@@ -6,6 +6,7 @@ ghost use Rattle.std.specs.Prelude.{OnOk};
 ghost use Rattle.streams.specs.Printing.{PrintsFor};
 ghost use Rattle.console.specs.Printed.{counted_text};
 
+use console::programs;
 use std::io;
 use std::io::{Read, Write};
 
@@ -14,9 +15,7 @@ fn count<R: Read, W: Write>(reader: &mut R, writer: &mut W) -> io::Result<()>
 {
     let mut input = [0u8; console::INPUT];
     let n = streams::read_full(reader, &mut input)?;
-    let mut out = [0u8; console::OUTPUT];
-    let k = console::counting::count_text(&input, n, &mut out);
-    writer.write_all(&out[..k])
+    programs::write_counts(writer, &input[..n])
 }
 
 // A read or a write that fails ends it, with the reason on standard error and exit status 1.

@@ -6,9 +6,12 @@ ghost use Rattle.emitting.specs.Emit.{next_at, Emits};
 use gates::gate;
 use gates::gate::Gate;
 
-// One record more, and the next place; nothing changes where there is no room.
+// One record more, and the next place; nothing changes where there is no room. By index, since what
+// `get_mut` lends is forgotten behind it.
+#[tactic(auto, unfolding(crate::specs::Emit::next_at))]
 pub fn put(out: &mut [u32], at: usize, x: u32) -> usize
-    ensures { (out.new ≡ set out.old at x) × (result ≡ next_at out.old at) }
+    ensures stored { out.new ≡ set out.old at x }
+    ensures next { result ≡ next_at out.old at }
 {
     if at < out.len() {
         out[at] = x;

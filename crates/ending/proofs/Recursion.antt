@@ -1,7 +1,7 @@
 -- The ending's recursion, for any input: the island's size falls by one at each call. Assumes nothing.
 use mathlib.Core.Path.{◌≡◌, refl, sym, ap, ap₂, ◌∙◌}
 use mathlib.Core.Bool.{Bool, true, false}
-use mathlib.Core.List.{List, [], ◌++◌, map}
+use mathlib.Core.List.{List, [], ◌∷◌, ◌++◌, map}
 use Prim.Native.Nat.{ℕ, zero, suc, ◌+◌, ◌*◌, ◌-◌, ◌^◌, ◌≤◌, ◌<◌}
 use native.Mathlib.Omega.{arith}
 use lib.Bits.{bit_xor}
@@ -16,16 +16,17 @@ use Rattle.sets.proofs.Ones.{ones-drop}
 use Rattle.sets.proofs.Words.{only-is, has-true}
 use Rattle.spares.specs.Spare.{connected_of, spare_of}
 use Rattle.gates.specs.declared.gate.Gate.{Gate}
+use Rattle.gates.specs.declared.gate.Gate.TheVariants.{Cnot, Rotation, X, Bad}
+use Rattle.tallies.specs.Tally.{tally, cnots_of}
 use Rattle.emitting.specs.Emit.{emit_at}
 use Rattle.emitting.proofs.Emitting.{emit-at-room}
 use Rattle.gathering.specs.Gather.{exchanged, turns}
-use Rattle.ending.specs.declared.clearing.Clearing.{Clearing}
 use Rattle.ending.specs.declared.clearing.Best.{Best}
-use Rattle.ending.specs.declared.clearing.Best.TheVariants.{Nothing, Take}
-use Rattle.ending.specs.declared.clearing.Standing.{Standing}
+use Rattle.std.specs.Prelude.{Option, None, Some}
+use Rattle.ending.specs.declared.clearing.Island.{Island}
 use Rattle.ending.specs.Mirror.{seen}
 use Rattle.ending.specs.Clear.{out_of, cheapest_of}
-use Rattle.ending.specs.Held.{taken_of}
+use Rattle.ending.specs.Held.{without_of}
 use Rattle.ending.specs.Closing.{ending_from, ending_of, onward_of, back_of, back_first, closing_of}
 use Rattle.ending.proofs.Choice.{cheapest-fit, out-few, ending-zero, ending-stays, ending-takes}
 
@@ -38,31 +39,37 @@ member near Q q e = has-true Q q (go (has Q q) e)
     go false h = h
 
 module _ (near : List ℕ) (Q : ℕ) (N C : List ℕ) where
-  pub size-falls : (ch : Clearing) (n d : ℕ) → Take ch n ≡ cheapest_of near Q N C → d ≡ only_of ch.qubit → size_of Q ≡ suc (size_of (bit_xor Q d))
+  pub size-falls : (b : Best) → Some b ≡ cheapest_of near Q N C → size_of Q ≡ suc (size_of (bit_xor Q (only_of b.choice.qubit)))
   unfolding size_of
-  size-falls ch n d e ed =
-      let fit = cheapest-fit near Q N C ch n e in
-      ones-drop ch.qubit Q (member near Q ch.qubit fit.1)
-      ∙ ap (λ (m : ℕ). suc (ones (bit_xor Q m))) (sym (ed ∙ only-is ch.qubit (omega (arith, fit.0))))
+  size-falls b e =
+      let fit = cheapest-fit near Q N C b e in
+      ones-drop b.choice.qubit Q (member near Q b.choice.qubit fit.1)
+      ∙ ap (λ (m : ℕ). suc (ones (bit_xor Q m))) (sym (only-is b.choice.qubit (omega (arith, fit.0))))
 
   pub ending-done : (s : ℕ) → s ≡ size_of Q → s < 2 → ending_of near Q N C ≡ []
   unfolding ending_of
   ending-done s e l = ap (λ (f : ℕ). ending_from near f Q N C) (omega arith) ∙ ending-zero near Q N C
 
-  pub ending-stops : (s : ℕ) → s ≡ size_of Q → 2 ≤ s → Nothing ≡ cheapest_of near Q N C → ending_of near Q N C ≡ []
+  pub ending-stops : (s : ℕ) → s ≡ size_of Q → 2 ≤ s → None ≡ cheapest_of near Q N C → ending_of near Q N C ≡ []
   unfolding ending_of
   ending-stops s es l e =
       let more : size_of Q - 1 ≡ suc (size_of Q - 2) = omega arith in
       ap (λ (f : ℕ). ending_from near f Q N C) more ∙ ending-stays near (size_of Q - 2) Q N C e
 
-  pub ending-goes : (ch : Clearing) (n d : ℕ) (r : Standing) → Take ch n ≡ cheapest_of near Q N C → d ≡ only_of ch.qubit → r ≡ taken_of N C (out_of near Q N C ch) → (s : ℕ) → s ≡ size_of Q → 2 ≤ s
-      → ending_of near Q N C ≡ out_of near Q N C ch ++ ending_of near (bit_xor Q d) r.asked r.mirror
-  unfolding ending_of taken_of
-  ending-goes ch n d r e ed er s es l =
-      let f : ℕ = size_of (bit_xor Q d) - 1 in
-      let more : size_of Q - 1 ≡ suc f = omega (arith, size-falls ch n d e ed) in
-      ap (λ (f : ℕ). ending_from near f Q N C) more ∙ ending-takes near f Q N C ch n e
-      ∙ ap₂ (λ (w : ℕ) (t : Standing). out_of near Q N C ch ++ ending_from near f (bit_xor Q w) t.asked t.mirror) (sym ed) (sym er)
+module _ (i : Island) (b : Best) (e : Some b ≡ cheapest_of i.near i.set i.asked i.mirror) (gs : List Gate) (r : Island) (er : r ≡ without_of i b.choice.qubit gs) where
+  pub without-falls : size_of i.set ≡ suc (size_of r.set)
+  unfolding without_of
+  without-falls = size-falls i.near i.set i.asked i.mirror b e ∙ sym (ap (λ (w : Island). suc (size_of w.set)) er)
+
+  pub ending-goes : gs ≡ out_of i.near i.set i.asked i.mirror b.choice → (s : ℕ) → s ≡ size_of i.set → 2 ≤ s
+      → ending_of i.near i.set i.asked i.mirror ≡ gs ++ ending_of r.near r.set r.asked r.mirror
+  unfolding ending_of without_of
+  ending-goes eg s es l =
+      let f : ℕ = size_of (bit_xor i.set (only_of b.choice.qubit)) - 1 in
+      let more : size_of i.set - 1 ≡ suc f = omega (arith, size-falls i.near i.set i.asked i.mirror b e) in
+      ap (λ (f : ℕ). ending_from i.near f i.set i.asked i.mirror) more ∙ ending-takes i.near f i.set i.asked i.mirror b e
+      ∙ ap (λ (L : List Gate). L ++ ending_from i.near f (bit_xor i.set (only_of b.choice.qubit)) (map (turns L) i.asked) (map (turns (exchanged L)) i.mirror)) (sym eg)
+      ∙ sym (ap (λ (w : Island). gs ++ ending_of w.near w.set w.asked w.mirror) er)
 
 -- ---- how long an ending is, whatever the input
 
@@ -70,13 +77,13 @@ from-few : (near : List ℕ) (f Q : ℕ) (N C : List ℕ) → length (ending_fro
 from-few near zero Q N C = omega (arith, ap length (ending-zero near Q N C))
 from-few near (suc f) Q N C = go (cheapest_of near Q N C) refl (λ Q N C. from-few near f Q N C)
   where
-    go : (b : Best) → b ≡ cheapest_of near Q N C → ((Q : ℕ) (N C : List ℕ) → length (ending_from near f Q N C) ≤ 76 * f) → length (ending_from near (suc f) Q N C) ≤ 76 * suc f
-    go Nothing e ih = omega (arith, ap length (ending-stays near f Q N C e))
-    go (Take ch n) e ih =
-        let L : List Gate = out_of near Q N C ch in
-        let P : ℕ = bit_xor Q (only_of ch.qubit) in
+    go : (b : Option Best) → b ≡ cheapest_of near Q N C → ((Q : ℕ) (N C : List ℕ) → length (ending_from near f Q N C) ≤ 76 * f) → length (ending_from near (suc f) Q N C) ≤ 76 * suc f
+    go None e ih = omega (arith, ap length (ending-stays near f Q N C e))
+    go (Some b) e ih =
+        let L : List Gate = out_of near Q N C b.choice in
+        let P : ℕ = bit_xor Q (only_of b.choice.qubit) in
         let rest : List Gate = ending_from near f P (map (turns L) N) (map (turns (exchanged L)) C) in
-        omega (arith, ap length (ending-takes near f Q N C ch n e), length-append L rest, out-few near Q N C ch, ih P (map (turns L) N) (map (turns (exchanged L)) C))
+        omega (arith, ap length (ending-takes near f Q N C b e), length-append L rest, out-few near Q N C b.choice, ih P (map (turns L) N) (map (turns (exchanged L)) C))
 
 pub ending-few : (near : List ℕ) (Q : ℕ) (N C : List ℕ) → Q < 4294967296 → length (ending_of near Q N C) ≤ 2356
 unfolding ending_of size_of
@@ -87,6 +94,15 @@ pub length-told : (near : List ℕ) (Q : ℕ) (N C own : List ℕ) (r : ℕ) →
 length-told near Q N C own r l e h = h ∙ emit-at-room own 0 (ending_of near Q N C) (omega (arith, ending-few near Q N C l)) ∙ omega arith
 
 -- ---- the closing
+
+-- the way back has as many CNOTs as were laid
+pub back-count : (gs : List Gate) → cnots_of gs ≡ length (back_of gs)
+unfolding cnots_of tally
+back-count [] = refl
+back-count (Cnot c t ∷ gs) = omega (arith, back-count gs, length-append (back_of gs) (Cnot c t ∷ []))
+back-count (Rotation q a ∷ gs) = omega (arith, back-count gs)
+back-count (X q ∷ gs) = omega (arith, back-count gs)
+back-count (Bad ∷ gs) = omega (arith, back-count gs)
 
 module _ (near : List ℕ) (Q : ℕ) (N C : List ℕ) (gs : List Gate) (b n : ℕ) (eb : b ≡ length (back_of gs)) where
   back-length : length (back_first near Q N C gs) ≡ b + length (ending_of near Q N C)

@@ -1,11 +1,13 @@
 -- Gates written in a loop: those written so far, and those still to come. Assumes nothing.
 use mathlib.Core.Path.{◌≡◌, refl, sym, ap, ap₂, ◌∙◌}
-use mathlib.Core.List.{List, [], ◌∷◌, ◌++◌, append_assoc, append-nil}
-use Prim.Native.Nat.{ℕ, zero, suc, ◌+◌, ◌-◌, ◌≤◌, ◌<◌}
+use mathlib.Core.Bool.{Bool, true, false}
+use mathlib.Core.List.{List, [], ◌∷◌, ◌++◌, reverse, append_assoc, append-nil}
+use Rattle.std.proofs.lemmas.List.{get_or-reverse, get_or_default, length-reverse}
+use Prim.Native.Nat.{ℕ, suc, ◌+◌, ◌-◌, ◌≤◌, ◌<◌}
 use native.Mathlib.Omega.{arith}
 use native.Mathlib.Numerals.{add-one}
-use lib.ListN.{get_or, length, take, drop, drop_of_length-le, length-append}
-use lib.Seq.{take-suc, take-length, drop-cons}
+use lib.ListN.{get_or, length, take, drop, drop_of_length-le}
+use lib.Seq.{take-suc, drop-cons}
 use Rattle.gates.specs.declared.gate.Gate.{Gate}
 use Rattle.gates.specs.declared.gate.Gate.TheVariants.{Cnot, Rotation, X, Bad}
 use Rattle.gates.specs.Layout.{gate_of, gates_of}
@@ -15,18 +17,15 @@ use Rattle.circuit.specs.Circuit.{run}
 use Rattle.circuit.proofs.Circuits.{run-append}
 use Rattle.emitting.specs.Emit.{emit, emit_at}
 use Rattle.emitting.proofs.Emitting.{emit-none, emit-at-none, emit-append, emit-at-append}
-use Rattle.gathering.specs.Gather.{exchanged, cnots_from}
-use Rattle.gathering.proofs.GatherCode.{cnots-from-step, cnots-from-none}
+use Rattle.gathering.specs.declared.gather.Move.{Move}
+use Rattle.gathering.specs.Gather.{exchanged, cnot_of, cnots_of}
 use Rattle.ending.specs.Closing.{back_of}
-use Rattle.ending.specs.Mirror.{mirrors_of}
+use Rattle.ending.specs.Mirror.{seen, mirrors_of}
 
 -- what `rest` would write behind what stands is what `all` writes at first
 pub record Writes (first : List ℕ) (from : ℕ) (all : List Gate) (out : List ℕ) (at : ℕ) (rest : List Gate) : Type 0 where
   pub list : emit out at rest ≡ emit first from all
   pub place : emit_at out at rest ≡ emit_at first from all
-
-pub writes_start : (first : List ℕ) (from : ℕ) (all rest : List Gate) → rest ≡ all → Writes first from all first from rest
-writes_start first from all rest e = record { list = ap (emit first from) e; place = ap (emit_at first from) e }
 
 module _ (first : List ℕ) (from : ℕ) (all : List Gate) (out : List ℕ) (at : ℕ) where
   pub writes-on : (g rest more : List Gate) (next : List ℕ) (to : ℕ) → more ≡ g ++ rest → next ≡ emit out at g → to ≡ emit_at out at g
@@ -57,16 +56,28 @@ written_same first out from to g all e eo et = (eo ∙ ap (emit first from) (sym
 pub written_none : (out : List ℕ) (at : ℕ) (gs : List Gate) → gs ≡ [] → (out ≡ emit out at gs) × (at ≡ emit_at out at gs)
 written_none out at gs e = (sym (ap (emit out at) e ∙ emit-none out at), sym (ap (emit_at out at) e ∙ emit-at-none out at))
 
--- ---- moves of an array
+-- ---- moves
 
-pub moves_more : (to by : List ℕ) (n i : ℕ) → i < n → cnots_from to by i (n - i) ≡ (Cnot (get_or to i 0) (get_or by i 0) ∷ []) ++ cnots_from to by (i + 1) (n - (i + 1))
-moves_more to by n i l = ap (cnots_from to by i) (omega arith) ∙ cnots-from-step to by i (n - (i + 1))
+seen-cons : (b : Bool) (g : Gate) (gs : List Gate) → seen b (g ∷ gs) ≡ seen b (g ∷ []) ++ seen b gs
+seen-cons true (Cnot c t) gs = refl
+seen-cons true (Rotation q a) gs = refl
+seen-cons true (X q) gs = refl
+seen-cons true Bad gs = refl
+seen-cons false g gs = refl
 
-pub moves-done : (to by : List ℕ) (n i : ℕ) → n ≤ i → cnots_from to by i (n - i) ≡ []
-moves-done to by n i l = ap (cnots_from to by i) (omega arith) ∙ cnots-from-none to by i
+pub moves_more : (b : Bool) (ms : List Move) (i : ℕ) (d : Move) (m g : Gate) → i < length ms → m ≡ cnot_of (get_or ms i d) → g ∷ [] ≡ seen b (m ∷ [])
+    → seen b (cnots_of (drop i ms)) ≡ (g ∷ []) ++ seen b (cnots_of (drop (i + 1) ms))
+moves_more b ms i d m g l em eg =
+    ap (λ (l : List Move). seen b (cnots_of l)) (drop-cons ms i d l ∙ ap (λ (k : ℕ). get_or ms i d ∷ drop k ms) (sym (add-one i)))
+    ∙ seen-cons b (cnot_of (get_or ms i d)) (cnots_of (drop (i + 1) ms))
+    ∙ ap (λ (l : List Gate). l ++ seen b (cnots_of (drop (i + 1) ms))) (ap (λ (m : Gate). seen b (m ∷ [])) (sym em) ∙ sym eg)
 
-pub moves-all : (to by : List ℕ) (n : ℕ) → cnots_from to by 0 (n - 0) ≡ cnots_from to by 0 n
-moves-all to by n = ap (cnots_from to by 0) (omega arith)
+pub moves-done : (b : Bool) (ms : List Move) (i : ℕ) → length ms ≤ i → seen b (cnots_of (drop i ms)) ≡ []
+moves-done b ms i l = ap (λ (l : List Move). seen b (cnots_of l)) (drop_of_length-le ms l) ∙ none b
+  where
+    none : (b : Bool) → seen b [] ≡ []
+    none true = refl
+    none false = refl
 
 -- ---- CNOTs in reverse
 
@@ -81,53 +92,26 @@ gates-snoc : (n : ℕ) (xs : List ℕ) (x : ℕ) → gates_of n (xs ++ x ∷ [])
 gates-snoc n [] x = refl
 gates-snoc n (y ∷ xs) x = ap (λ (l : List Gate). gate_of n y ∷ l) (gates-snoc n xs x)
 
-pub back_more : (laid : List ℕ) (k : ℕ) (g : Gate) → 0 < k → k ≤ length laid → g ≡ gate_of 20 (get_or laid (k - 1) 0)
-    → back_of (gates_of 20 (take k laid)) ≡ back_of (g ∷ []) ++ back_of (gates_of 20 (take (k - 1) laid))
-back_more laid k g p l e =
-    let z : k ≡ suc (k - 1) = omega arith in
-    ap (λ (xs : List ℕ). back_of (gates_of 20 xs)) (ap (λ (j : ℕ). take j laid) z ∙ take-suc laid (k - 1) 0 (omega arith))
-    ∙ ap back_of (gates-snoc 20 (take (k - 1) laid) (get_or laid (k - 1) 0)) ∙ back-snoc (gates_of 20 (take (k - 1) laid)) (gate_of 20 (get_or laid (k - 1) 0))
-    ∙ ap (λ (h : Gate). back_of (h ∷ []) ++ back_of (gates_of 20 (take (k - 1) laid))) (sym e)
+-- the n-th record from the last one on
+pub back_more : (laid : List ℕ) (n x : ℕ) (g : Gate) → (n < length (reverse laid)) × (x ≡ get_or (reverse laid) n x) → g ≡ gate_of 20 x
+    → back_of (gates_of 20 (take (length laid - n) laid)) ≡ back_of (g ∷ []) ++ back_of (gates_of 20 (take (length laid - (n + 1)) laid))
+back_more laid n x g t e =
+    let l : n < length laid = omega (arith, t.0, length-reverse laid) in
+    let k : ℕ = length laid - (n + 1) in
+    let z : length laid - n ≡ suc k = omega arith in
+    let j : length laid - 1 - n ≡ k = omega arith in
+    let at : get_or laid k 0 ≡ x = sym (ap (λ (j : ℕ). get_or laid j 0) j) ∙ get_or_default laid (length laid - 1 - n) 0 x (omega arith) ∙ sym (get_or-reverse laid n x l) ∙ sym t.1 in
+    ap (λ (xs : List ℕ). back_of (gates_of 20 xs)) (ap (λ (j : ℕ). take j laid) z ∙ take-suc laid k 0 (omega arith))
+    ∙ ap back_of (gates-snoc 20 (take k laid) (get_or laid k 0)) ∙ back-snoc (gates_of 20 (take k laid)) (gate_of 20 (get_or laid k 0))
+    ∙ ap (λ (h : Gate). back_of (h ∷ []) ++ back_of (gates_of 20 (take k laid))) (ap (gate_of 20) at ∙ sym e)
 
-pub back-all : (laid : List ℕ) → back_of (gates_of 20 (take (length laid) laid)) ≡ back_of (gates_of 20 laid)
-back-all laid = ap (λ (xs : List ℕ). back_of (gates_of 20 xs)) (take-length laid)
+pub back_done : (laid : List ℕ) (n : ℕ) → n ≡ length (reverse laid) → back_of (gates_of 20 (take (length laid - n) laid)) ≡ []
+back_done laid n e = let z : length laid - n ≡ 0 = omega (arith, length-reverse laid) in ap (λ (k : ℕ). back_of (gates_of 20 (take k laid))) z
 
-pub back_done : (laid : List ℕ) (k : ℕ) → k ≤ 0 → back_of (gates_of 20 (take k laid)) ≡ []
-back_done laid zero l = refl
-back_done laid (suc k) l = absurd (omega arith)
-
--- ---- how many
-
-back_step : (g : Gate) (gs : List Gate) → length (back_of (g ∷ gs)) ≡ length (back_of (g ∷ [])) + length (back_of gs)
-back_step (Cnot c t) gs = length-append (back_of gs) (Cnot c t ∷ []) ∙ omega arith
-back_step (Rotation q a) gs = omega arith
-back_step (X q) gs = omega arith
-back_step Bad gs = omega arith
-
-pub back_one : (g : Gate) → length (back_of (g ∷ [])) ≤ 1
-back_one (Cnot c t) = omega arith
-back_one (Rotation q a) = omega arith
-back_one (X q) = omega arith
-back_one Bad = omega arith
+-- ---- the mirror
 
 next-drop : (xs : List ℕ) (i : ℕ) → i < length xs → drop i xs ≡ get_or xs i 0 ∷ drop (i + 1) xs
 next-drop xs i l = drop-cons xs i 0 l ∙ ap (λ (k : ℕ). get_or xs i 0 ∷ drop k xs) (sym (add-one i))
-
-module _ (laid : List ℕ) where
-  pub count_next : (i n m : ℕ) (g : Gate) → i < length laid → g ≡ gate_of 20 (get_or laid i 0) → m ≡ length (back_of (g ∷ []))
-      → n + length (back_of (gates_of 20 (drop i laid))) ≡ length (back_of (gates_of 20 laid))
-      → n + m + length (back_of (gates_of 20 (drop (i + 1) laid))) ≡ length (back_of (gates_of 20 laid))
-  count_next i n m g l e em h =
-      let s : length (back_of (gates_of 20 (drop i laid))) ≡ length (back_of (g ∷ [])) + length (back_of (gates_of 20 (drop (i + 1) laid))) =
-      ap (λ (xs : List ℕ). length (back_of (gates_of 20 xs))) (next-drop laid i l) ∙ ap (λ (e : Gate). length (back_of (e ∷ gates_of 20 (drop (i + 1) laid)))) (sym e) ∙ back_step g (gates_of 20 (drop (i + 1) laid)) in
-      omega arith
-
-  pub count-end : (i n : ℕ) → length laid ≤ i → n + length (back_of (gates_of 20 (drop i laid))) ≡ length (back_of (gates_of 20 laid)) → n ≡ length (back_of (gates_of 20 laid))
-  count-end i n l h =
-      let z : length (back_of (gates_of 20 (drop i laid))) ≡ 0 = ap (λ (xs : List ℕ). length (back_of (gates_of 20 xs))) (drop_of_length-le laid l) in
-      omega arith
-
--- ---- the mirror
 
 exchanged-cons : (g : Gate) (gs : List Gate) → exchanged (g ∷ gs) ≡ exchanged (g ∷ []) ++ exchanged gs
 exchanged-cons (Cnot c t) gs = refl

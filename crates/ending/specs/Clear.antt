@@ -1,5 +1,5 @@
 -- One qubit is taken out of the island: its row and its mirror row are cleared (document 01, "taking one qubit out of the island"; docs/LAYING.md).
-use Rattle.std.specs.Prelude.{Bool, true, false, not, List, [], ◌∷◌, ◌++◌, ℕ, zero, suc, ◌+◌, ltb, get_or, length}
+use Rattle.std.specs.Prelude.{Bool, true, false, not, List, [], ◌∷◌, ◌++◌, ℕ, zero, suc, ◌+◌, ltb, get_or, length, Option, None, Some}
 use Rattle.sets.specs.Pick.{pick}
 use Rattle.spares.specs.Spare.{spare_of}
 use Rattle.gates.specs.Limits.{most_qubits}
@@ -7,7 +7,6 @@ use Rattle.gates.specs.declared.gate.Gate.{Gate}
 use Rattle.gathering.specs.Gather.{exchanged, gather_of, turns}
 use Rattle.ending.specs.declared.clearing.Clearing.{Clearing}
 use Rattle.ending.specs.declared.clearing.Best.{Best}
-use Rattle.ending.specs.declared.clearing.Best.TheVariants.{Nothing, Take}
 use Rattle.ending.specs.Mirror.{seen}
 
 -- ---- the CNOTs of a choice
@@ -44,16 +43,19 @@ unfoldable pub choices_from : List ℕ → ℕ → ℕ → ℕ → List Clearing
 choices_from near Q zero v = []
 choices_from near Q (suc d) v = choices_at near Q v ++ choices_from near Q d (v + 1)
 
+abbrev pub best : Clearing → ℕ → Best
+best ch n = record { choice = ch; cost = n }
+
 -- ch, of n CNOTs, if that is fewer than the best one so far has; else that one
-abbrev pub cheaper_of : Clearing → ℕ → Best → Best
-cheaper_of ch n Nothing = Take ch n
-cheaper_of ch n (Take best m) = pick (ltb n m) (Take ch n) (Take best m)
+abbrev pub cheaper_of : Clearing → ℕ → Option Best → Option Best
+cheaper_of ch n None = Some (best ch n)
+cheaper_of ch n (Some b) = pick (ltb n b.cost) (Some (best ch n)) (Some b)
 
 -- the cheapest of the choices, the first in a tie, where b is the best one so far
-unfoldable pub cheapest_in : (Clearing → ℕ) → Best → List Clearing → Best
+unfoldable pub cheapest_in : (Clearing → ℕ) → Option Best → List Clearing → Option Best
 cheapest_in cost b [] = b
 cheapest_in cost b (ch ∷ chs) = cheapest_in cost (cheaper_of ch (cost ch) b) chs
 
 -- "over the spare qubits v of Q ascending and the two orders, the one with fewest CNOTs, the first in a tie"
-unfoldable pub cheapest_of : List ℕ → ℕ → List ℕ → List ℕ → Best
-cheapest_of near Q N C = cheapest_in (cost_of near Q N C) Nothing (choices_from near Q most_qubits 0)
+unfoldable pub cheapest_of : List ℕ → ℕ → List ℕ → List ℕ → Option Best
+cheapest_of near Q N C = cheapest_in (cost_of near Q N C) None (choices_from near Q most_qubits 0)

@@ -1,5 +1,5 @@
 -- The ending and the closing of an island (document 01, "An ending of CNOTs brings the wires to the asked parities"; docs/LAYING.md).
-use Rattle.std.specs.Prelude.{List, [], ◌∷◌, ◌++◌, map, ℕ, zero, suc, ◌-◌, ltb, length}
+use Rattle.std.specs.Prelude.{List, [], ◌∷◌, ◌++◌, map, ℕ, zero, suc, ◌-◌, ltb, length, Option, None, Some}
 use Rattle.std.specs.Int.Bits.{bit_xor}
 use Rattle.sets.specs.Pick.{pick}
 use Rattle.sets.specs.Size.{size_of, only_of}
@@ -8,13 +8,12 @@ use Rattle.gates.specs.declared.gate.Gate.TheVariants.{Cnot, Rotation, X, Bad}
 use Rattle.gathering.specs.Gather.{exchanged, turns}
 use Rattle.ending.specs.declared.clearing.Clearing.{Clearing}
 use Rattle.ending.specs.declared.clearing.Best.{Best}
-use Rattle.ending.specs.declared.clearing.Best.TheVariants.{Nothing, Take}
 use Rattle.ending.specs.Clear.{out_of, cheapest_of}
 
 -- what the choice that is taken asks for; nothing where there is none
-abbrev pub taking : Best → (Clearing → List Gate) → List Gate
-taking Nothing f = []
-taking (Take ch n) f = f ch
+abbrev pub taking : Option Best → (Clearing → List Gate) → List Gate
+taking None f = []
+taking (Some b) f = f b.choice
 
 -- "taking one qubit out of the island and then doing the same for what remains": f qubits are taken out of Q
 unfoldable pub ending_from : List ℕ → ℕ → ℕ → List ℕ → List ℕ → List Gate

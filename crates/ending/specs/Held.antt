@@ -1,15 +1,22 @@
--- Moves and rows as the code holds them.
-use Rattle.std.specs.Prelude.{Bool, List, map, ℕ}
-use Rattle.sets.specs.Pick.{pick}
+-- Gatherings and islands as the code holds them.
+use Rattle.std.specs.Prelude.{List, ◌++◌, map, ℕ}
+use Rattle.std.specs.Int.Bits.{bit_xor}
+use Rattle.sets.specs.Size.{only_of}
 use Rattle.gates.specs.declared.gate.Gate.{Gate}
-use Rattle.gathering.specs.declared.gather.Moves.{Moves}
-use Rattle.gathering.specs.Gather.{exchanged, turns}
-use Rattle.ending.specs.declared.clearing.Standing.{Standing}
+use Rattle.gathering.specs.Gather.{exchanged, turns, cnots_of}
+use Rattle.ending.specs.declared.clearing.Taking.{Taking}
+use Rattle.ending.specs.declared.clearing.Island.{Island}
+use Rattle.ending.specs.Mirror.{seen}
 
--- moves as the rows see them, or as the mirror rows do: control and target changed over
-unfoldable pub seen_of : Bool → Moves → Moves
-seen_of b m = pick b (record { to = m.by; by = m.to; len = m.len }) m
+-- the CNOTs of both gatherings
+unfoldable pub gates_in : Taking → List Gate
+gates_in t = seen t.mirrored (cnots_of t.first.items ++ exchanged (cnots_of t.second.items))
 
--- asked rows and mirror rows after the gates gs
-unfoldable pub taken_of : List ℕ → List ℕ → List Gate → Standing
-taken_of N C gs = record { asked = map (turns gs) N; mirror = map (turns (exchanged gs)) C }
+-- the island without q, and asked rows and mirror rows after the gates gs
+unfoldable pub without_of : Island → ℕ → List Gate → Island
+without_of i q gs = record {
+  near = i.near;
+  set = bit_xor i.set (only_of q);
+  asked = map (turns gs) i.asked;
+  mirror = map (turns (exchanged gs)) i.mirror;
+}

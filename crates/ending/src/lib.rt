@@ -6,3 +6,5 @@ mod clearing;
 pub mod closing;
 pub mod mirror;
 mod rows;
+
+pub use clearing::Island;

@@ -11,14 +11,13 @@ use gates::gate;
 use gates::gate::Gate;
 use gates::job::Job;
 
+#[tactic(auto, unfolding(circuit::specs::Circuit::run, circuit::specs::Circuit::step))]
 fn after(rows: [u32; Job::QUBITS], g: Gate) -> [u32; Job::QUBITS]
     ensures { result ≡ run (exchanged (g ∷ [])) rows }
 {
     match g {
         Gate::Cnot { control, target } => wires::joined(rows, target, control),
-        Gate::Rotation { qubit: _, angle: _ } => rows,
-        Gate::X { qubit: _ } => rows,
-        Gate::Bad => rows,
+        _ => rows,
     }
 }
 
@@ -26,10 +25,9 @@ fn after(rows: [u32; Job::QUBITS], g: Gate) -> [u32; Job::QUBITS]
 pub fn mirrored(gates: &[u32], n: usize) -> [u32; Job::QUBITS]
     ensures { result ≡ mirrors_of (gates_of n gates.now) }
 {
-    let start = Wires::new();
-    let mut all = start.parity;
-    for i in 0..gates.len() {
-        let next = after(all, gate::decode(gates[i], n));
+    let mut all = Wires::new().parity;
+    for &x in gates {
+        let next = after(all, gate::decode(x, n));
         all = next;
     }
     all

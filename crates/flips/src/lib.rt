@@ -15,11 +15,7 @@ use gates::job::Job;
 fn asks_flip(set: u32, flip: [u32; Job::QUBITS], q: usize) -> bool
     ensures { result ≡ asks_flip set flip q }
 {
-    if sets::holds(set, q) {
-        wires::borne_on(flip, q) != 0
-    } else {
-        false
-    }
+    sets::holds(set, q) && wires::borne_on(flip, q) != 0
 }
 
 // Behind what is laid, by ascending qubit.

@@ -1,10 +1,9 @@
 -- Records: what a 32-bit number says, and the number of a gate (document 01, "Records and refusals").
-use Rattle.std.specs.Prelude.{◌≢◌, Bool, true, false, List, map, ℕ, ◌+◌, ◌*◌, ◌/◌, ◌%◌, ◌<◌, ltb, eqb}
+use Rattle.std.specs.Prelude.{◌≢◌, Bool, true, false, List, map, Option, Some, None, ℕ, ◌+◌, ◌*◌, ◌/◌, ◌%◌, ◌<◌, ltb, eqb}
 use Rattle.sets.specs.Pick.{pick}
 use Rattle.gates.specs.declared.gate.Gate.{Gate}
 use Rattle.gates.specs.declared.gate.Gate.TheVariants.{Cnot, Rotation, X, Bad}
 use Rattle.gates.specs.declared.coupler.Coupler.{Coupler}
-use Rattle.gates.specs.declared.coupler.Coupler.TheVariants.{Ends, Wrong}
 
 -- "A record is a 32-bit number: kind x 16,777,216 + a x 65,536 + b."
 unfoldable pub packed : ℕ → ℕ → ℕ → ℕ
@@ -58,12 +57,20 @@ is_bad (Rotation q a) = false
 is_bad (X q) = false
 is_bad Bad = true
 
+-- a coupler of the ends a and b
+abbrev pub with_ends : ℕ → ℕ → Option Coupler
+with_ends a b = Some (record { a = a; b = b })
+
+-- no coupler
+abbrev pub no_coupler : Option Coupler
+no_coupler = None
+
 -- "Kind 0 is a coupler a,b"; wrong with "an end n or more, or equal ends", or of another kind
-unfoldable pub coupler_of : ℕ → ℕ → Coupler
+unfoldable pub coupler_of : ℕ → ℕ → Option Coupler
 coupler_of n x =
     pick (eqb (kind_in x) 0)
-    (pick (ltb (a_in x) n) (pick (ltb (b_in x) n) (pick (eqb (a_in x) (b_in x)) Wrong (Ends (a_in x) (b_in x))) Wrong) Wrong) Wrong
+    (pick (ltb (a_in x) n) (pick (ltb (b_in x) n) (pick (eqb (a_in x) (b_in x)) no_coupler (with_ends (a_in x) (b_in x))) no_coupler) no_coupler) no_coupler
 
-abbrev pub is_wrong : Coupler → Bool
-is_wrong (Ends a b) = false
-is_wrong Wrong = true
+abbrev pub is_wrong : Option Coupler → Bool
+is_wrong (Some c) = false
+is_wrong None = true

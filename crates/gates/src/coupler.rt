@@ -1,37 +1,25 @@
 // A coupler, and the record that holds it.
 ghost use Rattle.std.specs.Prelude.{◌≡◌};
-ghost use Rattle.gates.specs.Layout.{coupler_of, is_wrong};
+ghost use Rattle.gates.specs.Layout.{coupler_of};
+
+use crate::record::Record;
 
 #[derive(Clone, Copy)]
-pub enum Coupler {
-    Ends { a: usize, b: usize },
-    Wrong,
+pub struct Coupler {
+    pub a: usize,
+    pub b: usize,
 }
 
-// What a record says of n qubits.
-pub fn decode(x: u32, n: usize) -> Coupler
+// What a record says of n qubits; `None` where it is wrong.
+#[tactic(auto, using(std::proofs::lemmas::Bool::Decides::nat_tests), unfolding(crate::specs::Layout::coupler_of))]
+pub fn decode(x: u32, n: usize) -> Option<Coupler>
     ensures { result ≡ coupler_of n x }
 {
-    let a = (x / 65536 % 256) as usize;
-    let b = (x % 65536) as usize;
-    if x / 16777216 == 0 {
-        if a < n {
-            if b < n {
-                if a == b {
-                    return Coupler::Wrong;
-                }
-                return Coupler::Ends { a, b };
-            }
-        }
-    }
-    Coupler::Wrong
-}
-
-pub fn is_wrong(c: Coupler) -> bool
-    ensures { result ≡ is_wrong c }
-{
-    match c {
-        Coupler::Ends { a: _, b: _ } => false,
-        Coupler::Wrong => true,
+    let Record { kind, a, b } = Record::of(x);
+    let b = b as usize;
+    if kind == 0 && a < n && b < n && a != b {
+        Some(Coupler { a, b })
+    } else {
+        None
     }
 }

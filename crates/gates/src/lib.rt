@@ -6,3 +6,4 @@ pub mod coupler;
 pub mod gate;
 pub mod hadamard;
 pub mod job;
+pub mod record;

@@ -1,8 +1,7 @@
 -- Gathering a set at one of its qubits by moves along couplers (our own way; docs/LAYING.md). A move "u by p" is CNOT u,p.
-use Rattle.std.specs.Prelude.{◌≡◌, ◌≢◌, List, [], ◌∷◌, ◌++◌, map, ℕ, zero, suc, ◌+◌, ◌-◌, ◌*◌, ◌^◌, ◌≤◌, min, eqb, get_or, length, replicate}
+use Rattle.std.specs.Prelude.{◌≡◌, ◌≢◌, List, [], ◌∷◌, ◌++◌, map, ℕ, zero, suc, ◌+◌, ◌-◌, ◌*◌, ◌^◌, ◌≤◌, eqb, get_or, length}
 use Rattle.std.specs.Int.Bits.{bit_and, bit_xor}
 use Rattle.std.specs.Int.Count.{ones}
-use Rattle.std.proofs.lemmas.List.Edits.{sets}
 use Rattle.sets.specs.Pick.{pick}
 use Rattle.sets.specs.Bit.{has, In}
 use Rattle.sets.specs.Size.{lowest_of, only_of}
@@ -12,9 +11,7 @@ use Rattle.gates.specs.Limits.{most_qubits}
 use Rattle.gates.specs.declared.gate.Gate.{Gate}
 use Rattle.gates.specs.declared.gate.Gate.TheVariants.{Cnot, Rotation, X, Bad}
 use Rattle.sets.specs.Lists.{All}
-use Rattle.gathering.specs.declared.gather.Order.{Order}
-use Rattle.gathering.specs.declared.gather.Moves.{Moves}
-use Rattle.gathering.specs.declared.gather.Gathering.{Gathering}
+use Rattle.gathering.specs.declared.gather.Move.{Move}
 use Rattle.gathering.specs.Order.{order_of}
 
 -- ---- what gates do to sets of wires, and which gates they are
@@ -71,9 +68,9 @@ gather_from near os (suc k) S x =
 unfoldable pub gather_of : List ℕ → ℕ → ℕ → ℕ → List Gate
 gather_of near Q v x = gather_from near (order_of near Q v) (length (order_of near Q v) - 1) Q x
 
--- the same along an order as the code holds it
-unfoldable pub along_of : List ℕ → ℕ → Order → ℕ → List Gate
-along_of near Q o x = gather_from near o.qubit (min o.len most_qubits - 1) Q x
+-- the same along any list of qubits, from its last one to its second
+unfoldable pub along_of : List ℕ → ℕ → List ℕ → ℕ → List Gate
+along_of near Q os x = gather_from near os (length os - 1) Q x
 
 -- the moves L bring x to v alone, by two for each other member of S at most; v itself stays if it is in x
 pub record Gathers (near : List ℕ) (v S x : ℕ) (L : List Gate) : Type 0 where
@@ -86,35 +83,11 @@ pub record Gathers (near : List ℕ) (v S x : ℕ) (L : List Gate) : Type 0 wher
 abbrev pub most_moves : ℕ
 most_moves = 2 * (most_qubits - 1)
 
--- ---- as the code holds moves: the changed qubits and those they are changed by, in front; 0 behind them
+-- ---- moves as the code holds them
 
-abbrev pub control_of : Gate → ℕ
-control_of (Cnot c t) = c
-control_of (Rotation q a) = 0
-control_of (X q) = 0
-control_of Bad = 0
+-- a move as a CNOT: "to by by"
+abbrev pub cnot_of : Move → Gate
+cnot_of m = Cnot m.to m.by
 
-abbrev pub target_of : Gate → ℕ
-target_of (Cnot c t) = t
-target_of (Rotation q a) = 0
-target_of (X q) = 0
-target_of Bad = 0
-
-unfoldable pub moves_in : List Gate → Moves
-moves_in gs = record {
-  to = sets (replicate most_moves 0) 0 (map control_of gs);
-  by = sets (replicate most_moves 0) 0 (map target_of gs);
-  len = length gs;
-}
-
--- the moves that take u out are added to those that are there: ts and bs are the arrays afterwards
-pub record Stepped (to by : List ℕ) (len a u x : ℕ) (ts bs : List ℕ) (r : Gathering) : Type 0 where
-  pub tos : ts ≡ sets to len (map control_of (moves_at a u x))
-  pub bys : bs ≡ sets by len (map target_of (moves_at a u x))
-  pub count : r.len ≡ len + length (moves_at a u x)
-  pub left : r.x ≡ left_at a u x
-
--- n moves from place k on, as CNOTs
-unfoldable pub cnots_from : List ℕ → List ℕ → ℕ → ℕ → List Gate
-cnots_from to by k zero = []
-cnots_from to by k (suc n) = Cnot (get_or to k 0) (get_or by k 0) ∷ cnots_from to by (k + 1) n
+abbrev pub cnots_of : List Move → List Gate
+cnots_of ms = map cnot_of ms

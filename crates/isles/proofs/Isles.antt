@@ -7,18 +7,19 @@ use native.Mathlib.Nat.{pow-suc, le_of_suc-le-suc}
 use native.Mathlib.Omega.{arith}
 use native.Mathlib.Decide.{ℕ_discrete}
 use lib.Dec.{lit<}
-use lib.ListN.{length, get_or, set, length-set}
-use lib.Seq.{get_or-set_same, get_or-set_other, ext_get_or}
+use lib.ListN.{length, get_or}
+use lib.Seq.{ext_get_or}
 use lib.Pow.{pow-lt}
 use lib.Bits.{bit_and}
 use lib.Count.{ones-le}
-use borrow.Author.Count.{below_more}
 use Rattle.sets.specs.Bit.{bit, In}
 use Rattle.sets.specs.Size.{only_of}
 use Rattle.sets.proofs.Bits.{bit-suc, bit-pow-same, bit-cases, zero-ext}
 use Rattle.sets.proofs.Members.{in-lt, in-pow, in_and, sub-eq, some-bit, all_in}
 use Rattle.sets.proofs.Ones.{ones-pow}
 use Rattle.sets.proofs.Words.{only-is}
+use Rattle.sets.specs.Tables.{tab}
+use Rattle.sets.proofs.Tabling.{tab-length, tab-at}
 use Rattle.chip.specs.Graph.{Near, Symm, Chain, here, next, Joined, closure}
 use Rattle.isles.specs.Islands.{every_qubit, island_of, islands_from, islands_of}
 use Rattle.chip.proofs.Chains.{chain-cat, chain-rev, chain-start, chain-end}
@@ -152,25 +153,14 @@ pub island-lt : (near : List ℕ) (q : ℕ) → q < 20 → island_of near q < 2 
 unfolding island_of
 island-lt near q h = closure-lt near every_qubit 20 20 (2 ^ q) (lit< tt) (pow-lt h)
 
--- the islands of the qubits below q stand in `all`
-pub record IslesFound (near : List ℕ) (q : ℕ) (all : List ℕ) : Type 0 where
-  pub long : length all ≡ 20
-  pub each : (k : ℕ) → k < q → get_or all k 0 ≡ island_of near k
-
-pub found_none : (near all : List ℕ) → length all ≡ 20 → IslesFound near 0 all
-found_none near all l = record { long = l; each = λ k h. absurd (omega arith) }
-
--- x is what the search finds from q, d the set of q alone
-pub found-next : (near : List ℕ) (q : ℕ) (all : List ℕ) (d x : ℕ) → q < 20 → IslesFound near q all → d ≡ only_of q → x ≡ closure near every_qubit 20 d → IslesFound near (q + 1) (set all q x)
+-- the table of what the search finds from each qubit
+pub islands-made : (near all : List ℕ) → all ≡ tab 20 (λ q. closure near every_qubit 20 (only_of q)) → all ≡ islands_of near
 unfolding island_of
-found-next near q all d x h f e ex = record {
-  long = length-set all q x ∙ f.long;
-  each = below_more (λ k. get_or (set all q x) k 0 ≡ island_of near k) q
-      (λ k l. get_or-set_other all q k x 0 (λ (z : k ≡ q). omega arith) ∙ f.each k l)
-      (get_or-set_same all q x 0 (omega (arith, f.long)) ∙ ex ∙ ap (closure near every_qubit 20) (e ∙ only-is q (omega arith)));
-}
-
-pub found_all : (near : List ℕ) (q : ℕ) (all : List ℕ) → 20 ≤ q → IslesFound near q all → all ≡ islands_of near
-found_all near q all h f =
-    ext_get_or 0 all (islands_of near) (f.long ∙ sym (length-islands near))
-    (λ k l. f.each k (omega (arith, f.long)) ∙ sym (get_or-islands near k (omega (arith, f.long))))
+islands-made near all e =
+    e ∙ ext_get_or 0 (tab 20 found) (islands_of near) (tab-length 20 found ∙ sym (length-islands near))
+    (λ k (l : k < length (tab 20 found)).
+    let h : k < 20 = omega (arith, tab-length 20 found) in
+    tab-at 20 found k 0 h ∙ ap (closure near every_qubit 20) (only-is k (omega arith)) ∙ sym (get_or-islands near k h))
+  where
+    found : ℕ → ℕ
+    found q = closure near every_qubit 20 (only_of q)

@@ -4,6 +4,7 @@ ghost use Rattle.isles.specs.Islands.{islands_of};
 
 use chip::search;
 use gates::job::Job;
+use std::array;
 
 // The set of all 20 qubits.
 const EVERY: u32 = 1048575;
@@ -12,9 +13,5 @@ const EVERY: u32 = 1048575;
 pub fn islands(near: [u32; Job::QUBITS]) -> [u32; Job::QUBITS]
     ensures { result ≡ islands_of near }
 {
-    let mut all = [0; Job::QUBITS];
-    for q in 0..Job::QUBITS {
-        all[q] = search::reached(near, EVERY, sets::only(q));
-    }
-    all
+    array::from_fn(|q| search::reached(near, EVERY, sets::only(q)))
 }

@@ -8,14 +8,15 @@ use lib.Dec.{ltb, leb}
 use lib.ListN.{length, take, length-map}
 use lib.Seq.{take_all}
 use borrow.Author.Tests.{lt-ltb, le-ltb, ltb-false, leb-true}
+use Rattle.std.specs.Prelude.{Option, Some, None, Ok, Err}
 use Rattle.sets.specs.Pick.{pick, both}
-use Rattle.sets.proofs.Finding.{first-le, first-before}
+use Rattle.sets.specs.Search.{found_of}
+use Rattle.sets.proofs.Finding.{first-le, first-before, found-first, found-not}
 use Rattle.gates.specs.declared.gate.Gate.{Gate}
 use Rattle.table.specs.declared.sums.Sums.{Sums}
 use Rattle.meaning.specs.declared.told.Told.{Told}
 use Rattle.meaning.specs.declared.told.Meaning.{Meaning}
-use Rattle.verdicts.specs.declared.verdict.Verdict.{Verdict}
-use Rattle.verdicts.specs.declared.verdict.Verdict.TheVariants.{Accepted, Qubits, ManyGates, ManyParities, Unreachable, Room}
+use Rattle.verdicts.specs.declared.verdict.Refusal.TheVariants.{Qubits, ManyGates, ManyParities, Unreachable, Room}
 use Rattle.gates.specs.Layout.{gate_of, gates_of}
 use Rattle.circuit.specs.Circuit.{run, start}
 use Rattle.meaning.specs.Borne.{borne, borne_from, over_at, terms}
@@ -23,7 +24,7 @@ use Rattle.table.specs.Table.{terms_in}
 use Rattle.meaning.specs.Told.{told_of, meaning_of, table_of}
 use Rattle.circuit.specs.State.{wires_of}
 use Rattle.tallies.specs.Tally.{bound_of}
-use Rattle.verdicts.specs.Verdicts.{number_of, judged_qubits, judged_couplers, judged_gates}
+use Rattle.verdicts.specs.Verdicts.{Verdict, number_of, judged_qubits, judged_couplers, judged_gates}
 use Rattle.verdicts.proofs.Judged.{then-on, then-stop}
 use Rattle.meaning.proofs.Bearing.{terms-few}
 use Rattle.meaning.proofs.Terms.{term_table, terms-table}
@@ -31,7 +32,7 @@ use Rattle.meaning.proofs.Telling.{told-whole}
 use Rattle.table.proofs.Keeping.{take-padded}
 use Rattle.chip.specs.Couplers.{near_of}
 use Rattle.isles.specs.Islands.{islands_of}
-use Rattle.judging.specs.Tests.{judged_count, judged_parities, stray_at, scattered, judged_reach, judged_room, judged_meaning, verdict_of, verdict_on}
+use Rattle.judging.specs.Tests.{judged_count, judged_parities, leaves_at, stray_at, scattered, judged_reach, judged_room, judged_meaning, verdict_of, verdict_on}
 
 -- ---- 6
 
@@ -54,38 +55,38 @@ over-few gs e = go (length gs) refl
         subst (λ (l : List Gate). length (borne l) ≤ 256) (take_all (m + 1) gs (omega arith)) (ltb-false 256 (length (borne (take (m + 1) gs))) b)
 
 module _ (gs : List Gate) where
-  pub parities-pass : over_at gs ≡ length gs → judged_parities gs ≡ Accepted
+  pub parities-pass : over_at gs ≡ length gs → judged_parities gs ≡ Ok tt
   unfolding judged_parities
   parities-pass e = rw (le-ltb (over_at gs) (length gs) (omega arith))
 
-  pub parities-fail : over_at gs < length gs → judged_parities gs ≡ ManyParities (over_at gs)
+  pub parities-fail : over_at gs < length gs → judged_parities gs ≡ Err (ManyParities (over_at gs))
   unfolding judged_parities
   parities-fail h = rw (lt-ltb (over_at gs) (length gs) h)
 
 -- ---- 7
 
 module _ (n : ℕ) (islands : List ℕ) (gs : List Gate) where
-  pub reach-stray : stray_at n islands (run gs start) < n → judged_reach n islands gs ≡ Unreachable (stray_at n islands (run gs start))
+  pub reach-stray : stray_at n islands (run gs start) < n → judged_reach n islands gs ≡ Err (Unreachable (stray_at n islands (run gs start)))
   unfolding judged_reach
   reach-stray h = rw (lt-ltb (stray_at n islands (run gs start)) n h)
 
   module _ (none : n ≤ stray_at n islands (run gs start)) where
-    pub reach-scattered : scattered islands (terms gs) ≡ true → judged_reach n islands gs ≡ Unreachable n
+    pub reach-scattered : scattered islands (terms gs) ≡ true → judged_reach n islands gs ≡ Err (Unreachable n)
     unfolding judged_reach
     reach-scattered s = rw (le-ltb (stray_at n islands (run gs start)) n none, s)
 
-    pub reach-pass : scattered islands (terms gs) ≡ false → judged_reach n islands gs ≡ Accepted
+    pub reach-pass : scattered islands (terms gs) ≡ false → judged_reach n islands gs ≡ Ok tt
     unfolding judged_reach
     reach-pass s = rw (le-ltb (stray_at n islands (run gs start)) n none, s)
 
 -- ---- 8
 
 module _ (n : ℕ) (gs : List Gate) (room : ℕ) where
-  pub room-fail : room < bound_of n (length (terms gs)) → judged_room n gs room ≡ Room
+  pub room-fail : room < bound_of n (length (terms gs)) → judged_room n gs room ≡ Err Room
   unfolding judged_room
   room-fail h = rw (lt-ltb room (bound_of n (length (terms gs))) h)
 
-  pub room-pass : bound_of n (length (terms gs)) ≤ room → judged_room n gs room ≡ Accepted
+  pub room-pass : bound_of n (length (terms gs)) ≤ room → judged_room n gs room ≡ Ok tt
   unfolding judged_room
   room-pass h = rw (le-ltb room (bound_of n (length (terms gs))) h)
 
@@ -102,9 +103,9 @@ module _ (n : ℕ) (islands ys : List ℕ) (room : ℕ) (t : Told) (e : t ≡ to
   unfolding told_of
   fed-is = ap (λ (u : Told). u.fed) e
 
-  pub told_over : t.fed < length ys → ManyParities t.fed ≡ judged_meaning n islands gs room
+  pub told_over : t.fed < length ys → Err (ManyParities t.fed) ≡ judged_meaning n islands gs room
   unfolding judged_meaning
-  told_over h = rw (parities-fail gs (omega (arith, fed-is, long))) (ap ManyParities fed-is)
+  told_over h = rw (parities-fail gs (omega (arith, fed-is, long))) (ap (λ k. Err (ManyParities k)) fed-is)
 
   module _ (all : length ys ≤ t.fed) where
     pub whole : over_at gs ≡ length gs
@@ -121,15 +122,17 @@ module _ (n : ℕ) (islands ys : List ℕ) (room : ℕ) (t : Told) (e : t ≡ to
     unfolding meaning_of
     sums-are = ap (λ (m : Meaning). m.sums) told_is
 
-    module _ (w : ℕ) (s : w ≡ stray_at n islands t.meaning.wires.parity) where
-      stray-is : w ≡ stray_at n islands (run gs start)
-      stray-is = s ∙ ap (stray_at n islands) wires-are
+    module _ (w : Option ℕ) (s : w ≡ found_of (leaves_at islands t.meaning.wires.parity) n) where
+      stray-is : w ≡ found_of (leaves_at islands (run gs start)) n
+      stray-is = s ∙ ap (λ (p : List ℕ). found_of (leaves_at islands p) n) wires-are
 
-      pub told-stray : w < n → Unreachable w ≡ judged_meaning n islands gs room
-      unfolding judged_meaning
-      told-stray h = rw (parities-pass gs whole, reach-stray n islands gs (subst (λ (k : ℕ). k < n) stray-is h)) (ap Unreachable stray-is)
+      pub told-stray : {i : ℕ} → w ≡ Some i → Err (Unreachable i) ≡ judged_meaning n islands gs room
+      unfolding judged_meaning stray_at
+      told-stray {i} h =
+          let found = found-first (leaves_at islands (run gs start)) n (sym stray-is ∙ h) in
+          rw (parities-pass gs whole, reach-stray n islands gs (omega (arith, found))) (ap (λ k. Err (Unreachable k)) (sym found.0))
 
-      module _ (none : n ≤ w) (u : Sums) (v : u ≡ terms_in t.meaning.sums) where
+      module _ (none : w ≡ None) (u : Sums) (v : u ≡ terms_in t.meaning.sums) where
         table_is : u ≡ term_table gs
         table_is = v ∙ ap terms_in sums-are ∙ terms-table gs
 
@@ -145,13 +148,14 @@ module _ (n : ℕ) (islands ys : List ℕ) (room : ℕ) (t : Told) (e : t ≡ to
         told-few = omega (arith, count-is, terms-few gs, over-few gs whole)
 
         clear : n ≤ stray_at n islands (run gs start)
-        clear = subst (λ (k : ℕ). n ≤ k) stray-is none
+        unfolding stray_at
+        clear = found-not (leaves_at islands (run gs start)) n (sym stray-is ∙ none)
 
         module _ (b : Bool) (c : b ≡ scattered islands (take u.len u.parity)) where
           scattered-is : scattered islands (terms gs) ≡ b
           scattered-is = sym (c ∙ ap (scattered islands) terms-are)
 
-          pub told-scattered : b ≡ true → Unreachable n ≡ judged_meaning n islands gs room
+          pub told-scattered : b ≡ true → Err (Unreachable n) ≡ judged_meaning n islands gs room
           unfolding judged_meaning
           told-scattered y = rw (parities-pass gs whole, reach-scattered n islands gs clear (scattered-is ∙ y))
 
@@ -159,12 +163,12 @@ module _ (n : ℕ) (islands ys : List ℕ) (room : ℕ) (t : Told) (e : t ≡ to
             bound-is : B ≡ bound_of n (length (terms gs))
             bound-is = m ∙ ap (bound_of n) count-is
 
-            pub told-short : room < B → Room ≡ judged_meaning n islands gs room
+            pub told-short : room < B → Err Room ≡ judged_meaning n islands gs room
             unfolding judged_meaning
             told-short h =
                 rw (parities-pass gs whole, reach-pass n islands gs clear (scattered-is ∙ y), room-fail n gs room (subst (λ (k : ℕ). room < k) bound-is h))
 
-            pub told-pass : B ≤ room → Accepted ≡ judged_meaning n islands gs room
+            pub told-pass : B ≤ room → Ok tt ≡ judged_meaning n islands gs room
             unfolding judged_meaning
             told-pass h =
                 rw (parities-pass gs whole, reach-pass n islands gs clear (scattered-is ∙ y), room-pass n gs room (subst (λ (k : ℕ). k ≤ room) bound-is h))
@@ -175,7 +179,7 @@ pub qubits-few : (n : ℕ) → number_of (judged_qubits n) ≡ 0 → (1 ≤ n) �
 unfolding judged_qubits
 qubits-few n e = go (leb 1 n) (leb n 20) refl refl e
   where
-    go : (a b : Bool) → leb 1 n ≡ a → leb n 20 ≡ b → number_of (pick (both a b) Accepted Qubits) ≡ 0 → (1 ≤ n) × (n ≤ 20)
+    go : (a b : Bool) → leb 1 n ≡ a → leb n 20 ≡ b → number_of (pick (both a b) (Ok tt) (Err Qubits)) ≡ 0 → (1 ≤ n) × (n ≤ 20)
     go true true p q z = (leb-true 1 n p, leb-true n 20 q)
     go true false p q z = absurd (let y : ◌≡◌ {A = ℕ} 1 0 = z in omega arith)
     go false b p q z = absurd (let y : ◌≡◌ {A = ℕ} 1 0 = z in omega arith)
@@ -196,17 +200,17 @@ module _ (n : ℕ) (xs islands ys : List ℕ) (room : ℕ) where
     job-couplers b = then-stop (judged_couplers n xs) _ b ∙ then-on (judged_qubits n) _ a
 
     module _ (b : number_of (judged_couplers n xs) ≡ 0) where
-      pub job-count : 4096 < length ys → ManyGates ≡ verdict_on n xs islands ys room
+      pub job-count : 4096 < length ys → Err ManyGates ≡ verdict_on n xs islands ys room
       unfolding verdict_on judged_count
       job-count h =
-          let c : judged_count ys ≡ ManyGates = ap (λ (t : Bool). pick t ManyGates Accepted) (lt-ltb 4096 (length ys) h) in
+          let c : judged_count ys ≡ Err ManyGates = ap (λ (t : Bool). pick t (Err ManyGates) (Ok tt)) (lt-ltb 4096 (length ys) h) in
           sym c ∙ then-stop (judged_count ys) _ (λ z. let y : ◌≡◌ {A = ℕ} 4 0 = sym (ap number_of c) ∙ z in omega arith)
           ∙ then-on (judged_couplers n xs) _ b ∙ then-on (judged_qubits n) _ a
 
       module _ (few : length ys ≤ 4096) where
         count-zero : number_of (judged_count ys) ≡ 0
         unfolding judged_count
-        count-zero = ap (λ (t : Bool). number_of (pick t ManyGates Accepted)) (le-ltb 4096 (length ys) few)
+        count-zero = ap (λ (t : Bool). number_of (pick t (Err ManyGates) (Ok tt))) (le-ltb 4096 (length ys) few)
 
         pub job-gates : (number_of (judged_gates n ys) ≡ 0 → ⊥) → judged_gates n ys ≡ verdict_on n xs islands ys room
         unfolding verdict_on

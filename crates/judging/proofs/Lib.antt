@@ -1,2 +1,1 @@
-pub mod Scattering
 pub mod Judging

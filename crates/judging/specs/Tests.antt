@@ -1,17 +1,16 @@
 -- Tests 1 to 8 in document 01's order ("Records and refusals").
-use Rattle.std.specs.Prelude.{Bool, not, List, ℕ, ltb, length, get_or}
+use Rattle.std.specs.Prelude.{Bool, not, List, ℕ, ltb, length, get_or, Ok, Err}
 use Rattle.sets.specs.Pick.{pick}
 use Rattle.sets.specs.Size.{lowest_of}
 use Rattle.sets.specs.Search.{first_of, some_of}
 use Rattle.gates.specs.declared.gate.Gate.{Gate}
-use Rattle.verdicts.specs.declared.verdict.Verdict.{Verdict}
-use Rattle.verdicts.specs.declared.verdict.Verdict.TheVariants.{Accepted, ManyGates, ManyParities, Unreachable, Room}
+use Rattle.verdicts.specs.declared.verdict.Refusal.TheVariants.{ManyGates, ManyParities, Unreachable, Room}
 use Rattle.gates.specs.Limits.{most_gates}
 use Rattle.gates.specs.Layout.{gates_of}
 use Rattle.circuit.specs.Circuit.{run, start}
 use Rattle.meaning.specs.Borne.{over_at, terms}
 use Rattle.tallies.specs.Tally.{bound_of}
-use Rattle.verdicts.specs.Verdicts.{judged_qubits, judged_couplers, judged_gates}
+use Rattle.verdicts.specs.Verdicts.{Verdict, judged_qubits, judged_couplers, judged_gates}
 use Rattle.verdicts.specs.InOrder.{and_then}
 use Rattle.chip.specs.Couplers.{near_of}
 use Rattle.isles.specs.Islands.{islands_of}
@@ -20,12 +19,12 @@ use Rattle.share.specs.Own.{inside_of}
 -- ---- 4
 
 unfoldable pub judged_count : List ℕ → Verdict
-judged_count gates = pick (ltb most_gates (length gates)) ManyGates Accepted
+judged_count gates = pick (ltb most_gates (length gates)) (Err ManyGates) (Ok tt)
 
 -- ---- 6
 
 unfoldable pub judged_parities : List Gate → Verdict
-judged_parities gs = pick (ltb (over_at gs) (length gs)) (ManyParities (over_at gs)) Accepted
+judged_parities gs = pick (ltb (over_at gs) (length gs)) (Err (ManyParities (over_at gs))) (Ok tt)
 
 -- ---- 7. `islands` has the island of each qubit
 
@@ -48,13 +47,13 @@ scattered islands ps = some_of (λ k. scatters islands (get_or ps k 0)) (length 
 -- "lowest wire whose final parity leaves its island, else n"
 unfoldable pub judged_reach : ℕ → List ℕ → List Gate → Verdict
 judged_reach n islands gs =
-    pick (ltb (stray_at n islands (run gs start)) n) (Unreachable (stray_at n islands (run gs start)))
-    (pick (scattered islands (terms gs)) (Unreachable n) Accepted)
+    pick (ltb (stray_at n islands (run gs start)) n) (Err (Unreachable (stray_at n islands (run gs start))))
+    (pick (scattered islands (terms gs)) (Err (Unreachable n)) (Ok tt))
 
 -- ---- 8
 
 unfoldable pub judged_room : ℕ → List Gate → ℕ → Verdict
-judged_room n gs room = pick (ltb room (bound_of n (length (terms gs)))) Room Accepted
+judged_room n gs room = pick (ltb room (bound_of n (length (terms gs)))) (Err Room) (Ok tt)
 
 -- ---- in order, on the islands that are handed in, wherever they were found
 

@@ -9,7 +9,7 @@ use gates::job::Job;
 use meaning::told;
 use tallies::tally;
 use verdicts::verdict;
-use verdicts::verdict::Verdict;
+use verdicts::verdict::{Refusal, Verdict};
 
 // Tests 6, 7 and 8.
 fn judge_inside(n: usize, islands: [u32; Job::QUBITS], gates: &[u32], room: usize) -> Verdict
@@ -18,26 +18,22 @@ fn judge_inside(n: usize, islands: [u32; Job::QUBITS], gates: &[u32], room: usiz
 {
     let told = told::tell(gates, n);
     if told.fed < gates.len() {
-        return Verdict::ManyParities(told.fed);
+        return Err(Refusal::ManyParities(told.fed));
     }
     let meaning = told.meaning;
-    let wires = meaning.wires;
-    let parity = wires.parity;
-    let wire = reach::stray(n, islands, parity);
-    if wire < n {
-        return Verdict::Unreachable(wire);
+    if let Some(wire) = reach::stray(n, islands, meaning.wires.parity) {
+        return Err(Refusal::Unreachable(wire));
     }
-    let sums = meaning.sums;
-    let terms = sums.terms();
-    let term = terms.parity;
+    let terms = meaning.sums.terms();
     let count = terms.len;
-    if reach::some_scattered(islands, term, count) {
-        return Verdict::Unreachable(n);
+    let parities = &terms.parity[..count];
+    if reach::some_scattered(islands, parities) {
+        return Err(Refusal::Unreachable(n));
     }
     if room < tally::bound(n as u8, count as u16) {
-        return Verdict::Room;
+        return Err(Refusal::Room);
     }
-    Verdict::Accepted
+    Ok(())
 }
 
 // The islands are handed in: found once, they serve every stretch of a job.
@@ -50,21 +46,12 @@ pub fn judge_on(
 ) -> Verdict
     ensures { result ≡ verdict_on n couplers.now islands gates.now room }
 {
-    let qubits = verdict::judge_qubits(n);
-    if verdict::number(qubits) != 0 {
-        return qubits;
-    }
-    let listed = verdict::judge_couplers(couplers, n);
-    if verdict::number(listed) != 0 {
-        return listed;
-    }
+    verdict::judge_qubits(n)?;
+    verdict::judge_couplers(couplers, n)?;
     let is_many = Job::GATES < gates.len();
     if is_many {
-        return Verdict::ManyGates;
+        return Err(Refusal::ManyGates);
     }
-    let drawn = verdict::judge_gates(gates, n);
-    if verdict::number(drawn) != 0 {
-        return drawn;
-    }
+    verdict::judge_gates(gates, n)?;
     judge_inside(n, islands, gates, room)
 }

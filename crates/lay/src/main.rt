@@ -6,6 +6,7 @@ ghost use Rattle.std.specs.Prelude.{OnOk};
 ghost use Rattle.streams.specs.Printing.{PrintsFor};
 ghost use Rattle.console.specs.Printed.{laid_text};
 
+use console::programs;
 use std::io;
 use std::io::{Read, Write};
 
@@ -15,28 +16,7 @@ fn lay<R: Read, W: Write>(reader: &mut R, writer: &mut W) -> io::Result<()>
 {
     let mut input = [0u8; console::INPUT];
     let n = streams::read_full(reader, &mut input)?;
-    let mut couplers = [0u32; console::COUPLER_LINES];
-    let mut gates = [0u32; console::GATE_LINES];
-    let mut out = [0u8; console::OUTPUT];
-    let begun = console::printing::begin(&input, n, &mut couplers, &mut gates, &mut out);
-    let k = begun.bytes;
-    writer.write_all(&out[..k])?;
-    let job = begun.job;
-    let c = job.couplers;
-    let g = job.gates;
-    let mut from = begun.from;
-    while from <= g {
-        let part = console::printing::lay_part(
-            job.qubits,
-            &couplers[..c],
-            &gates[..g],
-            from,
-            &mut out,
-        );
-        let k = part.bytes;
-        writer.write_all(&out[..k])?;
-        from = part.next;
-    }
+    programs::write_laid(writer, &input[..n])?;
     Ok(())
 }
 

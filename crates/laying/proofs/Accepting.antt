@@ -10,6 +10,7 @@ use lib.Dec.{ltb}
 use lib.ListN.{length, get_or}
 use lib.Pow.{pow_mono}
 use borrow.Author.Tests.{ltb-true, ltb-false, not-false}
+use Rattle.std.specs.Prelude.{Ok, Err}
 use Rattle.sets.specs.Pick.{pick}
 use Rattle.sets.specs.Bit.{Sub}
 use Rattle.sets.specs.Size.{lowest_of}
@@ -18,7 +19,7 @@ use Rattle.sets.proofs.Finding.{first-true, first-before, first-is, some-no}
 use Rattle.sets.proofs.Deciding.{never}
 use Rattle.sets.proofs.Words.{lowest-in, lowest-below}
 use Rattle.gates.specs.declared.gate.Gate.{Gate}
-use Rattle.verdicts.specs.declared.verdict.Verdict.TheVariants.{Accepted, ManyParities, Unreachable, Room}
+use Rattle.verdicts.specs.declared.verdict.Refusal.TheVariants.{ManyParities, Unreachable, Room}
 use Rattle.gates.specs.Layout.{gates_of, Good}
 use Rattle.circuit.specs.Circuit.{run, start, final_of}
 use Rattle.meaning.specs.Borne.{Among, terms, over_at}
@@ -60,7 +61,7 @@ module _ (n : ℕ) (xs : List ℕ) (gs : List Gate) (few : n ≤ 20) (good : All
   unfolding judged_reach
   reach-clear e = go (ltb stray n) (scattered isls (terms gs)) refl refl e
     where
-      go : (a b : Bool) → ltb stray n ≡ a → scattered isls (terms gs) ≡ b → number_of (pick a (Unreachable stray) (pick b (Unreachable n) Accepted)) ≡ 0
+      go : (a b : Bool) → ltb stray n ≡ a → scattered isls (terms gs) ≡ b → number_of (pick a (Err (Unreachable stray)) (pick b (Err (Unreachable n)) (Ok tt))) ≡ 0
           → (n ≤ stray) × (scattered isls (terms gs) ≡ false)
       go true b x y e = absurd (omega arith)
       go false true x y e = absurd (omega arith)
@@ -124,7 +125,7 @@ module _ (n : ℕ) (xs : List ℕ) (gs : List Gate) (few : n ≤ 20) (good : All
           let w = at-among p (terms gs) a in
           (lowest_of p, first p a, gathered p a (subst (λ (m : ℕ). scatters isls m ≡ false) w.2 (none-scattered s w.0 w.1)))
 
-  pub within-reach : MeaningInside n isl gs → judged_reach n isls gs ≡ Accepted
+  pub within-reach : MeaningInside n isl gs → judged_reach n isls gs ≡ Ok tt
   unfolding scattered stray_at
   within-reach w =
       reach-pass n isls gs
@@ -147,7 +148,7 @@ pub parities-whole : (gs : List Gate) → number_of (judged_parities gs) ≡ 0 �
 unfolding judged_parities
 parities-whole gs e = go (ltb (over_at gs) (length gs)) refl e
   where
-    go : (b : Bool) → ltb (over_at gs) (length gs) ≡ b → number_of (pick b (ManyParities (over_at gs)) Accepted) ≡ 0 → over_at gs ≡ length gs
+    go : (b : Bool) → ltb (over_at gs) (length gs) ≡ b → number_of (pick b (Err (ManyParities (over_at gs))) (Ok tt)) ≡ 0 → over_at gs ≡ length gs
     go true x e = absurd (omega arith)
     go false x e = omega (arith, ltb-false (over_at gs) (length gs) x, over-le gs)
 
@@ -155,7 +156,7 @@ room-enough : (n : ℕ) (gs : List Gate) (room : ℕ) → number_of (judged_room
 unfolding judged_room
 room-enough n gs room e = go (ltb room (bound_of n (length (terms gs)))) refl e
   where
-    go : (b : Bool) → ltb room (bound_of n (length (terms gs))) ≡ b → number_of (pick b Room Accepted) ≡ 0 → bound_of n (length (terms gs)) ≤ room
+    go : (b : Bool) → ltb room (bound_of n (length (terms gs))) ≡ b → number_of (pick b (Err Room) (Ok tt)) ≡ 0 → bound_of n (length (terms gs)) ≤ room
     go true x e = absurd (omega arith)
     go false x e = ltb-false room (bound_of n (length (terms gs))) x
 
@@ -167,7 +168,7 @@ module _ (n : ℕ) (xs ys : List ℕ) (room : ℕ) (e : number_of (verdict_of n 
 
   record PastTests : Type 0 where
     qubits : n ≤ 20
-    couplers : judged_couplers n xs ≡ Accepted
+    couplers : judged_couplers n xs ≡ Ok tt
     drawn : All (Good n) gs
     parities : number_of (judged_parities gs) ≡ 0
     reach : number_of (judged_reach n (islands_of (near_of n xs)) gs) ≡ 0
@@ -199,7 +200,7 @@ module _ (n : ℕ) (xs ys : List ℕ) (room : ℕ) (e : number_of (verdict_of n 
   pub job-room : bound_of n (length (terms gs)) ≤ room
   job-room = room-enough n gs room passed.lent
 
-  pub job-listed : judged_couplers n xs ≡ Accepted
+  pub job-listed : judged_couplers n xs ≡ Ok tt
   job-listed = passed.couplers
 
 -- ---- which numbers
@@ -208,7 +209,7 @@ pub room-number : (n : ℕ) (gs : List Gate) (room : ℕ) → number_of (judged_
 unfolding judged_room
 room-number n gs room = go (ltb room (bound_of n (length (terms gs))))
   where
-    go : (b : Bool) → number_of (pick b Room Accepted) ≢ 7
+    go : (b : Bool) → number_of (pick b (Err Room) (Ok tt)) ≢ 7
     go true h = let y : ◌≡◌ {A = ℕ} 8 7 = h in omega arith
     go false h = let y : ◌≡◌ {A = ℕ} 0 7 = h in omega arith
 
@@ -217,8 +218,8 @@ module _ (n : ℕ) (xs : List ℕ) (gs : List Gate) (few : n ≤ 20) (good : All
   unfolding judged_reach
   reach-number = go (ltb (stray n xs gs few good) n) (scattered (islands_of (near_of n xs)) (terms gs)) ne
     where
-      go : (a b : Bool) → (number_of (pick a (Unreachable (stray n xs gs few good)) (pick b (Unreachable n) Accepted)) ≡ 0 → ⊥)
-          → number_of (pick a (Unreachable (stray n xs gs few good)) (pick b (Unreachable n) Accepted)) ≡ 7
+      go : (a b : Bool) → (number_of (pick a (Err (Unreachable (stray n xs gs few good))) (pick b (Err (Unreachable n)) (Ok tt))) ≡ 0 → ⊥)
+          → number_of (pick a (Err (Unreachable (stray n xs gs few good))) (pick b (Err (Unreachable n)) (Ok tt))) ≡ 7
       go true b h = refl
       go false true h = refl
       go false false h = absurd (h refl)
@@ -232,8 +233,8 @@ module _ (n : ℕ) (xs : List ℕ) (gs : List Gate) (few : n ≤ 20) (good : All
       k : ℕ
       k = stray n xs gs few good
 
-      go : (a b : Bool) → ltb k n ≡ a → (number_of (pick a (Unreachable k) (pick b (Unreachable n) Accepted)) ≡ 0 → ⊥)
-          → let m = place_of (pick a (Unreachable k) (pick b (Unreachable n) Accepted)) in
+      go : (a b : Bool) → ltb k n ≡ a → (number_of (pick a (Err (Unreachable k)) (pick b (Err (Unreachable n)) (Ok tt))) ≡ 0 → ⊥)
+          → let m = place_of (pick a (Err (Unreachable k)) (pick b (Err (Unreachable n)) (Ok tt))) in
           (m ≤ n) × ((i : ℕ) → i < m → Sub (final_of gs i) (island_of (near_of n xs) i)) × (m < n → Sub (final_of gs m) (island_of (near_of n xs) m) → ⊥)
       go true b e h =
           let l : k < n = ltb-true k n e in

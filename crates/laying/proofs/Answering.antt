@@ -1,29 +1,31 @@
 -- What the entry point answers and leaves is what the definitions say. Assumes nothing.
-use mathlib.Core.Path.{◌≡◌, sym, ap, ap₂, ◌∙◌}
-use mathlib.Core.Bool.{Bool, true, false}
+use mathlib.Core.Path.{◌≡◌, refl, sym, ap, ap₂, ◌∙◌}
+use mathlib.Core.Bool.{Bool, true}
 use mathlib.Core.List.{List, ◌++◌, map}
 use Prim.Native.Nat.{ℕ, ◌+◌}
 use native.Mathlib.Omega.{arith}
 use lib.Dec.{eqb}
 use lib.ListN.{length, take, drop}
 use borrow.Author.Tests.{eq-eqb, ne_eqb}
+use Rattle.std.specs.Prelude.{Ok, Err}
 use Rattle.sets.specs.Pick.{pick}
 use Rattle.gates.specs.declared.gate.Gate.{Gate}
-use Rattle.verdicts.specs.declared.verdict.Verdict.{Verdict}
 use Rattle.gates.specs.Layout.{gates_of, record_of}
 use Rattle.circuit.specs.Phase.{phase_of}
-use Rattle.verdicts.specs.Verdicts.{number_of}
+use Rattle.verdicts.specs.declared.verdict.Refusal.{Refusal}
+use Rattle.verdicts.proofs.Judged.{stopped}
+use Rattle.verdicts.specs.Verdicts.{Verdict, number_of}
 use Rattle.emitting.specs.Emit.{emit, emit_at}
 use Rattle.emitting.proofs.Emitting.{emit-room}
-use Rattle.laying.specs.declared.lay.Answer.{Answer}
-use Rattle.laying.specs.declared.lay.Answer.TheVariants.{Refused}
+use Rattle.laying.specs.declared.lay.Laid.{Laid}
 use Rattle.chip.specs.Couplers.{near_of}
 use Rattle.laying.specs.Laid.{laid_of}
 use Rattle.laying.specs.Layable.{Layable}
 use Rattle.judging.specs.Tests.{verdict_of}
-use Rattle.laying.specs.Answers.{circuit_of, counts_of, answered, output_of}
+use Rattle.laying.specs.Answers.{Answer, circuit_of, counts_of, answered, output_of}
 use Rattle.ways.proofs.Replaying.{zeros, gates_read, memory-fits}
 use Rattle.ways.proofs.Owned.{part_held}
+use Rattle.laying.proofs.Going.{going, going-accepted}
 use Rattle.laying.proofs.Accepting.{job-layable, job-room}
 use Rattle.laying.proofs.Accepted.{circuit-good, circuit-fits, circuit-bounded}
 
@@ -41,13 +43,12 @@ module _ (n : ℕ) (xs ys : List ℕ) (out : List ℕ) where
 
   -- ---- refused
 
-  pub refused : (v : Verdict) → v ≡ verdict_of n xs ys room → (number_of v ≡ 0 → ⊥) → (Refused v ≡ answered n xs ys room) × (out ≡ output_of n xs ys out)
+  pub refused : {r : Refusal} (a : Answer) → a ≡ Err r → verdict_of n xs ys room ≡ Err r → (a ≡ answered n xs ys room) × (out ≡ output_of n xs ys out)
   unfolding answered output_of
-  refused v e ne =
-      let b : eqb (number_of (verdict_of n xs ys room)) 0 ≡ false = ne_eqb (number_of (verdict_of n xs ys room)) 0 (λ z. ne (ap number_of e ∙ z)) in (
-        ap Refused e ∙ sym (ap (λ (t : Bool). pick t (counts_of C (phase_of (gates_of n ys))) (Refused (verdict_of n xs ys room))) b),
-        sym (ap (λ (t : Bool). pick t (map record_of C ++ drop (length C) out) out) b),
-      )
+  refused a h e = (
+    h ∙ sym (ap (λ (v : Verdict). going v (counts_of C (phase_of (gates_of n ys)))) e),
+    sym (ap (λ (t : Bool). pick t (map record_of C ++ drop (length C) out) out) (ne_eqb (number_of (verdict_of n xs ys room)) 0 (stopped refl e))),
+  )
 
   -- ---- accepted
 
@@ -59,12 +60,12 @@ module _ (n : ℕ) (xs ys : List ℕ) (out : List ℕ) where
     accepted = eq-eqb (number_of (verdict_of n xs ys room)) 0 e
 
     module _ (laid : List ℕ) (k : ℕ) (a : laid ≡ emit zeros 0 C) (b : k ≡ emit_at zeros 0 C) where
-      counts-are : (r : Answer) (phase : ℕ) → phase ≡ phase_of (gates_of n ys) → r ≡ counts_of (gates_of n (take k laid)) phase → r ≡ answered n xs ys room
+      counts-are : (l : Laid) (phase : ℕ) → phase ≡ phase_of (gates_of n ys) → l ≡ counts_of (gates_of n (take k laid)) phase → Ok l ≡ answered n xs ys room
       unfolding answered
-      counts-are r phase d h =
+      counts-are l phase d h =
           let f = job.few in
-          h ∙ ap₂ counts_of (ap₂ (λ (i : ℕ) (l : List ℕ). gates_of n (take i l)) b a ∙ gates_read C (circuit-fits n xs ys job) n (omega arith) (circuit-good n xs ys job)) d
-          ∙ sym (ap (λ (t : Bool). pick t (counts_of C (phase_of (gates_of n ys))) (Refused (verdict_of n xs ys room))) accepted)
+          ap Ok (h ∙ ap₂ counts_of (ap₂ (λ (i : ℕ) (l : List ℕ). gates_of n (take i l)) b a ∙ gates_read C (circuit-fits n xs ys job) n (omega arith) (circuit-good n xs ys job)) d)
+          ∙ sym (going-accepted (verdict_of n xs ys room) (counts_of C (phase_of (gates_of n ys))) e)
 
       output-is : (out' : List ℕ) → out' ≡ emit out 0 (gates_of 20 (take k laid)) → out' ≡ output_of n xs ys out
       unfolding output_of
@@ -74,6 +75,6 @@ module _ (n : ℕ) (xs ys : List ℕ) (out : List ℕ) where
           ∙ ap (λ (j : ℕ). map record_of C ++ drop j out) (let z : 0 + length C ≡ length C = omega arith in z)
           ∙ sym (ap (λ (t : Bool). pick t (map record_of C ++ drop (length C) out) out) accepted)
 
-      pub copied : (r : Answer) (phase : ℕ) (out' : List ℕ) → phase ≡ phase_of (gates_of n ys) → r ≡ counts_of (gates_of n (take k laid)) phase → out' ≡ emit out 0 (gates_of 20 (take k laid))
-          → (r ≡ answered n xs ys room) × (out' ≡ output_of n xs ys out)
-      copied r phase out' d g h = (counts-are r phase d g, output-is out' h)
+      pub copied : (l : Laid) (phase : ℕ) (out' : List ℕ) → phase ≡ phase_of (gates_of n ys) → l ≡ counts_of (gates_of n (take k laid)) phase → out' ≡ emit out 0 (gates_of 20 (take k laid))
+          → (Ok l ≡ answered n xs ys room) × (out' ≡ output_of n xs ys out)
+      copied l phase out' d g h = (counts-are l phase d g, output-is out' h)

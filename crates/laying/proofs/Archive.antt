@@ -7,11 +7,11 @@ use Prim.Native.Nat.{ℕ, zero, suc, ◌<◌}
 use native.Mathlib.Omega.{arith}
 use lib.Dec.{eqb}
 use lib.ListN.{length}
+use Rattle.std.specs.Prelude.{Ok}
 use Rattle.sets.specs.Pick.{pick}
 use Rattle.sets.specs.Size.{lowest_of}
 use Rattle.gates.specs.declared.gate.Gate.{Gate}
 use Rattle.gates.specs.Layout.{gates_of, record_of}
-use Rattle.verdicts.specs.declared.verdict.Verdict.TheVariants.{Accepted}
 use Rattle.verdicts.specs.Verdicts.{number_of, judged_couplers}
 use Rattle.circuit.specs.Circuit.{final_of, sum_of}
 use Rattle.circuit.specs.Flips.{flip_run, no_flips, flip_of}
@@ -44,7 +44,7 @@ module _ (n : ℕ) (couplers gates : List ℕ) (room : ℕ) (accepted : number_o
   job : Layable n couplers gates
   job = job-layable n couplers gates room accepted
 
-  listed : judged_couplers n couplers ≡ Accepted
+  listed : judged_couplers n couplers ≡ Ok tt
   listed = job-listed n couplers gates room accepted
 
   qubit-island : (q : ℕ) → q < n → Island n couplers (isl q) q

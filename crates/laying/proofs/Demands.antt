@@ -1,26 +1,24 @@
 -- The three demands, of `answered` and `output_of`, which the contract of `laying::lay::lay` ties to the program. Assumes nothing.
-use mathlib.Core.Path.{◌≡◌, refl, sym, ap, ap₂, ◌∙◌, subst}
+use mathlib.Core.Path.{◌≡◌, sym, ap, ap₂, ◌∙◌, subst}
 use mathlib.Core.Logic.{◌≢◌, ◌⊎◌, inl, inr, ◌↔◌}
-use mathlib.Core.Bool.{Bool, true, false}
+use mathlib.Core.Bool.{Bool}
 use mathlib.Core.List.{List, ◌++◌, map}
 use Prim.Native.Nat.{ℕ, ◌≤◌, ◌<◌}
 use native.Mathlib.Omega.{arith}
 use native.Mathlib.Decide.{ℕ_discrete}
-use lib.Dec.{eqb}
 use lib.ListN.{length, take, drop, length-map}
 use lib.Seq.{take-append_seam}
-use borrow.Author.Tests.{eq-eqb, eqb-true, eqb-false}
+use borrow.Author.Tests.{eq-eqb, ne_eqb}
+use Rattle.std.specs.Prelude.{Ok}
 use Rattle.sets.specs.Pick.{pick}
 use Rattle.gates.specs.declared.gate.Gate.{Gate}
-use Rattle.verdicts.specs.declared.verdict.Verdict.{Verdict}
-use Rattle.verdicts.specs.declared.verdict.Verdict.TheVariants.{Accepted}
 use Rattle.gates.specs.Layout.{gates_of, record_of, Good}
 use Rattle.meaning.specs.Borne.{over_at}
 use Rattle.sets.specs.Lists.{All}
 use Rattle.meaning.specs.Same.{SameMeaning, Reachable}
 use Rattle.circuit.specs.Phase.{phase_of}
 use Rattle.tallies.specs.Tally.{cnots_of, rotations_of, depth_of}
-use Rattle.verdicts.specs.Verdicts.{number_of, place_of, judged_qubits, judged_couplers, judged_gates}
+use Rattle.verdicts.specs.Verdicts.{Verdict, number_of, place_of, judged_qubits, judged_couplers, judged_gates}
 use Rattle.verdicts.specs.InOrder.{and_then}
 use Rattle.verdicts.proofs.Judged.{zero-accepted, then-on, then-stop, then-zero}
 use Rattle.verdicts.proofs.Passing.{accepted-good}
@@ -28,16 +26,15 @@ use Rattle.verdicts.proofs.Rows.{Tests, row-fails}
 use Rattle.gates.proofs.Alls.{records-gates}
 use Rattle.chip.specs.Couplers.{near_of}
 use Rattle.isles.specs.Islands.{island_of, islands_of}
-use Rattle.laying.specs.declared.lay.Answer.{Answer}
-use Rattle.laying.specs.declared.lay.Answer.TheVariants.{Laid, Refused}
 use Rattle.laying.specs.Layable.{Layable}
 use Rattle.laying.specs.Laid.{GoesOnIsland}
 use Rattle.judging.specs.Tests.{judged_count, judged_parities, judged_reach, judged_room, judged_meaning, verdict_of, verdict_on}
-use Rattle.laying.specs.Answers.{circuit_of, counts_of, answered, output_of, verdict_in, records_in, cnots_in, rotations_in, depth_in, phase_in, laid_records}
+use Rattle.laying.specs.Answers.{Answer, circuit_of, counts_of, answered, output_of, verdict_in, records_in, cnots_in, rotations_in, depth_in, phase_in, laid_records}
 use Rattle.laying.specs.Reach.{MeaningInside}
 use Rattle.laying.specs.Demands.{Island, InIsland, gates_on, Faithful, FlipsLast, judged_six, Stays, InIslands, Strays, Agree}
 use Rattle.laying.proofs.Job.{only-inside}
 use Rattle.judging.proofs.Judging.{qubits-few, over-few}
+use Rattle.laying.proofs.Going.{going-verdict, going-accepted, going-refused}
 use Rattle.laying.proofs.Accepting.{reach-within, within-reach, reach-number, reach-place, parities-whole, job-layable, job-room, job-listed, room-number}
 use Rattle.laying.proofs.Accepted.{circuit-quiet, circuit-alike, circuit-phase, circuit-same, circuit-good, circuit-coupled, circuit-rotations, circuit-cnots, circuit-xs, circuit-xs-at, circuit-bounded, circuit-reaches}
 use Rattle.laying.proofs.Both.{island-goes-on}
@@ -63,38 +60,36 @@ module _ (n : ℕ) (couplers gates out : List ℕ) where
   -- every job gets the answer of the first test that it fails, of 1 to 8 in that order, or is accepted
   pub demand-1-verdict : verdict_in answer ≡ verdict
   unfolding answered
-  demand-1-verdict = go (eqb (number_of verdict) 0) refl
-    where
-      go : (b : Bool) → eqb (number_of verdict) 0 ≡ b → verdict_in (pick b (counts_of circuit phase) (Refused verdict)) ≡ verdict
-      go true e = unfold counts_of in sym (zero-accepted verdict (eqb-true (number_of verdict) 0 e))
-      go false e = refl
+  demand-1-verdict = going-verdict verdict (counts_of circuit phase)
 
   -- "On refusal all counts are 0 and no lent record has changed"
   pub demand-1-refused : number_of verdict ≢ 0 → (records_in answer ≡ 0) × (cnots_in answer ≡ 0) × (rotations_in answer ≡ 0) × (depth_in answer ≡ 0) × (phase_in answer ≡ 0)
       × (output_of n couplers gates out ≡ out)
   unfolding answered output_of
-  demand-1-refused ne = go (eqb (number_of verdict) 0) refl
-    where
-      go : (b : Bool) → eqb (number_of verdict) 0 ≡ b
-          → let a = pick b (counts_of circuit phase) (Refused verdict) in
-          (records_in a ≡ 0) × (cnots_in a ≡ 0) × (rotations_in a ≡ 0) × (depth_in a ≡ 0) × (phase_in a ≡ 0)
-          × (pick b (map record_of circuit ++ drop (length circuit) out) out ≡ out)
-      go true e = absurd (ne (eqb-true (number_of verdict) 0 e))
-      go false e = (refl, refl, refl, refl, refl, refl)
+  demand-1-refused ne =
+      let none = going-refused verdict (counts_of circuit phase) ne in (
+        none.0,
+        none.1,
+        none.2,
+        none.3,
+        none.4,
+        ap (λ (b : Bool). pick b (map record_of circuit ++ drop (length circuit) out) out) (ne_eqb (number_of verdict) 0 ne),
+      )
 
   -- "An acceptance returns the number of records, CNOTs, rotations and the depth; the first records of the output are the circuit and all later ones stay"; it returns the common phase too
   pub demand-1-accepted : number_of verdict ≡ 0
       → (records_in answer ≡ length circuit) × (cnots_in answer ≡ cnots_of circuit) × (rotations_in answer ≡ rotations_of circuit) × (depth_in answer ≡ depth_of circuit)
       × (phase_in answer ≡ phase) × (output_of n couplers gates out ≡ map record_of circuit ++ drop (length circuit) out)
   unfolding answered output_of counts_of
-  demand-1-accepted z = go (eqb (number_of verdict) 0) refl
-    where
-      go : (b : Bool) → eqb (number_of verdict) 0 ≡ b
-          → let a = pick b (Laid (length circuit) (cnots_of circuit) (rotations_of circuit) (depth_of circuit) phase) (Refused verdict) in
-          (records_in a ≡ length circuit) × (cnots_in a ≡ cnots_of circuit) × (rotations_in a ≡ rotations_of circuit) × (depth_in a ≡ depth_of circuit)
-          × (phase_in a ≡ phase) × (pick b (map record_of circuit ++ drop (length circuit) out) out ≡ map record_of circuit ++ drop (length circuit) out)
-      go true e = (refl, refl, refl, refl, refl, refl)
-      go false e = absurd (eqb-false (number_of verdict) 0 e z)
+  demand-1-accepted z =
+      let said = going-accepted verdict (counts_of circuit phase) z in (
+        ap records_in said,
+        ap cnots_in said,
+        ap rotations_in said,
+        ap depth_in said,
+        ap phase_in said,
+        ap (λ (b : Bool). pick b (map record_of circuit ++ drop (length circuit) out) out) (eq-eqb (number_of verdict) 0 z),
+      )
 
 -- ---- demand 2
 
@@ -119,7 +114,7 @@ demand-2 n couplers gates room z =
   where
     returned : phase_in (answered n couplers gates room) ≡ phase_of (gates_of n gates)
     returned =
-        unfold answered counts_of in ap (λ (b : Bool). phase_in (pick b (counts_of (circuit_of n couplers gates) (phase_of (gates_of n gates))) (Refused (verdict_of n couplers gates room)))) (eq-eqb (number_of (verdict_of n couplers gates room)) 0 z)
+        unfold answered counts_of in ap phase_in (going-accepted (verdict_of n couplers gates room) (counts_of (circuit_of n couplers gates) (phase_of (gates_of n gates))) z)
 
 -- the X gates of each island stand behind its other gates, by ascending qubit
 pub demand-2-flips-last : (n : ℕ) (couplers gates : List ℕ) (room : ℕ) → number_of (verdict_of n couplers gates room) ≡ 0
@@ -180,7 +175,7 @@ module _ (n : ℕ) (couplers gates : List ℕ) (room : ℕ) (six : number_of (ju
   all_good : All (Good n) drawn
   all_good = accepted-good n gates (zero-accepted (judged_gates n gates) past.good)
 
-  ok : judged_couplers n couplers ≡ Accepted
+  ok : judged_couplers n couplers ≡ Ok tt
   ok = zero-accepted (judged_couplers n couplers) past.listed
 
   -- past tests 1 to 6 the verdict is that of 7 and 8
@@ -198,7 +193,7 @@ module _ (n : ℕ) (couplers gates : List ℕ) (room : ℕ) (six : number_of (ju
   refused-7 : (number_of reach ≡ 0 → ⊥) → reach ≡ verdict_of n couplers gates room
   refused-7 ne = then-stop reach (judged_room n drawn room) ne ∙ rest
 
-  reached : Reachable n couplers drawn → reach ≡ Accepted
+  reached : Reachable n couplers drawn → reach ≡ Ok tt
   reached r = within-reach n couplers drawn few all_good (only-inside n couplers few ok drawn r)
 
   strays : (number_of reach ≡ 0 → ⊥) → Strays n couplers drawn (place_of reach)

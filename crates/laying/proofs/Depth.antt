@@ -1,28 +1,23 @@
 -- The depth that is answered, of every job: 0 exactly when no CNOT is laid, and at most the number of CNOTs. Assumes nothing.
-use mathlib.Core.Path.{◌≡◌, refl}
+use mathlib.Core.Path.{◌≡◌, refl, ap}
 use mathlib.Core.Logic.{◌↔◌}
-use mathlib.Core.Bool.{Bool, true, false}
 use mathlib.Core.List.{List}
 use Prim.Native.Nat.{ℕ, ◌≤◌}
 use native.Mathlib.Omega.{arith}
-use lib.Dec.{eqb}
-use borrow.Author.Tests.{eqb-true}
-use Rattle.sets.specs.Pick.{pick}
+use Rattle.std.specs.Prelude.{Ok, Err}
 use Rattle.gates.specs.Limits.{most_qubits}
 use Rattle.gates.specs.declared.gate.Gate.{Gate}
 use Rattle.gates.specs.Layout.{gates_of, Good}
 use Rattle.sets.specs.Lists.{All}
 use Rattle.sets.proofs.Lists.{all_map}
-use Rattle.verdicts.specs.declared.verdict.Verdict.{Verdict}
-use Rattle.verdicts.specs.Verdicts.{number_of}
+use Rattle.verdicts.specs.Verdicts.{Verdict, number_of}
 use Rattle.tallies.proofs.DepthLaws.{depth-none, depth-few}
 use Rattle.circuit.specs.Phase.{phase_of}
 use Rattle.circuit.proofs.Wiring.{good-up}
-use Rattle.laying.specs.declared.lay.Answer.{Answer}
-use Rattle.laying.specs.declared.lay.Answer.TheVariants.{Refused}
 use Rattle.judging.specs.Tests.{verdict_of}
-use Rattle.laying.specs.Answers.{circuit_of, counts_of, answered, cnots_in, depth_in}
+use Rattle.laying.specs.Answers.{Answer, circuit_of, counts_of, answered, cnots_in, depth_in}
 use Rattle.laying.proofs.Accepting.{job-layable}
+use Rattle.laying.proofs.Going.{going}
 use Rattle.laying.proofs.Demands.{demand-2}
 
 module _ (n : ℕ) (couplers gates : List ℕ) (room : ℕ) where
@@ -42,9 +37,8 @@ module _ (n : ℕ) (couplers gates : List ℕ) (room : ℕ) where
 
   pub answered-depth : (depth_in answer ≡ 0 ↔ cnots_in answer ≡ 0) × (depth_in answer ≤ cnots_in answer)
   unfolding answered
-  answered-depth = go (eqb (number_of verdict) 0) refl
+  answered-depth = go verdict refl
     where
-      go : (b : Bool) → eqb (number_of verdict) 0 ≡ b
-          → let a = pick b (counts_of circuit (phase_of (gates_of n gates))) (Refused verdict) in (depth_in a ≡ 0 ↔ cnots_in a ≡ 0) × (depth_in a ≤ cnots_in a)
-      go true e = unfold counts_of in (depth-none circuit (on-the-chip (eqb-true (number_of verdict) 0 e)), depth-few circuit)
-      go false e = ((λ z. refl, λ z. refl), omega arith)
+      go : (v : Verdict) → verdict ≡ v → let a = going v (counts_of circuit (phase_of (gates_of n gates))) in (depth_in a ≡ 0 ↔ cnots_in a ≡ 0) × (depth_in a ≤ cnots_in a)
+      go (Ok tt) e = unfold counts_of in (depth-none circuit (on-the-chip (ap number_of e)), depth-few circuit)
+      go (Err r) e = ((λ z. refl, λ z. refl), omega arith)

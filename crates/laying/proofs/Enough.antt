@@ -8,11 +8,12 @@ use native.Mathlib.Omega.{arith}
 use lib.Dec.{ltb}
 use lib.ListN.{length, length-map}
 use borrow.Author.Tests.{ltb-true}
+use Rattle.std.specs.Prelude.{Ok, Err}
 use Rattle.sets.specs.Pick.{pick}
 use Rattle.gates.specs.Limits.{most_qubits, most_gates}
 use Rattle.gates.specs.declared.gate.Gate.{Gate}
 use Rattle.gates.specs.Layout.{gate_of, gates_of}
-use Rattle.verdicts.specs.declared.verdict.Verdict.TheVariants.{Accepted, Unreachable}
+use Rattle.verdicts.specs.declared.verdict.Refusal.TheVariants.{Unreachable}
 use Rattle.verdicts.specs.Verdicts.{number_of, place_of, judged_qubits, judged_couplers, judged_gates}
 use Rattle.verdicts.specs.Rows.{Passes1, Passes2, Passes3, Passes5}
 use Rattle.verdicts.proofs.Rows.{row-passes, tests-1, tests-5}
@@ -51,7 +52,7 @@ reach-low n islands gs few = go (ltb k n) (scattered islands (terms gs)) refl
     k : ℕ
     k = stray_at n islands (run gs start)
 
-    go : (a b : Bool) → ltb k n ≡ a → Low (pick a (Unreachable k) (pick b (Unreachable n) Accepted))
+    go : (a b : Bool) → ltb k n ≡ a → Low (pick a (Err (Unreachable k)) (pick b (Err (Unreachable n)) (Ok tt)))
     go true b e = omega (arith, ltb-true k n e, few)
     go false true e = omega (arith, few)
     go false false e = omega arith

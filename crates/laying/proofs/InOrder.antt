@@ -5,10 +5,10 @@ use mathlib.Core.List.{List}
 use Prim.Native.Nat.{ℕ, ◌+◌, ◌<◌}
 use native.Mathlib.Omega.{arith}
 use lib.ListN.{length}
+use Rattle.std.specs.Prelude.{Err}
 use Rattle.gates.specs.Limits.{most_couplers, most_gates}
-use Rattle.verdicts.specs.declared.verdict.Verdict.{Verdict}
-use Rattle.verdicts.specs.declared.verdict.Verdict.TheVariants.{ManyGates}
-use Rattle.verdicts.specs.Verdicts.{judged_qubits, judged_couplers}
+use Rattle.verdicts.specs.declared.verdict.Refusal.TheVariants.{ManyGates}
+use Rattle.verdicts.specs.Verdicts.{Verdict, judged_qubits, judged_couplers}
 use Rattle.verdicts.specs.InOrder.{and_then}
 use Rattle.verdicts.specs.Rows.{Row, Nowhere, Some, First, Passes1, Passes2, Passes3, WrongRecord}
 use Rattle.verdicts.proofs.Judged.{then-assoc}
@@ -18,7 +18,7 @@ use Rattle.laying.specs.Rows.{Passes4}
 
 pub tests-4 : (gates : List ℕ) → Tests (judged_count gates) 4 (Passes4 gates) (most_gates < length gates) Nowhere
 unfolding judged_count
-tests-4 gates = limit-tests most_gates (length gates) ManyGates (omega arith) refl
+tests-4 gates = limit-tests most_gates (length gates) (Err ManyGates) (omega arith) refl
 
 -- the number j is 0 or that of a test behind k
 abbrev Later : ℕ → ℕ → Type 0

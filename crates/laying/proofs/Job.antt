@@ -7,6 +7,7 @@ use Prim.Native.Nat.{ℕ, ◌+◌, ◌-◌, ◌*◌, ◌^◌, ◌≤◌, ◌<◌
 use native.Mathlib.Omega.{arith}
 use native.Mathlib.Decide.{ℕ_discrete, dec_lt}
 use lib.ListN.{length, get_or, length-map, get_or-eq_default}
+use Rattle.std.specs.Prelude.{Ok}
 use Rattle.sets.specs.Bit.{bit, In, Sub}
 use Rattle.sets.specs.Size.{lowest_of}
 use Rattle.sets.proofs.Bits.{bit-cases}
@@ -14,7 +15,6 @@ use Rattle.sets.proofs.Members.{in-lt, in-pow}
 use Rattle.sets.proofs.Comb.{get_or-units}
 use Rattle.gates.specs.declared.gate.Gate.{Gate}
 use Rattle.gates.specs.declared.gate.Gate.TheVariants.{Cnot, Rotation, X, Bad}
-use Rattle.verdicts.specs.declared.verdict.Verdict.TheVariants.{Accepted}
 use Rattle.gates.specs.Layout.{Good}
 use Rattle.circuit.specs.Circuit.{run, start, final_of, given, sum_of, Term}
 use Rattle.meaning.specs.Borne.{Among, borne, terms}
@@ -83,10 +83,10 @@ module _ (n : ℕ) (xs : List ℕ) (few : n ≤ 20) where
   }
 
   -- a listed coupler joins qubits of one island
-  pub joins : judged_couplers n xs ≡ Accepted → (u v : ℕ) → u < n → v < n → u ≢ v → Listed xs u v → isl u ≡ isl v
+  pub joins : judged_couplers n xs ≡ Ok tt → (u v : ℕ) → u < n → v < n → u ≢ v → Listed xs u v → isl u ≡ isl v
   joins ok u v hu hv ne k = island-near near (near-symm n xs) u v (omega arith) (omega arith) (accepted-near n xs few ok u v hu hv k)
 
-  pub only-inside : judged_couplers n xs ≡ Accepted → (gs : List Gate) → Reachable n xs gs → MeaningInside n isl gs
+  pub only-inside : judged_couplers n xs ≡ Ok tt → (gs : List Gate) → Reachable n xs gs → MeaningInside n isl gs
   only-inside ok gs r = reachable-within n isl xs few (λ i h. parts.self i h) (joins ok) gs r
 
 -- ---- a job within its islands

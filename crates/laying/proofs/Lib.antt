@@ -18,6 +18,7 @@ pub mod Walking
 pub mod Accepting
 pub mod Accepted
 pub mod Answering
+pub mod Going
 pub mod Said
 pub mod Linking
 pub mod Each

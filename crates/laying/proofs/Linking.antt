@@ -3,9 +3,9 @@ use mathlib.Core.Path.{◌≡◌}
 use mathlib.Core.List.{List}
 use Prim.Native.Nat.{ℕ, ◌≤◌, ◌<◌}
 use native.Mathlib.Omega.{arith}
+use Rattle.std.specs.Prelude.{Ok}
 use Rattle.sets.specs.Bit.{In}
 use Rattle.sets.proofs.Members.{sub-eq}
-use Rattle.verdicts.specs.declared.verdict.Verdict.TheVariants.{Accepted}
 use Rattle.verdicts.specs.Verdicts.{judged_couplers}
 use Rattle.chip.specs.Graph.{Chain, here, next}
 use Rattle.chip.specs.Couplers.{near_of}
@@ -14,7 +14,7 @@ use Rattle.chip.proofs.Neighbours.{near-below, near-listed, accepted-near}
 use Rattle.isles.proofs.Isles.{every_in, island-chain, chain-island}
 use Rattle.laying.specs.Demands.{Linked, same, more, Island}
 
-module _ (n : ℕ) (xs : List ℕ) (few : n ≤ 20) (ok : judged_couplers n xs ≡ Accepted) where
+module _ (n : ℕ) (xs : List ℕ) (few : n ≤ 20) (ok : judged_couplers n xs ≡ Ok tt) where
   linked-below : {q j : ℕ} → Linked xs n q j → j < n
   linked-below (same h) = h
   linked-below (more l h k) = h

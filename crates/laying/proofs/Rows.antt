@@ -8,12 +8,13 @@ use native.Mathlib.Omega.{arith}
 use lib.Dec.{ltb}
 use lib.ListN.{length, take}
 use borrow.Author.Tests.{ltb-true, ltb-false}
+use Rattle.std.specs.Prelude.{Ok, Err}
 use Rattle.sets.specs.Pick.{pick}
 use Rattle.sets.proofs.Finding.{first-true, first-before}
 use Rattle.gates.specs.declared.gate.Gate.{Gate}
 use Rattle.gates.specs.Limits.{most_parities}
 use Rattle.gates.specs.Layout.{gates_of}
-use Rattle.verdicts.specs.declared.verdict.Verdict.TheVariants.{Accepted, ManyParities, Room}
+use Rattle.verdicts.specs.declared.verdict.Refusal.TheVariants.{ManyParities, Room}
 use Rattle.verdicts.specs.Verdicts.{number_of, place_of, judged_qubits, judged_couplers, judged_gates}
 use Rattle.verdicts.specs.Rows.{Nowhere, Passes1, Passes2, Passes3, Passes5}
 use Rattle.verdicts.proofs.Judged.{then-on}
@@ -34,7 +35,7 @@ use Rattle.laying.proofs.Demands.{reach-tests}
 
 pub tests-8 : (n : ℕ) (drawn : List Gate) (room : ℕ) → Tests (judged_room n drawn room) 8 (Passes8 n drawn room) (room < bound_of n (length (terms drawn))) Nowhere
 unfolding judged_room
-tests-8 n drawn room = limit-tests room (bound_of n (length (terms drawn))) Room (omega arith) refl
+tests-8 n drawn room = limit-tests room (bound_of n (length (terms drawn))) (Err Room) (omega arith) refl
 
 none-borne : (gs : List Gate) → length (borne (take 0 gs)) ≡ 0
 unfolding borne borne_from
@@ -57,7 +58,7 @@ pub tests-6 : (gs : List Gate) → Tests (judged_parities gs) 6 (Passes6 gs) (mo
 unfolding judged_parities
 tests-6 gs = record { decided = go (ltb (over_at gs) (length gs)) refl; apart = λ (p : Passes6 gs) (f : most_parities < length (borne gs)). omega arith; refuses = omega arith }
   where
-    go : (b : Bool) → ltb (over_at gs) (length gs) ≡ b → let v = pick b (ManyParities (over_at gs)) Accepted in
+    go : (b : Bool) → ltb (over_at gs) (length gs) ≡ b → let v = pick b (Err (ManyParities (over_at gs))) (Ok tt) in
         ((number_of v ≡ 0) × Passes6 gs) ⊎ ((number_of v ≡ 6) × (most_parities < length (borne gs)) × Brings gs (place_of v))
     go true e =
         let l : over_at gs < length gs = ltb-true (over_at gs) (length gs) e in

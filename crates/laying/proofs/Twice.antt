@@ -4,11 +4,11 @@ use mathlib.Core.List.{List, [], ◌∷◌, ◌++◌, map}
 use Prim.Native.Nat.{ℕ, ◌^◌, ◌<◌}
 use native.Mathlib.Omega.{arith}
 use lib.Bits.{bit_and}
+use Rattle.std.specs.Prelude.{Ok}
 use Rattle.sets.specs.Bit.{In}
 use Rattle.sets.specs.Size.{lowest_of}
 use Rattle.gates.specs.declared.gate.Gate.{Gate}
 use Rattle.gates.specs.declared.gate.Gate.TheVariants.{Cnot, Rotation, X, Bad}
-use Rattle.verdicts.specs.declared.verdict.Verdict.TheVariants.{Accepted}
 use Rattle.gates.specs.Layout.{gates_of, Good}
 use Rattle.circuit.specs.Circuit.{run, start, sum_of, Term}
 use Rattle.circuit.specs.Flips.{flip_run, no_flips}
@@ -50,7 +50,7 @@ laid_on S near gs = island_laid (share_of S near gs)
 
 -- ---- one job
 
-module _ (n : ℕ) (xs ys : List ℕ) (job : Layable n xs ys) (ok : judged_couplers n xs ≡ Accepted) (S q : ℕ) (island : Island n xs S q) where
+module _ (n : ℕ) (xs ys : List ℕ) (job : Layable n xs ys) (ok : judged_couplers n xs ≡ Ok tt) (S q : ℕ) (island : Island n xs S q) where
   abbrev isl : ℕ → ℕ
   isl = island_of (near_of n xs)
 
@@ -111,7 +111,7 @@ maps-alike : (f g : ℕ → ℕ) (ps : List ℕ) → ((p : ℕ) → Among p ps �
 maps-alike f g [] h = refl
 maps-alike f g (p ∷ ps) h = ap₂ (λ (a : ℕ) (l : List ℕ). a ∷ l) (h p (among_first p p ps refl)) (maps-alike f g ps (λ r k. h r (among-rest r p ps k)))
 
-module _ (n m : ℕ) (xs xs' ys ys' : List ℕ) (job : Layable n xs ys) (job' : Layable m xs' ys') (ok : judged_couplers n xs ≡ Accepted) (ok' : judged_couplers m xs' ≡ Accepted)
+module _ (n m : ℕ) (xs xs' ys ys' : List ℕ) (job : Layable n xs ys) (job' : Layable m xs' ys') (ok : judged_couplers n xs ≡ Ok tt) (ok' : judged_couplers m xs' ≡ Ok tt)
     (S q r : ℕ) (here : Island n xs S q) (there : Island m xs' S r) (agree : Agree S xs xs' (gates_of n ys) (gates_of m ys')) where
   abbrev one : List Gate
   one = gates_of n ys

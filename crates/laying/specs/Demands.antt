@@ -4,7 +4,6 @@ use Rattle.sets.specs.Pick.{pick, both}
 use Rattle.sets.specs.Bit.{In, Sub, has}
 use Rattle.gates.specs.declared.gate.Gate.{Gate}
 use Rattle.gates.specs.declared.gate.Gate.TheVariants.{Cnot, Rotation, X, Bad}
-use Rattle.verdicts.specs.declared.verdict.Verdict.{Verdict}
 use Rattle.gates.specs.Layout.{gates_of, Good}
 use Rattle.circuit.specs.Circuit.{step, start, final_of, sum_of, Term}
 use Rattle.circuit.specs.Flips.{flip_of}
@@ -15,7 +14,7 @@ use Rattle.gates.specs.Listed.{Listed, OnCoupler}
 use Rattle.meaning.specs.Same.{SameMeaning}
 use Rattle.tallies.specs.Tally.{tally, cnots_of, rotations_of, xs_of, bound_of}
 use Rattle.flips.specs.Xs.{NoX}
-use Rattle.verdicts.specs.Verdicts.{judged_qubits, judged_couplers, judged_gates}
+use Rattle.verdicts.specs.Verdicts.{Verdict, judged_qubits, judged_couplers, judged_gates}
 use Rattle.verdicts.specs.InOrder.{and_then}
 use Rattle.judging.specs.Tests.{judged_count, judged_parities}
 

@@ -3,7 +3,7 @@ use Rattle.std.specs.Prelude.{List, ℕ, ◌+◌, ◌≤◌, ◌<◌, length, ta
 use Rattle.gates.specs.declared.gate.Gate.{Gate}
 use Rattle.gates.specs.Limits.{most_couplers, most_parities, most_gates}
 use Rattle.gates.specs.Layout.{gates_of}
-use Rattle.verdicts.specs.declared.verdict.Verdict.{Verdict}
+use Rattle.verdicts.specs.Verdicts.{Verdict}
 use Rattle.verdicts.specs.Rows.{Row, Nowhere, Some, First, Passes1, Passes2, WrongRecord, Passes3, BadRecord, Passes5}
 use Rattle.tallies.specs.Tally.{bound_of}
 use Rattle.meaning.specs.Borne.{borne, terms}

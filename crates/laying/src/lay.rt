@@ -20,24 +20,18 @@ use meaning::told;
 use share::own;
 use share::own::Own;
 use tallies::{depth, tally};
-use verdicts::verdict;
-use verdicts::verdict::Verdict;
+use verdicts::verdict::Refusal;
 use ways::island;
 
-// What laying answers: the counts of the laid gates, or why there are none.
-#[derive(Clone, Copy)]
-pub enum Answer {
-    Laid {
-        records: usize,
-        cnots: usize,
-        rotations: usize,
-        depth: usize,
-        // What the laid gates' common phase lacks of the job's.
-        phase: u32,
-    },
-    Refused {
-        verdict: Verdict,
-    },
+// The counts of the laid gates.
+#[derive(Clone, Copy, Debug, PartialEq, Eq)]
+pub struct Laid {
+    pub records: usize,
+    pub cnots: usize,
+    pub rotations: usize,
+    pub depth: usize,
+    // What the laid gates' common phase lacks of the job's.
+    pub phase: u32,
 }
 
 // The number of records laid, and the job's common phase.
@@ -91,10 +85,10 @@ fn lay_on(
 }
 
 // The counts of a list of laid records.
-pub fn counted(laid: &[u32], n: usize, phase: u32) -> Answer
+pub fn counted(laid: &[u32], n: usize, phase: u32) -> Laid
     ensures { result ≡ counts_of (gates_of n laid.now) phase }
 {
-    Answer::Laid {
+    Laid {
         records: laid.len(),
         cnots: tally::cnots(laid, n),
         rotations: tally::rotations(laid, n),
@@ -105,19 +99,15 @@ pub fn counted(laid: &[u32], n: usize, phase: u32) -> Answer
 
 // Lays a job: tests 1 to 8 in order; the gates go to `out` only once all of them are passed.
 // Neighbours and islands are found once, for the tests and for laying.
-pub fn lay(n: usize, couplers: &[u32], gates: &[u32], out: &mut [u32]) -> Answer
+pub fn lay(n: usize, couplers: &[u32], gates: &[u32], out: &mut [u32]) -> Result<Laid, Refusal>
     ensures { (result ≡ answered n couplers.now gates.now (length out.old)) × (out.new ≡ output_of n couplers.now gates.now out.old) }
 {
     let near = couplers::near(couplers, n);
     let islands = islands::islands(near);
-    let verdict = judge::judge_on(n, couplers, islands, gates, out.len());
-    let is_refused = verdict::number(verdict) != 0;
-    if is_refused {
-        return Answer::Refused { verdict };
-    }
+    judge::judge_on(n, couplers, islands, gates, out.len())?;
     let mut laid = [0u32; tally::LARGEST];
     let outcome = lay_on(n, near, islands, gates, &mut laid);
     let k = outcome.records;
     island::replay(&laid[..k], out, 0);
-    counted(&laid[..k], n, outcome.phase)
+    Ok(counted(&laid[..k], n, outcome.phase))
 }

@@ -6,14 +6,11 @@ use gates::job::Job;
 use share::own::Own;
 
 // Wire i of the set is asked for x, which is not its own parity.
+#[tactic(auto, unfolding(crate::specs::Stands::off_of))]
 fn is_off(set: u32, i: usize, x: u32) -> bool
     ensures { result ≡ off_of set i x }
 {
-    if sets::holds(set, i) {
-        x != sets::only(i)
-    } else {
-        false
-    }
+    sets::holds(set, i) && x != sets::only(i)
 }
 
 fn some_off(set: u32, asked: [u32; Job::QUBITS]) -> bool
@@ -27,15 +24,10 @@ fn some_off(set: u32, asked: [u32; Job::QUBITS]) -> bool
     false
 }
 
+#[tactic(auto, unfolding(crate::specs::Stands::stands_of))]
 pub(crate) fn stands(own: Own) -> bool
     ensures { result ≡ stands_of own }
 {
-    let terms = own.terms;
-    let asked = own.asked;
-    let is_bare = terms.len == 0;
-    if is_bare {
-        !some_off(own.set, asked)
-    } else {
-        false
-    }
+    let is_bare = own.terms.len == 0;
+    is_bare && !some_off(own.set, own.asked)
 }

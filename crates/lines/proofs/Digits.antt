@@ -27,6 +27,9 @@ pub digits-big : (n : ℕ) → 10 ≤ n → digits n ≡ digits (n / 10) ++ ((48
 unfolding digits digits_in
 digits-big n h = rw (le-ltb n 10 h, digits_in-fuel n (suc (n / 10)) (n / 10) (omega arith) (omega arith))
 
+-- digit by digit, as the code goes
+pub ruleset digit_steps = (digits-small, digits-big)
+
 pub digits_step : (v k : ℕ) → 0 < v → k < 10 → digits (v * 10 + k) ≡ digits v ++ ((48 + k) ∷ [])
 digits_step v k h j =
     let q : (v * 10 + k) / 10 ≡ v = omega arith in

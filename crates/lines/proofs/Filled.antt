@@ -1,40 +1,26 @@
 -- A pattern as its line is written: byte by byte, each for itself or for the next number. Assumes nothing.
 use mathlib.Core.Path.{◌≡◌, refl, sym, ap, ◌∙◌}
 use mathlib.Core.Bool.{Bool, true, false}
-use mathlib.Core.List.{List, [], ◌∷◌, ◌++◌}
+use mathlib.Core.List.{List, [], ◌++◌}
 use Prim.Native.Nat.{ℕ, ◌+◌, ◌≤◌, ◌<◌}
 use native.Mathlib.Numerals.{add-one}
 use native.Mathlib.Omega.{arith}
 use lib.Dec.{eqb}
 use lib.ListN.{length, get_or, drop, length-append, drop_of_length-le}
 use lib.Seq.{sets, drop-cons, get_or-drop, drop-drop}
-use borrow.Author.Tests.{eq-eqb, ne_eqb}
 use Rattle.sets.specs.Pick.{pick}
-use Rattle.lines.specs.Lines.{digits}
+use Rattle.lines.specs.Lent.{Wrote}
 use Rattle.lines.specs.Pattern.{filled_byte, uses, filled}
-use Rattle.lines.proofs.Writes.{Wrote, wrote_then}
+use Rattle.lines.proofs.Writes.{wrote_then}
 
 -- ---- a byte of a pattern
 
-module _ (x : ℕ) where
-  pub filled-number : (v : ℕ) → x ≡ 35 → digits v ≡ filled_byte x v
-  filled-number v e = rw (eq-eqb x 35 e)
-
-  pub filled-other : (v : ℕ) → (x ≡ 35 → ⊥) → x ∷ [] ≡ filled_byte x v
-  filled-other v e = rw (ne_eqb x 35 e)
-
-  pub uses-one : x ≡ 35 → 1 ≡ uses x
-  uses-one e = rw (eq-eqb x 35 e)
-
-  pub uses-none : (x ≡ 35 → ⊥) → 0 ≡ uses x
-  uses-none e = rw (ne_eqb x 35 e)
-
-  pub uses-most : uses x ≤ 1
-  uses-most = go (eqb x 35)
-    where
-      go : (t : Bool) → pick t 1 0 ≤ 1
-      go true = omega arith
-      go false = omega arith
+pub uses-most : (x : ℕ) → uses x ≤ 1
+uses-most x = go (eqb x 35)
+  where
+    go : (t : Bool) → pick t 1 0 ≤ 1
+    go true = omega arith
+    go false = omega arith
 
 -- ---- the pattern from its byte i on, with the numbers from k on
 

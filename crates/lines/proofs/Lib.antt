@@ -1,7 +1,9 @@
 pub mod Layouts
+pub mod Shown
 pub mod Digits
 pub mod Joined
 pub mod Writes
+pub mod Pages
 pub mod Rooms
 pub mod Filled
 pub mod Recorded

@@ -1,14 +1,15 @@
 -- Lines one behind another, each where it fits, and those of records. Assumes nothing.
 use mathlib.Core.Path.{◌≡◌, refl, sym, ap, ◌∙◌}
 use mathlib.Core.List.{List, [], ◌∷◌, ◌++◌}
-use Prim.Native.Nat.{ℕ, ◌+◌, ◌≤◌, ◌<◌}
-use native.Mathlib.Numerals.{add-one}
+use Prim.Native.Nat.{ℕ, ◌+◌, ◌≤◌}
 use native.Mathlib.Omega.{arith}
-use lib.ListN.{length, get_or, drop, length-append, drop_of_length-le}
-use lib.Seq.{sets, length-sets, drop-cons}
+use lib.ListN.{length, length-append}
+use lib.Seq.{sets, length-sets}
+use Rattle.std.specs.List.{flat_map}
+use Rattle.std.proofs.lemmas.List.Recursion.{same_from_clauses}
 use Rattle.lines.specs.Lines.{record_text, records_text}
-use Rattle.lines.specs.Lent.{fitted_end, fitted_at, lines_end, lines_at}
-use Rattle.lines.proofs.Writes.{Wrote, wrote_then, wrote_nothing, Fitted, fitted-wrote}
+use Rattle.lines.specs.Lent.{fitted_end, fitted_at, lines_end, lines_at, Wrote}
+use Rattle.lines.proofs.Writes.{wrote_then, wrote_nothing, fitted-wrote}
 
 module _ (line : ℕ → List ℕ) where
   -- where all of them fit they are the lines joined
@@ -25,16 +26,11 @@ module _ (line : ℕ → List ℕ) where
         let rest = lines_fit xs e m (omega (arith, one.0)) in
         rw (more x xs) (wrote_then text from (line x) (whole xs) one (ap (lines_end line xs e) (sym same) ∙ rest.0, rest.1))
 
-  -- one turn of the loop, and its end
-  module _ (xs : List ℕ) (i : ℕ) (old : List ℕ) (at : ℕ) where
-    pub lines-turn : {new : List ℕ} {end : ℕ} → i < length xs → length new ≡ length old → Fitted old at (line (get_or xs i 0)) new end
-        → (lines_end line (drop (i + 1) xs) end (length new) ≡ lines_end line (drop i xs) at (length old)) × (lines_at line (drop (i + 1) xs) end new ≡ lines_at line (drop i xs) at old)
-    lines-turn h k (e, m) = (rw (k, e, add-one, drop-cons xs i 0 h), rw (e, m, add-one, drop-cons xs i 0 h))
-
-    pub lines-past : length xs ≤ i → (at ≡ lines_end line (drop i xs) at (length old)) × (old ≡ lines_at line (drop i xs) at old)
-    lines-past h = (rw (drop_of_length-le xs h), rw (drop_of_length-le xs h))
-
 -- ---- records
+
+pub records_joined : (xs : List ℕ) → records_text xs ≡ flat_map record_text xs
+unfolding records_text
+records_joined = same_from_clauses records_text (flat_map record_text) (λ x l. record_text x ++ l) refl (λ _ _. refl) (λ _ _. refl)
 
 pub records-fit : (xs : List ℕ) (from : ℕ) (text : List ℕ) → from + length (records_text xs) ≤ length text
     → (lines_end record_text xs from (length text) ≡ from + length (records_text xs)) × (lines_at record_text xs from text ≡ sets text from (records_text xs))

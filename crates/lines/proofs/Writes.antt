@@ -5,25 +5,17 @@ use mathlib.Core.List.{List, [], ◌∷◌, ◌++◌}
 use Prim.Native.Nat.{ℕ, zero, suc, ◌+◌, ◌^◌, ◌/◌, ◌%◌, ◌≤◌, ◌<◌}
 use native.Mathlib.Omega.{arith}
 use lib.ListN.{length, get_or, take, drop, length-append, take-append-drop}
-use lib.Seq.{sets, sets-eq, length-sets, take_all, length-take-le}
-use lib.Dec.{leb, ltb}
-use borrow.Author.Tests.{ltb-true, ltb-false, lt-ltb, le-ltb, leb-true, le-leb, lt-leb}
+use lib.Seq.{sets, sets-eq, take_all}
+use lib.Dec.{ltb}
+use borrow.Author.Tests.{ltb-true, ltb-false, lt-ltb, le-ltb, le-leb}
+use Rattle.std.proofs.lemmas.List.{length-take-le}
 use Rattle.sets.specs.Pick.{pick}
 use Rattle.gates.specs.Layout.{kind_in, a_in, b_in}
 use Rattle.lines.specs.Lines.{digits, fields_text, line_text, letter, fields_in, record_text, records_text, text_of}
-use Rattle.lines.specs.Lent.{onto, fitted_end, fitted_at}
-use Rattle.lines.specs.Leeway.{room_after}
-use Rattle.lines.specs.declared.room.Leeway.{Leeway}
-use Rattle.lines.specs.declared.room.Leeway.TheVariants.{Left, Over}
+use Rattle.lines.specs.Lent.{onto, Wrote, Fitted}
 use Rattle.lines.proofs.Joined.{joined-append, joined-next}
-use Rattle.lines.proofs.Rooms.{behind-over, behind-left}
-use Rattle.lines.proofs.Layouts.{kind-is, a-is, b-is}
 use Rattle.lines.proofs.Digits.{digits-small, digits-big}
 use Rattle.sets.proofs.Storing.{sets-append}
-
--- the bytes xs were written to l from i on, which gives m and the place behind them
-abbrev pub Wrote : List ℕ → ℕ → List ℕ → List ℕ → ℕ → Type 0
-Wrote l i xs m e = (e ≡ i + length xs) × (m ≡ sets l i xs)
 
 pub wrote_then : (l : List ℕ) (i : ℕ) (xs ys : List ℕ) {m n : List ℕ} {j k : ℕ} → Wrote l i xs m j → Wrote m j ys n k → Wrote l i (xs ++ ys) n k
 wrote_then l i xs ys {m} {n} {j} {k} a b = (
@@ -40,17 +32,7 @@ sets-onto new old h = let z : 0 + length new ≡ length new = omega arith in set
 
 -- ---- a text: written where it fits, else nothing
 
--- the text was put to l from i on, which gives m and the place e
-abbrev pub Fitted : List ℕ → ℕ → List ℕ → List ℕ → ℕ → Type 0
-Fitted l i text m e = (e ≡ fitted_end text i (length l)) × (m ≡ fitted_at text i l)
-
 module _ (l : List ℕ) (i : ℕ) (text : List ℕ) where
-  pub fitted-fits : {m : List ℕ} {e : ℕ} → i + length text ≤ length l → Wrote l i text m e → Fitted l i text m e
-  fitted-fits h w = (rw (le-leb _ _ h) w.0, rw (le-leb _ _ h) w.1)
-
-  pub fitted-over : length l < i + length text → Fitted l i text l i
-  fitted-over h = (rw (lt-leb _ _ h), rw (lt-leb _ _ h))
-
   pub fitted-wrote : {m : List ℕ} {e : ℕ} → i + length text ≤ length l → Fitted l i text m e → Wrote l i text m e
   fitted-wrote h p = (p.0 ∙ rw (le-leb _ _ h), p.1 ∙ rw (le-leb _ _ h))
 
@@ -59,18 +41,6 @@ pub fitted-front : (l text : List ℕ) {m : List ℕ} {e : ℕ} → length text 
 fitted-front l text h p =
     let w = fitted-wrote l 0 text (omega (arith, h)) p in
     (omega (arith, w.0), w.1 ∙ sets-onto text l h)
-
--- the bytes of a text that was put to the front are there
-module _ (text l m : List ℕ) (r : ℕ) (p : Fitted l 0 text m r) where
-  pub fitted-within : r ≤ length m
-  fitted-within = go (leb (0 + length text) (length l)) refl p.0 p.1
-    where
-      go : (t : Bool) → leb (0 + length text) (length l) ≡ t → r ≡ pick t (0 + length text) 0 → m ≡ pick t (sets l 0 text) l → r ≤ length m
-      go true b e d = omega (arith, e, leb-true (0 + length text) (length l) b, ap length d, length-sets l 0 text)
-      go false b e d = omega (arith, e)
-
-  pub fitted-long : r ≡ length (take r m)
-  fitted-long = sym (length-take-le r m fitted-within)
 
 -- ---- numbers
 
@@ -131,35 +101,23 @@ module _ (xs : List ℕ) (i : ℕ) where
   pub fields-all : length xs ≤ i → fields_text (take i xs) ≡ fields_text xs
   fields-all h = ap fields_text (take_all i xs h)
 
-  pub records-next : i < length xs → records_text (take (i + 1) xs) ≡ records_text (take i xs) ++ record_text (get_or xs i 0)
-  unfolding records_text
-  records-next = joined-next record_text records_text refl (λ x xs. refl) xs i
-
-  pub records-all : length xs ≤ i → records_text (take i xs) ≡ records_text xs
-  records-all h = ap records_text (take_all i xs h)
-
 pub line-length : (letter : ℕ) (vs : List ℕ) → length (line_text letter vs) ≡ 2 + length (fields_text vs)
 unfolding line_text
 line-length letter vs = simp length-append (omega arith)
 
--- whether a line fits behind `at`, as the code tests it
-module _ (room at letter : ℕ) (vs : List ℕ) {r s : Leeway} (p : r ≡ room_after (Left room) at) (q : s ≡ room_after r (2 + length (fields_text vs))) where
-  pub line-over : s ≡ Over → room < at + length (line_text letter vs)
-  line-over e = omega (arith, behind-over room at (2 + length (fields_text vs)) p q e, line-length letter vs)
-
-  pub line-left : {x : ℕ} → s ≡ Left x → at + length (line_text letter vs) ≤ room
-  line-left e = omega (arith, behind-left room at (2 + length (fields_text vs)) p q e, line-length letter vs)
-
 -- ---- a record's line
 
 -- it has at most two numbers
-pub fields-most : (kind : ℕ) {k : ℕ} → k ≡ fields_in kind → k ≤ 2
+pub fields_most : (kind : ℕ) → fields_in kind ≤ 2
 unfolding fields_in
-fields-most kind e = go (ltb kind 3) e
+fields_most kind = go (ltb kind 3)
   where
-    go : (t : Bool) {k : ℕ} → k ≡ pick t 2 1 → k ≤ 2
-    go true e = omega (arith, e)
-    go false e = omega (arith, e)
+    go : (t : Bool) → pick t 2 1 ≤ 2
+    go true = omega arith
+    go false = omega arith
+
+-- its numbers are the first of two
+pub ruleset record_fields = (fields_most, length-take-le, line-length)
 
 -- a kind below 3 has two, and any other one
 pub record-two : (x : ℕ) → kind_in x < 3 → record_text x ≡ line_text (letter (kind_in x)) (a_in x ∷ b_in x ∷ [])
@@ -169,14 +127,6 @@ record-two x h = rw (lt-ltb (kind_in x) 3 h)
 pub record-one : (x : ℕ) → 3 ≤ kind_in x → record_text x ≡ line_text (letter (kind_in x)) (a_in x ∷ [])
 unfolding record_text fields_in
 record-one x h = rw (le-ltb (kind_in x) 3 h)
-
--- from the numbers that the code takes out of the record
-pub record-line : (x : ℕ) {l k : ℕ} → l ≡ letter (x / 16777216) → k ≡ fields_in (x / 16777216) → line_text l (take k (x / 65536 % 256 ∷ x % 65536 ∷ [])) ≡ record_text x
-unfolding record_text
-record-line x e f = rw (e, f, kind-is x, a-is x, b-is x)
-
-pub record-length : (x : ℕ) {k : ℕ} → k ≡ fields_in (x / 16777216) → length (record_text x) ≡ 2 + length (fields_text (take k (x / 65536 % 256 ∷ x % 65536 ∷ [])))
-record-length x f = sym (ap length (record-line x refl f)) ∙ line-length _ _
 
 pub text-length : (n : ℕ) (es gs : List ℕ) → length (text_of n es gs) ≡ length (line_text 113 (n ∷ [])) + length (records_text es) + length (records_text gs)
 unfolding text_of

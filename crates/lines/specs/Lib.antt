@@ -1,4 +1,6 @@
 pub mod Lines
 pub mod Pattern
 pub mod Lent
-pub mod Leeway
+pub mod Room
+pub mod Kinds
+pub mod Page

@@ -2,7 +2,8 @@
 // is read.
 #![tactic(auto)]
 
-pub mod letter;
+pub mod kind;
+mod page;
 pub mod pattern;
 pub mod print;
 pub mod put;

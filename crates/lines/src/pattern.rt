@@ -1,87 +1,82 @@
 // Lines as they are written from a pattern, in which each `#` stands for the next number.
-ghost use Rattle.std.specs.Prelude.{◌≡◌, ◌≤◌, ◌+◌, length, get_or};
-ghost use Rattle.std.proofs.lemmas.List.Edits.{sets};
+ghost use Rattle.std.specs.Prelude.{◌≡◌, length, slice_index};
 ghost use Rattle.lines.specs.Pattern.{filled_byte, uses, filled};
-ghost use Rattle.lines.specs.Lent.{fitted_end, fitted_at};
-ghost use Rattle.lines.specs.Leeway.{room_after};
+ghost use Rattle.lines.specs.Lent.{Fitted};
+ghost use Rattle.lines.specs.Page.{HasRoom, Puts};
+ghost use Rattle.lines.specs.Room.{room_after};
 
-use crate::room::Leeway;
-use crate::{put, room};
+use crate::page::Page;
+use crate::room;
 
 // A number that is wanting is 0.
 fn number_at(numbers: &[usize], k: usize) -> usize
-    ensures { result ≡ get_or numbers.now k 0 }
+    ensures { result ≡ slice_index numbers.now k }
 {
-    if k < numbers.len() {
-        return numbers[k];
-    }
-    0
+    numbers.get(k).copied().unwrap_or(0)
 }
 
 // How many numbers a byte of a pattern uses up.
+#[tactic(auto, using(std::proofs::lemmas::Bool::Decides::nat_tests))]
 fn used_by(x: u8) -> usize
     ensures { result ≡ uses x }
 {
     if x == b'#' { 1 } else { 0 }
 }
 
-fn put_filled_byte(text: &mut [u8], at: usize, x: u8, v: usize) -> usize
-    requires { at + length (filled_byte x v) ≤ length text.old }
-    ensures { (result ≡ at + length (filled_byte x v)) × (text.new ≡ sets text.old at (filled_byte x v)) }
+#[tactic(auto, using(std::proofs::lemmas::Bool::Decides::nat_tests))]
+fn put_filled_byte(page: &mut Page<'_>, x: u8, v: usize)
+    requires { HasRoom page.old (filled_byte x v) }
+    ensures { Puts page.old (filled_byte x v) page.new }
 {
-    if x == b'#' {
-        return put::put_number(text, at, v);
+    match x {
+        b'#' => page.put_number(v),
+        _ => page.put(x),
     }
-    put::put(text, at, x)
 }
 
-fn after_filled_byte(left: Leeway, x: u8, v: usize) -> Leeway
+#[tactic(auto, using(std::proofs::lemmas::Bool::Decides::nat_tests))]
+fn after_filled_byte(left: Option<usize>, x: u8, v: usize) -> Option<usize>
     ensures { result ≡ room_after left (length (filled_byte x v)) }
 {
-    if x == b'#' {
-        return room::after(left, room::width(v));
+    match x {
+        b'#' => room::after(left, room::width(v)),
+        _ => room::after(left, 1),
     }
-    room::after(left, 1)
 }
 
-fn put_filled(text: &mut [u8], at: usize, pattern: &[u8], numbers: &[usize]) -> usize
-    requires { at + length (filled pattern.now numbers.now) ≤ length text.old }
-    ensures { (result ≡ at + length (filled pattern.now numbers.now)) × (text.new ≡ sets text.old at (filled pattern.now numbers.now)) }
+fn put_filled(page: &mut Page<'_>, pattern: &[u8], numbers: &[usize])
+    requires { HasRoom page.old (filled pattern.now numbers.now) }
+    ensures { Puts page.old (filled pattern.now numbers.now) page.new }
 {
-    let mut p = at;
-    let mut k: usize = 0;
-    let mut i: usize = 0;
-    while i < pattern.len() {
-        let x = pattern[i];
-        p = put_filled_byte(&mut *text, p, x, number_at(numbers, k));
+    let mut k = 0;
+    for &x in pattern {
+        put_filled_byte(page, x, number_at(numbers, k));
         k += used_by(x);
-        i += 1;
     }
-    p
 }
 
-pub fn after_pattern(room: Leeway, pattern: &[u8], numbers: &[usize]) -> Leeway
+// It walks the pattern as `put_filled` does: what they share is this loop, and a room and a page ask for different things.
+pub fn after_pattern(room: Option<usize>, pattern: &[u8], numbers: &[usize]) -> Option<usize>
     ensures { result ≡ room_after room (length (filled pattern.now numbers.now)) }
 {
     let mut left = room;
-    let mut k: usize = 0;
-    let mut i: usize = 0;
-    while i < pattern.len() {
-        let x = pattern[i];
+    let mut k = 0;
+    for &x in pattern {
         left = after_filled_byte(left, x, number_at(numbers, k));
         k += used_by(x);
-        i += 1;
     }
     left
 }
 
 // The place behind the line, or `at` where the line does not fit; then nothing is written.
 pub fn put_pattern(text: &mut [u8], at: usize, pattern: &[u8], numbers: &[usize]) -> usize
-    ensures { (result ≡ fitted_end (filled pattern.now numbers.now) at (length text.old)) × (text.new ≡ fitted_at (filled pattern.now numbers.now) at text.old) }
+    ensures { Fitted text.old at (filled pattern.now numbers.now) text.new result }
 {
-    let behind = room::after(Leeway::Left(text.len()), at);
-    match after_pattern(behind, pattern, numbers) {
-        Leeway::Over => at,
-        Leeway::Left(_) => put_filled(text, at, pattern, numbers),
+    let behind = text.len().checked_sub(at);
+    if after_pattern(behind, pattern, numbers).is_none() {
+        return at;
     }
+    let mut page = Page { text, at };
+    put_filled(&mut page, pattern, numbers);
+    page.at
 }

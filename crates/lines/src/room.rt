@@ -1,31 +1,20 @@
 // Whether a text fits a room. Each line is taken off the room, since a sum of lengths need not be a number that the machine holds.
-ghost use Rattle.std.specs.Prelude.{◌≡◌, ◌+◌, length};
+// What is left is `None` where the room is too short.
+ghost use Rattle.std.specs.Prelude.{◌≡◌, ◌∷◌, ◌+◌, length};
 ghost use Rattle.lines.specs.Lines.{digits, fields_text, records_text};
-ghost use Rattle.lines.specs.Leeway.{room_after};
+ghost use Rattle.lines.specs.Room.{room_after};
 
-use crate::letter;
+use crate::records;
+use crate::records::JobLines;
 
-#[derive(Clone, Copy)]
-pub enum Leeway {
-    Left(usize),
-    Over,
-}
-
-pub(crate) fn after(room: Leeway, need: usize) -> Leeway
+pub(crate) fn after(room: Option<usize>, need: usize) -> Option<usize>
     ensures { result ≡ room_after room need }
 {
-    match room {
-        Leeway::Over => Leeway::Over,
-        Leeway::Left(left) => {
-            if left < need {
-                return Leeway::Over;
-            }
-            Leeway::Left(left - need)
-        }
-    }
+    room?.checked_sub(need)
 }
 
 // How many digits a number has.
+#[tactic(auto, using(crate::proofs::Digits::digit_steps))]
 pub(crate) fn width(v: usize) -> usize
     ensures { result ≡ length (digits v) }
 {
@@ -35,30 +24,28 @@ pub(crate) fn width(v: usize) -> usize
     width(v / 10) + 1
 }
 
+// A tab, then the number.
+fn after_field(room: Option<usize>, v: usize) -> Option<usize>
+    ensures { result ≡ room_after room (length (9 ∷ digits v)) }
+{
+    after(after(room, 1), width(v))
+}
+
 // A letter, numbers behind tabs, LF.
-pub fn after_line(room: Leeway, numbers: &[usize]) -> Leeway
+#[tactic(auto, using(crate::proofs::Rooms::room_none, crate::proofs::Rooms::room_then, crate::proofs::Rooms::room_fields), unfolding(crate::specs::Lines::fields_text))]
+pub fn after_line(room: Option<usize>, numbers: &[usize]) -> Option<usize>
     ensures { result ≡ room_after room (2 + length (fields_text numbers.now)) }
 {
     let mut left = after(room, 2);
-    let mut k: usize = 0;
-    while k < numbers.len() {
-        left = after(left, width(numbers[k]) + 1);
-        k += 1;
+    for &v in numbers {
+        left = after_field(left, v);
     }
     left
 }
 
-pub fn after_records(room: Leeway, records: &[u32]) -> Leeway
+#[tactic(auto, using(crate::proofs::Recorded::records_joined))]
+pub fn after_records(room: Option<usize>, records: &[u32]) -> Option<usize>
     ensures { result ≡ room_after room (length (records_text records.now)) }
 {
-    let mut left = room;
-    let mut i: usize = 0;
-    while i < records.len() {
-        let x = records[i];
-        let numbers = [(x / 65536 % 256) as usize, (x % 65536) as usize];
-        let count = letter::fields_of(x / 16777216);
-        left = after_line(left, &numbers[..count]);
-        i += 1;
-    }
-    left
+    records::after_lines(&JobLines, room, records)
 }

@@ -12,49 +12,23 @@ use Rattle.table.specs.declared.sums.Sums.{Sums}
 use Rattle.meaning.specs.declared.told.Meaning.{Meaning}
 use Rattle.circuit.specs.State.{fed_wires}
 use Rattle.table.specs.Table.{Added, added_to}
+use Rattle.meaning.specs.Told.{Fed, fed_to, added_on, fed_meaning}
 use Rattle.table.proofs.Ranks.{full-same}
-use Rattle.circuit.specs.Circuit.{takes}
+use Rattle.circuit.specs.Circuit.{step, takes}
+use Rattle.circuit.specs.Flips.{flip_step}
 use Rattle.circuit.specs.Phase.{shifts, phases}
 
--- the meaning after a gate; `full` where the gate brings the 257th parity, and then nothing has changed
-pub record Fed : Type 0 where
-  pub meaning : Meaning
-  pub full : Bool
-
--- the table after an angle a on wire q
-abbrev added_on : Meaning → ℕ → ℕ → Added
-added_on m q a = added_to m.sums (get_or m.wires.parity q 0) (takes (get_or m.wires.flip q 0) a)
-
--- a rotation goes to the table and to the common phase, any other gate to the wires; a full table leaves all as it was
-unfoldable pub fed_meaning : Meaning → Gate → Fed
-fed_meaning m (Cnot c t) = record { meaning = record { wires = fed_wires m.wires (Cnot c t); sums = m.sums; phase = m.phase }; full = false }
-fed_meaning m (Rotation q a) = record {
-  meaning = record {
-    wires = m.wires;
-    sums = (added_on m q a).sums;
-    phase = pick (added_on m q a).full m.phase (phases m.phase (shifts (get_or m.wires.flip q 0) a));
-  };
-  full = (added_on m q a).full;
-}
-fed_meaning m (X q) = record { meaning = record { wires = fed_wires m.wires (X q); sums = m.sums; phase = m.phase }; full = false }
-fed_meaning m Bad = record { meaning = m; full = false }
-
 module _ (m : Meaning) (g : Gate) where
-  pub fed-cnot : (c t : ℕ) (w : Wires) → g ≡ Cnot c t → w ≡ fed_wires m.wires g
-      → ◌≡◌ {A = Fed} (record { meaning = record { wires = w; sums = m.sums; phase = m.phase }; full = false }) (fed_meaning m g)
-  unfolding fed_meaning
-  fed-cnot c t w e h =
-      ap (λ (v : Wires). record { meaning = record { wires = v; sums = m.sums; phase = m.phase }; full = false }) (h ∙ ap (fed_wires m.wires) e) ∙ ap (fed_meaning m) (sym e)
-
-  pub fed-x : (q : ℕ) (w : Wires) → g ≡ X q → w ≡ fed_wires m.wires g
-      → ◌≡◌ {A = Fed} (record { meaning = record { wires = w; sums = m.sums; phase = m.phase }; full = false }) (fed_meaning m g)
-  unfolding fed_meaning
-  fed-x q w e h =
-      ap (λ (v : Wires). record { meaning = record { wires = v; sums = m.sums; phase = m.phase }; full = false }) (h ∙ ap (fed_wires m.wires) e) ∙ ap (fed_meaning m) (sym e)
-
-  pub fed-bad : g ≡ Bad → ◌≡◌ {A = Fed} (record { meaning = m; full = false }) (fed_meaning m g)
-  unfolding fed_meaning
-  fed-bad e = ap (fed_meaning m) (sym e)
+  -- any gate but a rotation goes to the wires
+  pub fed-wires : ((q a : ℕ) → g ≡ Rotation q a → ⊥) → (w : Wires) → w ≡ fed_wires m.wires g → fed_to (record { wires = w; sums = m.sums; phase = m.phase }) false ≡ fed_meaning m g
+  unfolding fed_meaning fed_wires step flip_step
+  fed-wires other w h = ap (λ (v : Wires). fed_to (record { wires = v; sums = m.sums; phase = m.phase }) false) h ∙ go g other
+    where
+      go : (k : Gate) → ((q a : ℕ) → k ≡ Rotation q a → ⊥) → fed_to (record { wires = fed_wires m.wires k; sums = m.sums; phase = m.phase }) false ≡ fed_meaning m k
+      go (Cnot c t) o = refl
+      go (Rotation q a) o = absurd (o q a refl)
+      go (X q) o = refl
+      go Bad o = refl
 
   -- an angle a on wire q, of parity x and flip f: b goes to the table
   module _ (q a x f b : ℕ) (s : Added) (e : g ≡ Rotation q a) (hx : x ≡ get_or m.wires.parity q 0) (hf : f ≡ get_or m.wires.flip q 0) (hb : b ≡ takes f a)

@@ -1,30 +1,27 @@
 -- The table of sums holds the meaning: after one rotation more it is the table of one gate more, or it is full. Assumes nothing.
 use mathlib.Core.Path.{◌≡◌, refl, sym, ap, ap₂, ◌∙◌}
 use mathlib.Core.Logic.{◌≢◌, ◌⊎◌, inl, inr, ⊎_elim}
-use mathlib.Core.Bool.{Bool, true, false}
+use mathlib.Core.Bool.{true, false}
 use mathlib.Core.List.{List, [], ◌∷◌, ◌++◌, map, append_assoc}
-use Prim.Native.Nat.{ℕ, zero, suc, ◌+◌, ◌-◌, ◌%◌, ◌≤◌, ◌<◌, zero-le, suc-le-suc}
+use Prim.Native.Nat.{ℕ, zero, suc, ◌+◌, ◌-◌, ◌%◌, ◌≤◌, ◌<◌, suc-le-suc}
 use native.Mathlib.Nat.{le_of_suc-le-suc, not-suc-le-zero, zero-lt-suc}
 use native.Mathlib.Omega.{arith}
 use native.Mathlib.Decide.{ℕ_discrete, dec_lt}
-use lib.Dec.{leb}
 use lib.ListN.{length, get_or, set, take, drop, replicate, length-append, length-map, length-set, length-take, length-drop, get_or-append}
 use lib.Seq.{ext_get_or, get_or-set_same, get_or-set_other, set-append_left, take-append-le, drop-append-le, take-append_seam, drop-append-add}
-use borrow.Author.Tests.{leb-true, leb-false}
-use Rattle.sets.specs.Pick.{pick, either}
-use Rattle.sets.proofs.Finding.{sub-suc, first-true, first-before}
+use Rattle.sets.proofs.Finding.{sub-suc}
 use Rattle.gates.specs.declared.gate.Gate.{Gate}
 use Rattle.gates.specs.declared.gate.Gate.TheVariants.{Rotation}
 use Rattle.table.specs.declared.sums.Sums.{Sums}
 use Rattle.circuit.specs.Circuit.{run, start, gives, takes, sum_of}
 use Rattle.circuit.specs.Flips.{flip_run, no_flips}
 use Rattle.meaning.specs.Borne.{insert, borne, sums_of, Ascending}
-use Rattle.table.specs.Table.{padded, Added, stops_at, rank_of, put_in, moved_in, held_at, grown_at, new_at, added_to}
+use Rattle.table.specs.Table.{padded, Added, rank_of, put_in, moved_in, held_at, grown_at, new_at, added_to}
 use Rattle.meaning.specs.Told.{table_of}
 use Rattle.circuit.proofs.Steps.{gives-borne, gives_other}
 use Rattle.circuit.proofs.Sums.{sum-small}
 use Rattle.circuit.proofs.Straight.{straight-rotation, sum-snoc}
-use Rattle.table.proofs.Ranks.{rank-le, held-there, held-not-past, held-not-other, add-held, add-new, add-full}
+use Rattle.table.proofs.Ranks.{rank-le, rank_below, rank-above, held-there, held-not-past, held-not-other, add-held, add-new, add-full}
 use Rattle.meaning.proofs.Lists.{insert-held, insert-new, at-among}
 use Rattle.meaning.proofs.Bearing.{borne-snoc, bears-rotation, borne-ascending, not-borne}
 
@@ -94,36 +91,6 @@ map-set f g k xs l h =
         go : Dec (i ≡ k) → get_or (set (map f xs) k (g (get_or xs k 0))) i 0 ≡ get_or (map g xs) i 0
         go (yes e) = rw e (get_or-set_same (map f xs) k _ 0 (omega (arith, l, length-map xs f)) ∙ sym (map_at g xs k l))
         go (no n) = get_or-set_other (map f xs) k i _ 0 n ∙ map_at f xs i b' ∙ h i b' n ∙ sym (map_at g xs i b')
-
--- ---- what the rank says
-
-module _ (xs : List ℕ) (n p : ℕ) where
-  pub rank_below : (i : ℕ) → i < rank_of xs n p → get_or xs i 0 < p
-  unfolding rank_of stops_at
-  rank_below i h = go (leb n i) (leb p (get_or xs i 0)) refl (first-before (stops_at xs n p) 256 0 i zero-le h)
-    where
-      never : true ≡ false → ⊥
-      never e = let z : ◌≡◌ {A = ℕ} 0 1 = ap (λ (t : Bool). pick t 0 1) e in omega arith
-
-      go : (a b : Bool) → leb p (get_or xs i 0) ≡ b → either a b ≡ false → get_or xs i 0 < p
-      go true b q e = absurd (never e)
-      go false true q e = absurd (never e)
-      go false false q e = leb-false p (get_or xs i 0) q
-
-  pub rank-above : n ≤ 256 → rank_of xs n p < n → p ≤ get_or xs (rank_of xs n p) 0
-  unfolding rank_of stops_at
-  rank-above few h = go (leb n k) (leb p (get_or xs k 0)) refl refl (first-true (stops_at xs n p) 256 0 (omega arith))
-    where
-      k : ℕ
-      k = rank_of xs n p
-
-      never : false ≡ true → ⊥
-      never e = let z : ◌≡◌ {A = ℕ} 0 1 = ap (λ (t : Bool). pick t 1 0) e in omega arith
-
-      go : (a b : Bool) → leb n k ≡ a → leb p (get_or xs k 0) ≡ b → either a b ≡ true → p ≤ get_or xs k 0
-      go true b q r e = absurd (omega (arith, leb-true n k q))
-      go false true q r e = leb-true p (get_or xs k 0) r
-      go false false q r e = absurd (never e)
 
 -- ---- one rotation more
 

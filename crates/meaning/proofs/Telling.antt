@@ -7,7 +7,7 @@ use native.Mathlib.Nat.{not-suc-le-zero, le_of_suc-le-suc}
 use native.Mathlib.Omega.{arith}
 use native.Mathlib.Numerals.{add-one}
 use lib.Dec.{ltb}
-use lib.ListN.{length, get_or, take, replicate, length-map}
+use lib.ListN.{length, get_or, take, length-map}
 use lib.Seq.{take-suc, take_all}
 use borrow.Author.Tests.{ltb-true, ltb-false}
 use Rattle.sets.specs.Pick.{pick}
@@ -24,8 +24,8 @@ use Rattle.circuit.specs.Circuit.{step, run, start, gives, takes, sum_of}
 use Rattle.circuit.specs.Flips.{flip_step, flip_run, no_flips}
 use Rattle.circuit.specs.Phase.{shifts, shifts_on, phases, phase_of}
 use Rattle.meaning.specs.Borne.{borne, borne_from, sums_of, over_at}
-use Rattle.table.specs.Table.{padded, Added, tabled, added_to}
-use Rattle.meaning.specs.Told.{table_of, meaning_of, told_of}
+use Rattle.table.specs.Table.{padded, empty, Added, added_to}
+use Rattle.meaning.specs.Told.{Fed, table_of, meaning_of, fed_meaning, told_of}
 use Rattle.circuit.specs.State.{fed_wires, wires_of}
 use Rattle.circuit.proofs.Steps.{gives-cnot, gives-x, gives-bad}
 use Rattle.circuit.proofs.Circuits.{run-snoc}
@@ -34,7 +34,7 @@ use Rattle.circuit.proofs.Sums.{sum-small}
 use Rattle.circuit.proofs.Straight.{straightened, sum-snoc}
 use Rattle.circuit.proofs.Phases.{phase-snoc, phase-small, phase-zero}
 use Rattle.meaning.proofs.Bearing.{borne-cnot, borne-x, borne-bad}
-use Rattle.meaning.proofs.Feeding.{Fed, fed_meaning, fed-same}
+use Rattle.meaning.proofs.Feeding.{fed-same}
 use Rattle.meaning.proofs.Tables.{added-fits, added_full}
 
 -- ---- one gate more
@@ -131,15 +131,14 @@ pub record Telling (gs : List Gate) (m : Meaning) (i : ℕ) : Type 0 where
   pub few : length (borne (take i gs)) ≤ 256
   pub still : first_of (over_test gs) (length gs - i) i ≡ over_at gs
 
--- no gate: each wire bears its own qubit, and the table is empty
-pub telling-none : (gs : List Gate) (w : Wires) → w ≡ wires_of [] → Telling gs (record { wires = w; sums = tabled (replicate 256 0) (replicate 256 0) 0; phase = 0 }) 0
-unfolding meaning_of table_of over_at borne borne_from padded
-telling-none gs w e = record {
-  within = omega arith;
-  told = ap₂ (λ (v : Wires) (f : ℕ). record { wires = v; sums = table_of []; phase = f }) e (sym phase-zero);
-  few = omega arith;
-  still = first-all (over_test gs) (length gs);
-}
+pub telling-none : (gs : List Gate) → Telling gs (meaning_of []) 0
+unfolding over_at borne borne_from
+telling-none gs = record { within = omega arith; told = refl; few = omega arith; still = first-all (over_test gs) (length gs) }
+
+-- each wire bears its own qubit, and the table is empty
+pub none-told : (w : Wires) (s : Sums) → w ≡ wires_of [] → s ≡ empty → ◌≡◌ {A = Meaning} (record { wires = w; sums = s; phase = 0 }) (meaning_of [])
+unfolding meaning_of table_of borne borne_from empty padded
+none-told w s e d = rw (e, d) (ap (λ (f : ℕ). record { wires = wires_of []; sums = table_of []; phase = f }) (sym phase-zero))
 
 take_more : (gs : List Gate) (i : ℕ) → i < length gs → take (i + 1) gs ≡ take i gs ++ get_or gs i Bad ∷ []
 take_more gs i h = ap (λ (k : ℕ). take k gs) (add-one i) ∙ take-suc gs i Bad h

@@ -1,12 +1,12 @@
 // The meaning of a list of gates, told by feeding them one by one.
-ghost use Rattle.std.specs.Prelude.{◌≡◌};
-ghost use Rattle.meaning.specs.Told.{told_of};
+ghost use Rattle.std.specs.Prelude.{◌≡◌, []};
+ghost use Rattle.std.specs.Result.{is_err};
+ghost use Rattle.meaning.specs.Told.{meaning_of, fed_to, fed_meaning, told_of};
 
 use circuit::wires::{Wires, borne_on, shift, taken, together};
 use gates::gate;
 use gates::gate::Gate;
-use table::sums;
-use table::sums::Sums;
+use table::sums::{Full, Sums};
 
 #[derive(Clone, Copy)]
 pub struct Meaning {
@@ -23,47 +23,48 @@ pub struct Told {
     pub fed: usize,
 }
 
-// The wires and the lists of the table are locals of their own, so that a gate changes what it
-// touches and copies nothing else.
+impl Meaning {
+    // Before the first gate.
+    fn none() -> Meaning
+        ensures { result ≡ meaning_of [] }
+    {
+        let wires = Wires::new();
+        let sums = Sums::none();
+        Meaning {
+            wires,
+            sums,
+            phase: 0,
+        }
+    }
+
+    // One gate more. One that would bring the 257th parity changes nothing.
+    fn feed(&mut self, g: Gate) -> Result<(), Full>
+        ensures { fed_to self.new (is_err result) ≡ fed_meaning self.old g }
+    {
+        match g {
+            Gate::Rotation { qubit, angle } => {
+                let Wires { parity, flip } = self.wires;
+                let f = borne_on(flip, qubit);
+                self.sums.add(borne_on(parity, qubit), taken(f, angle))?;
+                self.phase = together(self.phase, shift(f, angle));
+            }
+            _ => {
+                self.wires = self.wires.feed(g);
+            }
+        }
+        Ok(())
+    }
+}
+
 pub fn tell(records: &[u32], n: usize) -> Told
     ensures { result ≡ told_of n records.now }
 {
-    let mut wires = Wires::new();
-    let mut parity = [0u32; 256];
-    let mut sum = [0u32; 256];
-    let mut len: usize = 0;
-    let mut phase: u32 = 0;
-    for i in 0..records.len() {
-        let g = gate::decode(records[i], n);
-        match g {
-            Gate::Cnot {
-                control: _,
-                target: _,
-            } => {
-                wires = wires.feed(g);
-            }
-            Gate::Rotation { qubit, angle } => {
-                let on = wires.parity;
-                let flip = wires.flip;
-                let p = borne_on(on, qubit);
-                let f = borne_on(flip, qubit);
-                let grown = sums::add(&mut parity, &mut sum, len, p, taken(f, angle));
-                len = grown.len;
-                if grown.full {
-                    let sums = Sums { parity, sum, len };
-                    let meaning = Meaning { wires, sums, phase };
-                    return Told { meaning, fed: i };
-                }
-                phase = together(phase, shift(f, angle));
-            }
-            Gate::X { qubit: _ } => {
-                wires = wires.feed(g);
-            }
-            Gate::Bad => {}
+    let mut meaning = Meaning::none();
+    for (fed, &x) in records.iter().enumerate() {
+        if meaning.feed(gate::decode(x, n)).is_err() {
+            return Told { meaning, fed };
         }
     }
-    let sums = Sums { parity, sum, len };
-    let meaning = Meaning { wires, sums, phase };
     Told {
         meaning,
         fed: records.len(),

@@ -2,33 +2,17 @@
 use mathlib.Core.Path.{◌≡◌, refl, sym, ap, ◌∙◌}
 use mathlib.Core.Bool.{Bool, true, false}
 use mathlib.Core.List.{List}
-use Prim.Native.Nat.{ℕ, suc, ◌+◌, ◌-◌, ◌*◌, ◌≤◌, ◌<◌, min}
+use Prim.Native.Nat.{ℕ, suc, ◌+◌, ◌-◌, ◌≤◌, ◌<◌, min}
 use native.Mathlib.Omega.{arith}
-use lib.ListN.{length, get_or, drop}
-use lib.Seq.{get_or-drop}
-use borrow.Author.Tests.{lt-ltb, le-ltb}
+use lib.ListN.{length, get_or}
+use lib.Dec.{ltb}
+use borrow.Author.Tests.{lt-ltb, le-ltb, ltb-true, ltb-false}
+use Rattle.std.specs.Prelude.{Some, None}
 use Rattle.sets.specs.Pick.{pick}
 use Rattle.sets.specs.Bit.{has}
-use Rattle.gathering.specs.Order.{order_of}
-use Rattle.gathering.specs.Gather.{gather_from, gather_of}
-use Rattle.gathering.proofs.OrderGrows.{order-few}
-use Rattle.nearest.specs.Orders.{AllOrderly}
-use Rattle.nearest.specs.Choice.{choice, far, nearer, gathered, tried_at, over_qubits, over_columns, chosen}
+use Rattle.gathering.specs.Gather.{gather_of}
+use Rattle.nearest.specs.Choice.{choice, far, found, nearer, gathered, tried_at, over_qubits, over_columns, chosen}
 use Rattle.nearest.specs.declared.choice.Choice.{Choice}
-use Rattle.gathering.proofs.GatherCode.{gather-same}
-
--- ---- the count, by the orders
-
-module _ (near : List ℕ) (Q : ℕ) (order len : List ℕ) (o : AllOrderly near Q order len) (v : ℕ) (h : v < 20) where
-  pub len-few : (l : ℕ) → l ≡ get_or len v 0 → (1 ≤ l) × (l ≤ 20)
-  len-few l e = (omega (arith, o.size v h, (order-few near Q v).0), omega (arith, o.size v h, (order-few near Q v).1))
-
-  pub count-is : (x l : ℕ) → l ≡ get_or len v 0 → length (gather_from near (drop (20 * v) order) (l - 1) Q x) ≡ length (gather_of near Q v x)
-  unfolding gather_of
-  count-is x l e =
-      ap (λ (k : ℕ). length (gather_from near (drop (20 * v) order) (k - 1) Q x)) (e ∙ o.size v h)
-      ∙ ap length (gather-same near (order_of near Q v) (drop (20 * v) order) (length (order_of near Q v) - 1) Q x
-      (λ j b. get_or-drop (20 * v) order j 0 ∙ o.row v h j (omega (arith, (order-few near Q v).0))))
 
 -- ---- one qubit
 
@@ -54,6 +38,28 @@ module _ (near : List ℕ) (Q k x v : ℕ) (b : Choice) where
   tried-farther n e m h =
       sym (ap (λ (t : Bool). pick t (choice k v (length (gather_of near Q v x))) b) (le-ltb (length (gather_of near Q v x)) b.moves (omega arith)))
       ∙ sym (tried-in e)
+
+-- ---- whether there is one
+
+pub found-some : (c d : Choice) → c ≡ d → c.moves < far → Some c ≡ found d
+found-some c d e l = ap Some e ∙ sym (ap (λ (b : Bool). pick b (Some d) None) (lt-ltb d.moves far (omega (arith, ap (λ (c : Choice). c.moves) e))))
+
+pub found-none : (c d : Choice) → c ≡ d → far ≤ c.moves → None ≡ found d
+found-none c d e l = sym (ap (λ (b : Bool). pick b (Some d) None) (le-ltb d.moves far (omega (arith, ap (λ (c : Choice). c.moves) e))))
+
+pub some-found : (c d : Choice) → Some c ≡ found d → (c ≡ d) × (c.moves < far)
+some-found c d e = go (ltb d.moves far) refl e
+  where
+    go : (b : Bool) → ltb d.moves far ≡ b → Some c ≡ pick b (Some d) None → (c ≡ d) × (c.moves < far)
+    go true t h = let s : c ≡ d = cc in (s, omega (arith, ltb-true d.moves far t, ap (λ (c : Choice). c.moves) s))
+    go false t h = cc
+
+pub none-found : (d : Choice) → None ≡ found d → far ≤ d.moves
+none-found d e = go (ltb d.moves far) refl e
+  where
+    go : (b : Bool) → ltb d.moves far ≡ b → None ≡ pick b (Some d) None → far ≤ d.moves
+    go true t h = cc
+    go false t h = ltb-false d.moves far t
 
 -- ---- the loops
 

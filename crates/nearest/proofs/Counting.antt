@@ -3,12 +3,11 @@ use mathlib.Core.Path.{◌≡◌, sym, ap, ap₂, ◌∙◌, subst}
 use mathlib.Core.Logic.{◌≢◌, ◌⊎◌, inl, inr}
 use mathlib.Core.Bool.{Bool, true, false}
 use mathlib.Core.List.{List, ◌++◌}
-use Prim.Native.Nat.{ℕ, suc, ◌+◌, ◌-◌, ◌*◌, ◌^◌, ◌≤◌, ◌<◌, min}
+use Prim.Native.Nat.{ℕ, suc, ◌+◌, ◌-◌, ◌*◌, ◌^◌, ◌≤◌, ◌<◌}
 use native.Mathlib.Omega.{arith}
 use native.Mathlib.Decide.{dec_lt}
 use lib.Bits.{bit_and, bit_xor, and_zero_r}
-use lib.ListN.{get_or, length, drop, length-append}
-use lib.Seq.{get_or-drop}
+use lib.ListN.{get_or, length, length-append}
 use borrow.Author.Tests.{eq-eqb, ne_eqb, le-ltb}
 use Rattle.sets.specs.Pick.{pick}
 use Rattle.sets.specs.Bit.{bit, has, In}
@@ -16,7 +15,9 @@ use Rattle.sets.specs.Size.{lowest_of, only_of}
 use Rattle.sets.proofs.Bits.{bit-pow-same, bit-cases, bit-of-zero}
 use Rattle.sets.proofs.Members.{in_and, and_in, single-sub}
 use Rattle.sets.proofs.Words.{in-has, out-has, has-past, only-is}
-use Rattle.gathering.specs.Gather.{moves_at, left_at, gather_from, most_moves}
+use Rattle.gathering.specs.Order.{order_of}
+use Rattle.gathering.specs.Gather.{moves_at, left_at, gather_from, gather_of, most_moves}
+use Rattle.gathering.proofs.OrderGrows.{order-few}
 use Rattle.gathering.proofs.GatherWorks.{gather-step, gather_none, moves-few}
 use Rattle.nearest.specs.Choice.{out_at}
 use Rattle.nearest.specs.declared.choice.Out.{Out}
@@ -68,56 +69,48 @@ module _ (a u x : ℕ) where
 
 -- ---- the loop
 
--- n moves are counted; those of the first k members are still to come
-pub record Counting (near order : List ℕ) (from k E x n total : ℕ) : Type 0 where
+-- n moves are counted; those of the first k members after the first are still to come
+pub record Counting (near os : List ℕ) (k E x n total : ℕ) : Type 0 where
   pub few : n + 2 * k ≤ most_moves
-  pub count : n + length (gather_from near (drop from order) k E x) ≡ total
+  pub count : n + length (gather_from near os k E x) ≡ total
 
-module _ (near order : List ℕ) (from : ℕ) where
-  abbrev os : List ℕ
-  os = drop from order
+pub counting-start : (near : List ℕ) (Q v x k : ℕ) → k ≡ length (order_of near Q v) - 1 → Counting near (order_of near Q v) k Q x 0 (length (gather_of near Q v x))
+unfolding gather_of
+counting-start near Q v x k e =
+    rw e (record { few = omega (arith, order-few near Q v); count = omega arith })
 
-  pub counting-start : (len Q x : ℕ) → 1 ≤ len → len ≤ 20 → Counting near order from (len - 1) Q x 0 (length (gather_from near (drop from order) (len - 1) Q x))
-  counting-start len Q x l h = record { few = omega arith; count = omega arith }
+module _ (near os : List ℕ) (k E x n total : ℕ) (c : Counting near os k E x n total) where
+  pub counting-next : (j u d m : ℕ) (o : Out) → 0 < k → j ≡ k - 1 → u ≡ get_or os k 0 → d ≡ only_of u → m ≡ get_or near u 0
+      → o ≡ out_at (bit_and m (bit_xor E d)) u x → Counting near os j (bit_xor E d) o.left (n + o.moves) total
+  unfolding out_at
+  counting-next j u d m o p ej eu ed em eo =
+      subst (λ (o : Out). Counting near os j (bit_xor E d) o.left (n + o.moves) total) (sym eo)
+      (rw ej (record {
+        few = omega (arith, c.few, moves-few a u x);
+        count = omega (arith, c.count, ap length list, length-append (moves_at a u x) (gather_from near os (k - 1) F (left_at a u x)));
+      }))
+    where
+      F : ℕ
+      F = bit_xor E d
 
-  module _ (k E x n total : ℕ) (c : Counting near order from k E x n total) where
-    pub counting-next : (u d m : ℕ) (o : Out) → 0 < k → u ≡ get_or order (from + k) 0 → d ≡ only_of u → m ≡ get_or near u 0
-        → o ≡ out_at (bit_and m (bit_xor E d)) u x → Counting near order from (k - 1) (bit_xor E d) o.left (n + o.moves) total
-    unfolding out_at
-    counting-next u d m o p eu ed em eo =
-        subst (λ (o : Out). Counting near order from (k - 1) (bit_xor E d) o.left (n + o.moves) total) (sym eo)
-        (record {
-          few = omega (arith, c.few, moves-few a u x);
-          count = omega (arith, c.count, ap length list, length-append (moves_at a u x) (gather_from near os (k - 1) F (left_at a u x)));
-        })
-      where
-        F : ℕ
-        F = bit_xor E d
+      a : ℕ
+      a = bit_and m F
 
-        a : ℕ
-        a = bit_and m F
+      list : gather_from near os k E x ≡ moves_at a u x ++ gather_from near os (k - 1) F (left_at a u x)
+      list =
+          ap (λ (j : ℕ). gather_from near os j E x) (omega arith) ∙ gather-step near os (k - 1) E x
+          ∙ ap (λ (w : ℕ). moves_at (bit_and (get_or near w 0) (bit_xor E (only_of w))) w x ++ gather_from near os (k - 1) (bit_xor E (only_of w)) (left_at (bit_and (get_or near w 0) (bit_xor E (only_of w))) w x)) at
+          ∙ ap₂ (λ (m w : ℕ). moves_at (bit_and m (bit_xor E w)) u x ++ gather_from near os (k - 1) (bit_xor E w) (left_at (bit_and m (bit_xor E w)) u x)) (sym em) (sym ed)
+        where
+          at : get_or os (suc (k - 1)) 0 ≡ u
+          at = ap (λ (j : ℕ). get_or os j 0) (omega arith) ∙ sym eu
 
-        list : gather_from near os k E x ≡ moves_at a u x ++ gather_from near os (k - 1) F (left_at a u x)
-        list =
-            ap (λ (j : ℕ). gather_from near os j E x) (omega arith) ∙ gather-step near os (k - 1) E x
-            ∙ ap (λ (w : ℕ). moves_at (bit_and (get_or near w 0) (bit_xor E (only_of w))) w x ++ gather_from near os (k - 1) (bit_xor E (only_of w)) (left_at (bit_and (get_or near w 0) (bit_xor E (only_of w))) w x)) at
-            ∙ ap₂ (λ (m w : ℕ). moves_at (bit_and m (bit_xor E w)) u x ++ gather_from near os (k - 1) (bit_xor E w) (left_at (bit_and m (bit_xor E w)) u x)) (sym em) (sym ed)
-          where
-            at : get_or os (suc (k - 1)) 0 ≡ u
-            at = ap (λ (j : ℕ). get_or os j 0) (omega arith) ∙ get_or-drop from order k 0 ∙ sym eu
+  pub counting-few : (u a : ℕ) (o : Out) → o ≡ out_at a u x → o.moves ≤ 2
+  unfolding out_at
+  counting-few u a o e = subst (λ (o : Out). o.moves ≤ 2) (sym e) (moves-few a u x)
 
-    pub counting-few : (u a : ℕ) (o : Out) → o ≡ out_at a u x → o.moves ≤ 2
-    unfolding out_at
-    counting-few u a o e = subst (λ (o : Out). o.moves ≤ 2) (sym e) (moves-few a u x)
-
-    counting-all : k ≤ 0 → n ≡ total
-    counting-all z = omega (arith, c.count, ap length (ap (λ (j : ℕ). gather_from near os j E x) zero-k ∙ gather_none near os E x))
-      where
-        zero-k : k ≡ 0
-        zero-k = omega arith
-
-    pub counting-over : (most : ℕ) → k ≤ 0 → most < n → most ≡ min most total
-    counting-over most z h = omega (arith, counting-all z)
-
-    pub counting-end : (most : ℕ) → k ≤ 0 → n ≤ most → n ≡ min most total
-    counting-end most z h = omega (arith, counting-all z)
+  pub counting-all : k ≤ 0 → n ≡ total
+  counting-all z = omega (arith, c.count, ap length (ap (λ (j : ℕ). gather_from near os j E x) zero-k ∙ gather_none near os E x))
+    where
+      zero-k : k ≡ 0
+      zero-k = omega arith

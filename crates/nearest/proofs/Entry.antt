@@ -2,7 +2,7 @@
 use mathlib.Core.Path.{◌≡◌, refl, sym, ap, ◌∙◌, subst}
 use mathlib.Core.Bool.{Bool}
 use mathlib.Core.List.{List}
-use Prim.Native.Nat.{ℕ, zero, suc, ◌-◌, ◌≤◌, ◌<◌}
+use Prim.Native.Nat.{ℕ, zero, suc, ◌≤◌, ◌<◌}
 use native.Mathlib.Omega.{arith}
 use lib.Dec.{ltb}
 use borrow.Author.Tests.{lt-ltb, le-ltb}
@@ -10,9 +10,11 @@ use Rattle.sets.specs.Pick.{pick}
 use Rattle.columns.specs.Pieces.{idle, followed_by, Memory, held, wrote}
 use Rattle.columns.specs.Striking.{strike_off}
 use Rattle.columns.proofs.Piecing.{wrote_on, wrote_none}
-use Rattle.nearest.specs.Choice.{chosen, far}
+use Rattle.nearest.specs.Choice.{chosen, far, found}
 use Rattle.nearest.specs.Nearest.{gather_next, rounds, nearest_for}
+use Rattle.std.specs.Prelude.{Some, None}
 use Rattle.nearest.specs.declared.choice.Choice.{Choice}
+use Rattle.nearest.proofs.Choosing.{some-found, none-found}
 
 -- ---- the rounds
 
@@ -39,23 +41,22 @@ module _ (near angles : List ℕ) (Q : ℕ) where
       ∙ ap (λ (b : Bool). pick b (followed_by (gather_next near angles Q (chosen near Q xs).column (chosen near Q xs).qubit xs) (λ ys. rounds n near angles Q ys)) (idle xs)) (le-ltb (chosen near Q xs).moves far h)
 
   -- the loop, with n rounds left
-  pub round-next : (n : ℕ) (xs out : List ℕ) (at : ℕ) (c : Choice) (ys out' : List ℕ) (a : ℕ) → 0 < n → c ≡ chosen near Q xs → c.moves < far
+  pub round-next : (n j : ℕ) (xs out : List ℕ) (at : ℕ) (c : Choice) (ys out' : List ℕ) (a : ℕ) → suc j ≡ n → Some c ≡ found (chosen near Q xs)
       → held ys out' a ≡ wrote out at (gather_next near angles Q c.column c.qubit xs)
-      → wrote out' a (rounds (n - 1) near angles Q ys) ≡ wrote out at (rounds n near angles Q xs)
-  round-next n xs out at c ys out' a l e h f =
-      wrote_on out at (gather_next near angles Q b.column b.qubit xs) (λ ys. rounds (n - 1) near angles Q ys)
-      (f ∙ ap (λ (c : Choice). wrote out at (gather_next near angles Q c.column c.qubit xs)) e) refl
-      ∙ ap (wrote out at) (sym (rounds-more (n - 1) xs (subst (λ (c : Choice). c.moves < far) e h)) ∙ ap (λ (d : ℕ). rounds d near angles Q xs) one_less)
+      → wrote out' a (rounds j near angles Q ys) ≡ wrote out at (rounds n near angles Q xs)
+  round-next n j xs out at c ys out' a l e f =
+      wrote_on out at (gather_next near angles Q b.column b.qubit xs) (λ ys. rounds j near angles Q ys)
+      (f ∙ ap (λ (c : Choice). wrote out at (gather_next near angles Q c.column c.qubit xs)) s.0) refl
+      ∙ ap (wrote out at) (sym (rounds-more j xs (subst (λ (c : Choice). c.moves < far) s.0 s.1)) ∙ ap (λ (d : ℕ). rounds d near angles Q xs) l)
     where
       b : Choice
       b = chosen near Q xs
 
-      one_less : suc (n - 1) ≡ n
-      one_less = omega arith
+      s : (c ≡ b) × (c.moves < far)
+      s = some-found c b e
 
-  pub round-over : (n : ℕ) (xs out : List ℕ) (at : ℕ) (c : Choice) → c ≡ chosen near Q xs → far ≤ c.moves → held xs out at ≡ wrote out at (rounds n near angles Q xs)
-  round-over n xs out at c e h =
-      wrote_none out at xs ∙ ap (wrote out at) (sym (rounds-over n xs (subst (λ (c : Choice). far ≤ c.moves) e h)))
+  pub round-over : (n : ℕ) (xs out : List ℕ) (at : ℕ) → None ≡ found (chosen near Q xs) → held xs out at ≡ wrote out at (rounds n near angles Q xs)
+  round-over n xs out at e = wrote_none out at xs ∙ ap (wrote out at) (sym (rounds-over n xs (none-found (chosen near Q xs) e)))
 
   pub round-end : (n : ℕ) (xs out : List ℕ) (at : ℕ) → n ≤ 0 → held xs out at ≡ wrote out at (rounds n near angles Q xs)
   round-end n xs out at h =
@@ -64,8 +65,8 @@ module _ (near angles : List ℕ) (Q : ℕ) where
 
 -- ---- the answer
 
-module _ (near : List ℕ) (Q : ℕ) (ps angles out : List ℕ) where
-  pub entry-wrote : {ys o : List ℕ} {a : ℕ} {w : Memory} → held ys o a ≡ wrote out 0 (strike_off angles ps) → w ≡ wrote o a (rounds 256 near angles Q ys)
-      → w ≡ wrote out 0 (nearest_for near Q ps angles)
+module _ (near : List ℕ) (Q : ℕ) (ps angles out : List ℕ) (at : ℕ) where
+  pub entry-wrote : {ys o : List ℕ} {a : ℕ} {w : Memory} → held ys o a ≡ wrote out at (strike_off angles ps) → w ≡ wrote o a (rounds 256 near angles Q ys)
+      → w ≡ wrote out at (nearest_for near Q ps angles)
   unfolding nearest_for
-  entry-wrote {ys} {o} {a} e h = wrote_on out 0 (strike_off angles ps) (λ xs. rounds 256 near angles Q xs) e h
+  entry-wrote {ys} {o} {a} e h = wrote_on out at (strike_off angles ps) (λ xs. rounds 256 near angles Q xs) e h

@@ -5,30 +5,29 @@ use mathlib.Core.Bool.{Bool, true, false}
 use mathlib.Core.List.{List, [], ◌∷◌}
 use Prim.Native.Nat.{ℕ, zero, suc, ◌+◌, ◌^◌, ◌≤◌, ◌<◌}
 use native.Mathlib.Omega.{arith}
-use native.Mathlib.Decide.{ℕ_discrete, dec_lt}
-use lib.Bits.{bit_and}
+use native.Mathlib.Decide.{dec_lt}
 use lib.Count.{ones}
 use lib.ListN.{length, get_or, get_or-eq_default}
 use lib.Dec.{ltb}
 use borrow.Author.Tests.{ltb-true}
-use Rattle.sets.specs.Pick.{pick}
+use Rattle.std.specs.List.{range_with_len, AllWithin}
+use Rattle.std.proofs.lemmas.List.FromFn.{get_or-range_with_len}
 use Rattle.sets.specs.Bit.{bit, has, In, Sub}
 use Rattle.sets.specs.Size.{size_of}
 use Rattle.sets.specs.Columns.{turn}
 use Rattle.sets.proofs.Bits.{bit-cases, bit-of-zero}
-use Rattle.sets.proofs.Members.{in_and, in-lt}
+use Rattle.sets.proofs.Members.{in-lt}
 use Rattle.sets.proofs.Ones.{ones-pow, ones-put, ones-drop}
 use Rattle.sets.proofs.Turn.{turn_on, turn-off, turn-past}
 use Rattle.sets.proofs.Words.{has-true, has-false}
 use Rattle.gates.specs.declared.gate.Gate.{Gate}
 use Rattle.gates.specs.declared.gate.Gate.TheVariants.{Cnot, Rotation, X, Bad}
 use Rattle.chip.specs.Graph.{Near, Symm}
-use Rattle.spares.specs.Spare.{connected_of}
 use Rattle.spares.proofs.Spares.{connected-joined}
 use Rattle.gathering.specs.Gather.{turns, gather_of}
 use Rattle.gathering.proofs.GatherWorks.{gathers}
 use Rattle.nearest.specs.Choice.{tried_at, over_qubits}
-use Rattle.nearest.specs.Sure.{Sure, Answered, Mutual, Whenever}
+use Rattle.nearest.specs.Sure.{Sure, Tested, Works, Answered, Mutual, Whenever}
 use Rattle.nearest.specs.declared.choice.Choice.{Choice}
 use Rattle.nearest.proofs.Choosing.{tried-not, tried-farther, qubits-step, qubits-none}
 
@@ -76,14 +75,11 @@ module _ (near : List ℕ) (Q : ℕ) (s : Sure near Q) (x : ℕ) (f : Sub x Q) w
     qubits-same zero v = sym (qubits-none near Q k x v b)
     qubits-same (suc d) v = qubits-same d (v + 1) ∙ ap (over_qubits near Q k x d (v + 1)) (tried_same v) ∙ sym (qubits-step near Q k x d v b)
 
-pub over-same : (near : List ℕ) (Q k x : ℕ) (b : Choice) (n : ℕ) → Sure near Q → bit_and x Q ≡ x → n ≡ size_of x → b.moves < n → b ≡ over_qubits near Q k x 20 0 b
+pub over-same : (near : List ℕ) (Q k x : ℕ) (b : Choice) (n : ℕ) → Works near Q x → n ≡ size_of x → b.moves < n → b ≡ over_qubits near Q k x 20 0 b
 unfolding size_of
-over-same near Q k x b n s e en h = qubits-same near Q s x (λ i m. (in_and x Q i (subst (In i) (sym e) m)).1) k b (omega arith) 20 0
+over-same near Q k x b n w en h = qubits-same near Q w.sure x w.part k b (omega arith) 20 0
 
 -- ---- the test
-
-pub told-not : (P : Type 0) → Whenever false P
-told-not P t = let z : ◌≡◌ {A = ℕ} 0 1 = ap (λ (b : Bool). pick b 1 0) t in absurd (omega arith)
 
 pub answered-has : (near : List ℕ) (u v : ℕ) (r : Bool) → r ≡ has (get_or near v 0) u → Whenever r (Answered near u v)
 answered-has near u v r e t = record { back = λ n. has-true (get_or near v 0) u (sym e ∙ t) }
@@ -91,49 +87,22 @@ answered-has near u v r e t = record { back = λ n. has-true (get_or near v 0) u
 pub answered-not : (near : List ℕ) (u v : ℕ) (r : Bool) → has (get_or near u 0) v ≡ false → Whenever r (Answered near u v)
 answered-not near u v r e t = record { back = λ n. absurd (omega (arith, n, has-false (get_or near u 0) v e)) }
 
--- the neighbours of u below k have it as a neighbour too
-pub record Mutually (near : List ℕ) (u k : ℕ) : Type 0 where
-  pub low : get_or near u 0 < 2 ^ 20
-  pub back : (v : ℕ) → v < k → Near near u v → Near near v u
+-- each of 20 qubits, at its place
+at_place : (P : ℕ → Type 0) → AllWithin P (range_with_len 0 20) 0 20 → (v : ℕ) → v < 20 → P v
+at_place P all v l = subst P (get_or-range_with_len 0 20 v 0 l ∙ omega arith) (all v 0 (omega arith) l)
 
-module _ (near : List ℕ) (u : ℕ) where
-  pub mutual-start : get_or near u 0 < 1048576 → Mutually near u 0
-  mutual-start h = record { low = h; back = λ v (l : v < 0). absurd (omega arith) }
+pub mutual-all : (near : List ℕ) (u : ℕ) → get_or near u 0 < 2 ^ 20 → AllWithin (Answered near u) (range_with_len 0 20) 0 20 → Mutual near u
+mutual-all near u h all v = record { back = λ n. (at_place (Answered near u) all v (in-lt 20 (get_or near u 0) v h n)).back n }
 
-  pub mutual-next : (k : ℕ) → Answered near u k → Mutually near u k → Mutually near u (k + 1)
-  mutual-next k c m = record { low = m.low; back = λ v (l : v < k + 1) n. at v (omega arith) n (ℕ_discrete v k) }
-    where
-      at : (v : ℕ) → v ≤ k → Near near u v → Dec (v ≡ k) → Near near v u
-      at v l n (no ne) = m.back v (omega arith) n
-      at v l n (yes e) = subst (λ (w : ℕ). Near near w u) (sym e) (c.back (subst (Near near u) e n))
+pub symm-all : (near : List ℕ) → length near ≡ 20 → AllWithin (Mutual near) (range_with_len 0 20) 0 20 → Symm near
+symm-all near l all u v n = go (dec_lt u 20)
+  where
+    go : Dec (u < 20) → Near near v u
+    go (yes b) = (at_place (Mutual near) all u b v).back n
+    go (no b) = absurd (omega (arith, n, ap (λ (x : ℕ). bit x v) (get_or-eq_default near 0 past), bit-of-zero v))
+      where
+        past : length near ≤ u
+        past = omega arith
 
-  pub mutual-all : (k : ℕ) → 20 ≤ k → Mutually near u k → Mutual near u
-  mutual-all k h m v = record { back = λ n. m.back v (omega (arith, in-lt 20 (get_or near u 0) v m.low n)) n }
-
--- those of the first k qubits do
-pub record Mutuals (near : List ℕ) (k : ℕ) : Type 0 where
-  pub each : (u : ℕ) → u < k → Mutual near u
-
-module _ (near : List ℕ) where
-  pub symm-start : Mutuals near 0
-  symm-start = record { each = λ u (l : u < 0). absurd (omega arith) }
-
-  pub symm-next : (k : ℕ) → Mutual near k → Mutuals near k → Mutuals near (k + 1)
-  symm-next k m f = record { each = λ u (l : u < k + 1). at u (omega arith) (ℕ_discrete u k) }
-    where
-      at : (u : ℕ) → u ≤ k → Dec (u ≡ k) → Mutual near u
-      at u l (no ne) = f.each u (omega arith)
-      at u l (yes e) = subst (Mutual near) (sym e) m
-
-  pub symm-all : (k : ℕ) → length near ≡ 20 → 20 ≤ k → Mutuals near k → Symm near
-  symm-all k l h f u v n = go (dec_lt u k)
-    where
-      go : Dec (u < k) → Near near v u
-      go (yes b) = (f.each u b v).back n
-      go (no b) = absurd (omega (arith, n, ap (λ (x : ℕ). bit x v) (get_or-eq_default near 0 past), bit-of-zero v))
-        where
-          past : length near ≤ u
-          past = omega arith
-
-pub sure-of : (near : List ℕ) (Q : ℕ) → Q < 1048576 → Symm near → (r : Bool) → r ≡ connected_of near Q → Whenever r (Sure near Q)
-sure-of near Q h s r e t = record { symm = s; joined = connected-joined near Q h s (sym e ∙ t); low = h }
+pub sure-of : (near : List ℕ) (Q : ℕ) → Tested near Q → Sure near Q
+sure-of near Q t = record { symm = t.0; joined = connected-joined near Q t.2 t.0 t.1; low = t.2 }

@@ -1,5 +1,5 @@
 -- The qubits of a column, the lowest that is left each time: the loop passes over no other. Assumes nothing.
-use mathlib.Core.Path.{◌≡◌, refl, sym, ap, ◌∙◌, subst}
+use mathlib.Core.Path.{◌≡◌, sym, ap, ◌∙◌, subst}
 use mathlib.Core.Logic.{◌≢◌}
 use mathlib.Core.Bool.{true, false}
 use mathlib.Core.List.{List}
@@ -35,9 +35,6 @@ module _ (near : List ℕ) (Q k x : ℕ) where
       ap (λ (w : ℕ). over_qubits near Q k x (20 - w) w b) z
       ∙ passed n (v + 1) b (omega arith) (λ i l m. f i (omega arith) (omega arith))
       ∙ qubits-next near Q k x 20 v b b (omega arith) (tried-not near Q k x v b (f v (omega arith) (omega arith)))
-
-  pub trying_start : (b : Choice) → Trying near Q k x x b (over_qubits near Q k x 20 0 b)
-  trying_start b = record { at = 0; few = omega arith; gone = λ i l. absurd (omega arith); rest = λ i l. refl; leads = refl }
 
   module _ (left : ℕ) (best total : Choice) (t : Trying near Q k x left best total) where
     -- where nothing is left below w, the qubits from w on still lead to the same choice

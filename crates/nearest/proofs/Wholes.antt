@@ -3,14 +3,13 @@ use mathlib.Core.Path.{◌≡◌, refl, sym, ap, ap₂, ◌∙◌, subst}
 use mathlib.Core.Logic.{◌≢◌, ◌⊎◌, inl, inr}
 use mathlib.Core.Bool.{Bool, true, false}
 use mathlib.Core.List.{List}
-use Prim.Native.Nat.{ℕ, suc, ◌+◌, ◌-◌, ◌*◌, ◌^◌, ◌≤◌, ◌<◌, min}
+use Prim.Native.Nat.{ℕ, suc, ◌+◌, ◌-◌, ◌^◌, ◌≤◌, ◌<◌, min}
 use native.Mathlib.Omega.{arith}
 use native.Mathlib.Decide.{ℕ_discrete}
 use lib.Bits.{bit_and, bit_xor}
 use lib.Count.{ones, ones-le}
 use lib.Dec.{eqb}
-use lib.ListN.{get_or, drop}
-use lib.Seq.{get_or-drop}
+use lib.ListN.{get_or, length}
 use borrow.Author.Tests.{eqb-true}
 use Rattle.sets.specs.Pick.{pick}
 use Rattle.sets.specs.Bit.{bit, has, In, Sub}
@@ -20,17 +19,16 @@ use Rattle.sets.proofs.Members.{in_and, and_in, in-lt, some-bit, put_other, put_
 use Rattle.sets.proofs.Ones.{ones-pow, ones-put, ones-drop, drop-same}
 use Rattle.sets.proofs.Words.{has-true, has-false, lowest-in, only-is}
 use Rattle.chip.specs.Graph.{Near, Symm}
-use Rattle.gathering.specs.Order.{Along, root, then}
+use Rattle.gathering.specs.Order.{order_of, Along, root, then}
 use Rattle.gathering.specs.Gather.{gather_from}
 use Rattle.gathering.proofs.OrderParts.{sub-lt}
-use Rattle.gathering.proofs.OrderGrows.{order-along, order-few}
+use Rattle.gathering.proofs.OrderGrows.{order-along}
 use Rattle.gathering.proofs.GatherWorks.{gathers-along}
 use Rattle.nearest.specs.Choice.{out_at, least_of, detour_of}
-use Rattle.nearest.specs.Sure.{Sure, Works, Whole, Whenever}
-use Rattle.nearest.specs.Orders.{AllOrderly}
+use Rattle.nearest.specs.Sure.{Tested, Works, Whole, Whenever}
 use Rattle.nearest.specs.declared.choice.Out.{Out}
 use Rattle.nearest.proofs.Counting.{out-not, out-two, out_one, Counting}
-use Rattle.nearest.proofs.Sureness.{turns-lose}
+use Rattle.nearest.proofs.Sureness.{turns-lose, sure-of}
 
 -- ---- one qubit is taken out
 
@@ -141,12 +139,18 @@ detour-few m = go (eqb m 2) refl
     go true e = omega (arith, eqb-true m 2 e)
     go false e = omega arith
 
-module _ (near order : List ℕ) (from : ℕ) where
+-- so many moves are sure to come, and one, where the gathering is sure to work
+pub record Bounded (near os : List ℕ) (k S x n bound : ℕ) : Type 0 where
+  pub sure : Bool
+  pub works : Whenever sure (Whole near os k S x)
+  pub least : bound ≤ n + least_of sure x
+
+module _ (near os : List ℕ) where
   -- what o leaves of x is to be gathered by the first k + 1 qubits, which S has
   abbrev Next : ℕ → ℕ → ℕ → Out → Type 0
-  Next k S x o = Whole near order from k S o.left × Shrinks x o
+  Next k S x o = Whole near os k S o.left × Shrinks x o
 
-  back_on : (k S x u d m : ℕ) (o : Out) → Symm near → S < 2 ^ 20 → Along near (drop from order) k S → Sub x S → x ≢ 0 → 0 < k → u ≡ get_or (drop from order) k 0 → d ≡ only_of u → m ≡ get_or near u 0
+  back_on : (k S x u d m : ℕ) (o : Out) → Symm near → S < 2 ^ 20 → Along near os k S → Sub x S → x ≢ 0 → 0 < k → u ≡ get_or os k 0 → d ≡ only_of u → m ≡ get_or near u 0
       → o ≡ out_at (bit_and m (bit_xor S d)) u x → Next (k - 1) (bit_xor S d) x o
   back_on k S x u d m o sy low (root e) f ne h eu ed em eo = absurd (omega arith)
   back_on k S x u d m o sy low (then {k = j} {E = E} w a z hw n e) f ne h eu ed em eo =
@@ -166,7 +170,7 @@ module _ (near order : List ℕ) (from : ℕ) where
       one_less = omega arith
 
       q : ℕ
-      q = get_or (drop from order) (suc j) 0
+      q = get_or os (suc j) 0
 
       to_e : bit_xor S d ≡ E
       to_e = ap₂ bit_xor e (ed ∙ ap only_of eu ∙ only-is q (small near E S q low z e q (in-S near E S q low z e))) ∙ xor-cancel E (2 ^ q)
@@ -177,8 +181,8 @@ module _ (near order : List ℕ) (from : ℕ) where
       part : TakenFrom near E S q low z e x o
       part = subst (TakenFrom near E S q low z e x) (sym is) (taken near E S q low z e w x hw (sy w q n) f ne)
 
-  module _ (b : Bool) (k S x : ℕ) (t : Whenever b (Whole near order from k S x)) where
-    module _ (n total bound : ℕ) (c : Counting near order from k S x n total) (l : bound ≤ n + least_of b x) where
+  module _ (b : Bool) (k S x : ℕ) (t : Whenever b (Whole near os k S x)) where
+    module _ (n total bound : ℕ) (c : Counting near os k S x n total) (l : bound ≤ n + least_of b x) where
       pub bound-few : bound ≤ 58
       unfolding size_of
       bound-few = go b refl l
@@ -195,17 +199,17 @@ module _ (near order : List ℕ) (from : ℕ) where
           go true y l =
               let w = t y in
               let r = gathers-along w.symm w.low w.along x w.part w.some in
-              omega (arith, g, l, c.count, turns-lose (gather_from near (drop from order) k S x) x, ap ones r.done, ones-pow (get_or (drop from order) 0 0))
+              omega (arith, g, l, c.count, turns-lose (gather_from near os k S x) x, ap ones r.done, ones-pow (get_or os 0 0))
           go false y l = omega (arith, g, l, c.count)
 
-    module _ (u d m : ℕ) (o : Out) (h : 0 < k) (eu : u ≡ get_or order (from + k) 0) (ed : d ≡ only_of u) (em : m ≡ get_or near u 0) (eo : o ≡ out_at (bit_and m (bit_xor S d)) u x) where
+    module _ (j u d m : ℕ) (o : Out) (h : 0 < k) (ej : j ≡ k - 1) (eu : u ≡ get_or os k 0) (ed : d ≡ only_of u) (em : m ≡ get_or near u 0) (eo : o ≡ out_at (bit_and m (bit_xor S d)) u x) where
       next : Whenever b (Next (k - 1) (bit_xor S d) x o)
       next y =
           let w = t y in
-          back_on k S x u d m o w.symm w.low w.along w.part w.some h (eu ∙ sym (get_or-drop from order k 0)) ed em eo
+          back_on k S x u d m o w.symm w.low w.along w.part w.some h eu ed em eo
 
-      pub whole-next : Whenever b (Whole near order from (k - 1) (bit_xor S d) o.left)
-      whole-next y = (next y).0
+      pub whole-next : Whenever b (Whole near os j (bit_xor S d) o.left)
+      whole-next y = rw ej ((next y).0)
 
       pub bound-next : (n bound e : ℕ) → bound ≤ n + least_of b x → e ≡ detour_of o.moves → bound + e ≤ n + o.moves + least_of b o.left
       unfolding size_of
@@ -215,31 +219,23 @@ module _ (near order : List ℕ) (from : ℕ) where
           go true y l = omega (arith, l, ee, (next y).1)
           go false y l = omega (arith, l, ee, detour-few o.moves)
 
--- ---- from the orders
+-- ---- from the order at a member
 
-along-same : {near os : List ℕ} {k S : ℕ} (qs : List ℕ) → ((j : ℕ) → j ≤ k → get_or qs j 0 ≡ get_or os j 0) → Along near os k S → Along near qs k S
-along-same qs h (root e) = root (e ∙ ap (λ (i : ℕ). 2 ^ i) (sym (h 0 (omega arith))))
-along-same {near} {os} qs h (then {k = k} {E = E} w a z hw n e) =
-    let s : get_or os (suc k) 0 ≡ get_or qs (suc k) 0 = sym (h (suc k) (omega arith)) in
-    then w (along-same qs (λ j l. h j (omega arith)) a) (ap (bit E) (sym s) ∙ z) hw (subst (Near near w) s n) (e ∙ ap (λ (i : ℕ). bit_xor E (2 ^ i)) s)
-
-pub whole-start : (near : List ℕ) (Q : ℕ) (order len : List ℕ) (o : AllOrderly near Q order len) (v : ℕ) → v < 20 → (l : ℕ) → l ≡ get_or len v 0 → (b : Bool) (x : ℕ) → Whenever b (Works near Q x) → has x v ≡ true
-    → Whenever b (Whole near order (20 * v) (l - 1) Q x)
-whole-start near Q order len o v h l e b x t hv y =
-    record {
+pub whole-start : (near : List ℕ) (Q v x k : ℕ) (b : Bool) → k ≡ length (order_of near Q v) - 1 → Whenever b (Works near Q x) → has x v ≡ true → Whenever b (Whole near (order_of near Q v) k Q x)
+whole-start near Q v x k b e t hv y =
+    rw e
+    (record {
       symm = w.sure.symm;
       low = w.sure.low;
-      along = subst (λ (n : ℕ). Along near (drop (20 * v) order) (n - 1) Q) (sym (e ∙ o.size v h))
-          (along-same (drop (20 * v) order) (λ j b. get_or-drop (20 * v) order j 0 ∙ o.row v h j (omega (arith, (order-few near Q v).0)))
-          (order-along near Q v w.sure.low w.sure.joined (w.part v (has-true x v hv))));
+      along = order-along near Q v w.sure.low w.sure.joined (w.part v (has-true x v hv));
       part = w.part;
       some = λ (z : x ≡ 0). omega (arith, has-true x v hv, ap (λ (m : ℕ). bit m v) z, bit-of-zero v);
-    }
+    })
   where
     w : Works near Q x
     w = t y
 
 -- ---- a column
 
-pub works : (near : List ℕ) (Q x : ℕ) (b : Bool) → Whenever b (Sure near Q) → b ≡ true → bit_and x Q ≡ x → Whenever true (Works near Q x)
-works near Q x b t h e y = record { sure = t h; part = λ i m. (in_and x Q i (subst (In i) (sym e) m)).1 }
+pub works : (near : List ℕ) (Q x : ℕ) → Tested near Q → bit_and x Q ≡ x → Works near Q x
+works near Q x t e = record { sure = sure-of near Q t; part = λ i m. (in_and x Q i (subst (In i) (sym e) m)).1 }

@@ -1,5 +1,5 @@
 -- Which column is gathered next, and at which of its qubits: the nearest (our own choice; docs/LAYING.md).
-use Rattle.std.specs.Prelude.{Bool, List, ℕ, zero, suc, ◌+◌, eqb, ltb, length, get_or}
+use Rattle.std.specs.Prelude.{Bool, List, ℕ, zero, suc, ◌+◌, eqb, ltb, length, get_or, Option, None, Some}
 use Rattle.sets.specs.Pick.{pick}
 use Rattle.sets.specs.Bit.{has}
 use Rattle.sets.specs.Size.{size_of}
@@ -40,6 +40,10 @@ over_columns near Q xs (suc d) k b = over_columns near Q xs d (k + 1) (over_qubi
 -- "over the columns in order and the members v of each ascending, the (column, v) whose gathering has fewest moves, the first in a tie"; where no column is left it is far
 unfoldable pub chosen : List ℕ → ℕ → List ℕ → Choice
 chosen near Q xs = over_columns near Q xs (length xs) 0 (choice 0 0 far)
+
+-- the choice, where a column is left
+abbrev pub found : Choice → Option Choice
+found c = pick (ltb c.moves far) (Some c) None
 
 -- how many moves take u out of x, and what they leave of it
 unfoldable pub out_at : ℕ → ℕ → ℕ → Out

@@ -1,18 +1,18 @@
 // Which column is gathered next, and at which of its qubits: the nearest.
-ghost use Rattle.std.specs.Prelude.{◌≡◌, true, ◌+◌, ◌-◌, ◌*◌, ◌≤◌, ◌<◌, min, length, get_or, drop};
+ghost use Rattle.std.specs.Prelude.{◌≡◌, true, ◌<◌, min, length};
 ghost use Rattle.gates.specs.Limits.{most_qubits};
 ghost use Rattle.sets.specs.Bit.{has};
-ghost use Rattle.gathering.specs.Gather.{gather_from};
-ghost use Rattle.nearest.specs.Choice.{tried_at, over_qubits, chosen, out_at, least_of, detour_of};
-ghost use Rattle.nearest.specs.Sure.{Sure, Works, Whole, Whenever};
-ghost use Rattle.nearest.specs.Orders.{AllOrderly};
+ghost use Rattle.gathering.specs.Gather.{gather_of};
+ghost use Rattle.nearest.specs.Choice.{tried_at, over_qubits, chosen, found, out_at, least_of, detour_of};
+ghost use Rattle.nearest.specs.Sure.{Works, Whenever};
 
+use crate::orders::Orders;
 use columns::turning;
 use gates::job::Job;
 use gathering::gather;
 
 // More moves than any gathering has.
-pub const FAR: usize = gather::MOST + 1;
+const FAR: usize = gather::MOST + 1;
 
 // A column, one of its qubits, and how many moves gather it there.
 #[derive(Clone, Copy)]
@@ -53,12 +53,6 @@ fn out_of(beside: u32, u: usize, x: u32) -> Out
     }
 }
 
-fn slot(xs: &[usize], k: usize) -> usize
-    ensures { result ≡ get_or xs.now k 0 }
-{
-    if k < xs.len() { xs[k] } else { 0 }
-}
-
 // How many moves more there are, and one, at least: a move takes out one qubit at most.
 fn least(whole: bool, x: u32) -> usize
     ensures { result ≡ least_of whole x }
@@ -74,148 +68,97 @@ fn detour(moves: usize) -> usize
     if moves == 2 { 2 } else { 0 }
 }
 
-// How many moves gather x by the `len` qubits that stand from `from` on; no more are counted than
-// `most`. It stops where there are sure to be as many.
-fn count(
-    near: &[u32],
-    order: &[usize],
-    from: usize,
-    len: usize,
-    set: u32,
-    whole: bool,
-    x: u32,
-    most: usize,
-) -> usize
-    requires { (from ≤ most_qubits * most_qubits) × (1 ≤ len) × (len ≤ most_qubits) × Whenever whole (Whole near.now order.now from (len - 1) set x) }
-    ensures { result ≡ min most (length (gather_from near.now (drop from order.now) (len - 1) set x)) }
-{
-    let mut k = len - 1;
-    let mut earlier = set;
-    let mut left = x;
-    let mut n = 0;
-    // How many there are at least, and one.
-    let mut bound = least(whole, x);
-    while 0 < k {
-        if most < bound {
-            return most;
-        }
-        let u = slot(order, from + k);
-        earlier = earlier ^ sets::only(u);
-        let out = out_of(turning::entry(near, u) & earlier, u, left);
-        n += out.moves;
-        bound += detour(out.moves);
-        left = out.left;
-        k -= 1;
+impl Orders {
+    // Whether every gathering of x is sure to work.
+    fn works(&self, x: u32) -> bool
+        ensures { Whenever result (Works self.now.near self.now.set x) }
+    {
+        self.sure && x & self.set == x
     }
-    if most < n { most } else { n }
-}
 
-// The nearer of b and column k, which is x, gathered at its qubit v.
-fn tried(
-    near: &[u32],
-    order: &[usize],
-    len: &[usize],
-    set: u32,
-    whole: bool,
-    k: usize,
-    x: u32,
-    v: usize,
-    b: Choice,
-) -> Choice
-    requires { AllOrderly near.now set order.now len.now × (v < most_qubits) × (has x v ≡ true) × Whenever whole (Works near.now set x) }
-    ensures { result ≡ tried_at near.now set k x v b }
-{
-    let n = count(
-        near,
-        order,
-        Job::QUBITS * v,
-        slot(len, v),
-        set,
-        whole,
-        x,
-        b.moves,
-    );
-    if n < b.moves {
-        return Choice {
-            column: k,
-            qubit: v,
-            moves: n,
+    // How many moves gather x at v; no more are counted than `most`. It stops where there are sure to
+    // be as many.
+    fn count(&self, x: u32, v: usize, most: usize) -> usize
+        requires { (v < most_qubits) × (has x v ≡ true) }
+        ensures { result ≡ min most (length (gather_of self.now.near self.now.set v x)) }
+    {
+        let [_, others @ ..] = self.from.as_slice()[v].as_slice() else {
+            return 0;
         };
-    }
-    b
-}
-
-// The nearest of b and the members of x, which is column k.
-fn over_qubits(
-    near: &[u32],
-    order: &[usize],
-    len: &[usize],
-    set: u32,
-    whole: bool,
-    k: usize,
-    x: u32,
-    b: Choice,
-) -> Choice
-    requires { AllOrderly near.now set order.now len.now × Whenever whole (Works near.now set x) }
-    ensures { result ≡ over_qubits near.now set k x most_qubits 0 b }
-{
-    let mut best = b;
-    let mut left = x;
-    while left != 0 {
-        let v = sets::lowest(left);
-        if Job::QUBITS <= v {
-            return best;
-        }
-        left = left ^ sets::only(v);
-        best = tried(near, order, len, set, whole, k, x, v, best);
-    }
-    best
-}
-
-// The same; a column with more qubits than b has moves is no nearer.
-fn over_column(
-    near: &[u32],
-    order: &[usize],
-    len: &[usize],
-    set: u32,
-    sure: bool,
-    k: usize,
-    x: u32,
-    b: Choice,
-) -> Choice
-    requires { AllOrderly near.now set order.now len.now × Whenever sure (Sure near.now set) }
-    ensures { result ≡ over_qubits near.now set k x most_qubits 0 b }
-{
-    if sure {
-        if x & set == x {
-            if b.moves < sets::size(x) {
-                return b;
+        let mut earlier = self.set;
+        let mut left = x;
+        let mut n = 0;
+        // How many there are at least, and one.
+        let mut bound = least(self.works(x), x);
+        for &u in others.iter().rev() {
+            if most < bound {
+                return most;
             }
-            return over_qubits(near, order, len, set, true, k, x, b);
+            earlier ^= sets::only(u);
+            let out = out_of(turning::entry(&self.near, u) & earlier, u, left);
+            n += out.moves;
+            bound += detour(out.moves);
+            left = out.left;
         }
+        n.min(most)
     }
-    over_qubits(near, order, len, set, false, k, x, b)
-}
 
-// The nearest of all columns.
-pub(crate) fn choose(
-    near: &[u32],
-    order: &[usize],
-    len: &[usize],
-    set: u32,
-    sure: bool,
-    cols: &[u32],
-) -> Choice
-    requires { AllOrderly near.now set order.now len.now × Whenever sure (Sure near.now set) }
-    ensures { result ≡ chosen near.now set cols.now }
-{
-    let mut best = Choice {
-        column: 0,
-        qubit: 0,
-        moves: FAR,
-    };
-    for k in 0..cols.len() {
-        best = over_column(near, order, len, set, sure, k, cols[k], best);
+    // The nearer of b and column k, which is x, gathered at its qubit v.
+    fn tried(&self, k: usize, x: u32, v: usize, b: Choice) -> Choice
+        requires { (v < most_qubits) × (has x v ≡ true) }
+        ensures { result ≡ tried_at self.now.near self.now.set k x v b }
+    {
+        let n = self.count(x, v, b.moves);
+        if n < b.moves {
+            return Choice {
+                column: k,
+                qubit: v,
+                moves: n,
+            };
+        }
+        b
     }
-    best
+
+    // The nearest of b and the members of x, which is column k.
+    fn over_qubits(&self, k: usize, x: u32, b: Choice) -> Choice
+        ensures { result ≡ over_qubits self.now.near self.now.set k x most_qubits 0 b }
+    {
+        let mut best = b;
+        let mut left = x;
+        while left != 0 {
+            let v = sets::lowest(left);
+            if Job::QUBITS <= v {
+                return best;
+            }
+            left ^= sets::only(v);
+            best = self.tried(k, x, v, best);
+        }
+        best
+    }
+
+    // The same; a column with more qubits than b has moves is no nearer.
+    fn over_column(&self, k: usize, x: u32, b: Choice) -> Choice
+        ensures { result ≡ over_qubits self.now.near self.now.set k x most_qubits 0 b }
+    {
+        let is_farther = b.moves < sets::size(x);
+        if is_farther && self.works(x) {
+            return b;
+        }
+        self.over_qubits(k, x, b)
+    }
+
+    // The nearest of all columns, if there is one.
+    pub(crate) fn choose(&self, cols: &[u32]) -> Option<Choice>
+        ensures { result ≡ found (chosen self.now.near self.now.set cols.now) }
+    {
+        let mut best = Choice {
+            column: 0,
+            qubit: 0,
+            moves: FAR,
+        };
+        for (k, &x) in cols.iter().enumerate() {
+            best = self.over_column(k, x, best);
+        }
+        if best.moves < FAR { Some(best) } else { None }
+    }
 }

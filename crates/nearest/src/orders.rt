@@ -1,43 +1,40 @@
-// The orders from all qubits, worked out once.
-ghost use Rattle.std.specs.Prelude.{◌≡◌, ◌*◌, ◌<◌};
-ghost use Rattle.std.proofs.lemmas.List.Edits.{sets};
+// The orders from all qubits of a set, worked out once, and whether its gatherings are sure to work.
+ghost use Rattle.std.specs.Prelude.{◌≡◌, map};
+ghost use Rattle.std.specs.List.{range_with_len};
 ghost use Rattle.gates.specs.Limits.{most_qubits};
-ghost use Rattle.nearest.specs.Orders.{AllOrderly};
+ghost use Rattle.gathering.specs.Order.{order_of};
+ghost use Rattle.nearest.specs.Orders.{lists};
+ghost use Rattle.nearest.specs.Sure.{Tested, Whenever};
 
+use crate::sure;
+use arrayvec::ArrayVec;
 use gates::job::Job;
 use gathering::gather;
+use gathering::gather::Order;
 
-const ROOM: usize = Job::QUBITS * Job::QUBITS;
-
-// The order from v stands from 20 v on, and its length at v.
-#[derive(Clone, Copy)]
+#[derive(Drop)]
 pub struct Orders {
-    pub qubit: [usize; ROOM],
-    pub len: [usize; Job::QUBITS],
+    pub near: [u32; Job::QUBITS],
+    pub set: u32,
+    pub sure: bool,
+    pub from: ArrayVec<Order, { Job::QUBITS }>,
+    ghost orderly: { lists from ≡ map (order_of near set) (range_with_len 0 most_qubits) },
+    ghost certain: { Whenever sure (Tested near set) },
 }
 
-fn with_row(qubit: [usize; ROOM], v: usize, row: [usize; Job::QUBITS]) -> [usize; ROOM]
-    requires { v < most_qubits }
-    ensures { result ≡ sets qubit (most_qubits * v) row }
-{
-    let mut z = qubit;
-    for k in 0..Job::QUBITS {
-        z[Job::QUBITS * v + k] = row[k];
+impl Orders {
+    pub(crate) fn new(near: [u32; Job::QUBITS], set: u32) -> Self
+        ensures { (result.near ≡ near) × (result.set ≡ set) }
+    {
+        let mut from = ArrayVec::new();
+        for v in 0..Job::QUBITS {
+            from.push(gather::by_distance(near, set, v));
+        }
+        Orders {
+            near,
+            set,
+            sure: sure::sure(near, set),
+            from,
+        }
     }
-    z
-}
-
-pub(crate) fn from_all(near: [u32; Job::QUBITS], set: u32) -> Orders
-    ensures { AllOrderly near set result.qubit result.len }
-{
-    let mut qubit = [0; ROOM];
-    let mut len = [0; Job::QUBITS];
-    for v in 0..Job::QUBITS {
-        let order = gather::by_distance(near, set, v);
-        let row = order.qubit;
-        let next = with_row(qubit, v, row);
-        qubit = next;
-        len[v] = order.len;
-    }
-    Orders { qubit, len }
 }

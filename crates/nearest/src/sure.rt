@@ -3,7 +3,7 @@
 ghost use Rattle.std.specs.Prelude.{◌<◌};
 ghost use Rattle.gates.specs.Limits.{most_qubits};
 ghost use Rattle.chip.specs.Graph.{Symm};
-ghost use Rattle.nearest.specs.Sure.{Sure, Answered, Mutual, Whenever};
+ghost use Rattle.nearest.specs.Sure.{Tested, Answered, Mutual, Whenever};
 
 use gates::job::Job;
 use spares::spare;
@@ -16,46 +16,27 @@ fn answered(near: [u32; Job::QUBITS], u: usize, v: usize) -> bool
     requires { (u < most_qubits) × (v < most_qubits) }
     ensures { Whenever result (Answered near u v) }
 {
-    if sets::holds(near[u], v) {
-        return sets::holds(near[v], u);
-    }
-    true
+    !sets::holds(near[u], v) || sets::holds(near[v], u)
 }
 
 fn mutual_at(near: [u32; Job::QUBITS], u: usize) -> bool
     requires { u < most_qubits }
     ensures { Whenever result (Mutual near u) }
 {
-    if ABOVE <= near[u] {
-        return false;
-    }
-    for v in 0..Job::QUBITS {
-        if !answered(near, u, v) {
-            return false;
-        }
-    }
-    true
+    near[u] < ABOVE && (0..Job::QUBITS).all(|v| answered(near, u, v))
 }
 
 fn mutual(near: [u32; Job::QUBITS]) -> bool
     ensures { Whenever result (Symm near) }
 {
-    for u in 0..Job::QUBITS {
-        if !mutual_at(near, u) {
-            return false;
-        }
-    }
-    true
+    (0..Job::QUBITS).all(|u| mutual_at(near, u))
 }
 
 pub(crate) fn sure(near: [u32; Job::QUBITS], set: u32) -> bool
-    ensures { Whenever result (Sure near set) }
+    ensures { Whenever result (Tested near set) }
 {
     if ABOVE <= set {
         return false;
     }
-    if mutual(near) {
-        return spare::connected(near, set);
-    }
-    false
+    mutual(near) && spare::connected(near, set)
 }

@@ -2,14 +2,13 @@
 // couplers' file. It knows `qasm_console`, and alone with the other programs the operating system.
 #![tactic(auto)]
 
-ghost use Rattle.std.specs.Prelude.{OnOk, take};
+ghost use Rattle.std.specs.Prelude.{OnOk};
 ghost use Rattle.std.specs.Io.{ReadsAtMost};
 ghost use Rattle.streams.specs.Printing.{PrintsFor};
 ghost use Rattle.qasm_console.specs.Printed.{laid_texts};
 
-use circuit::wires;
-use console::{COUPLER_LINES, GATE_LINES, INPUT};
-use qasm_console::{OUTPUT, printing};
+use console::INPUT;
+use qasm_console::programs;
 use std::alloc::Global;
 use std::env::{Env, FillError};
 use std::fs::{File, Files};
@@ -54,47 +53,13 @@ fn read_listing<R: Files>(files: &R, name: &str, listing: &mut [u8]) -> io::Resu
     streams::read_full(&mut file, listing)
 }
 
-// The couplers are read to their end before the circuit: `listed` bytes of `listing`.
-fn lay<R: Read, W: Write>(
-    listing: &[u8; INPUT],
-    listed: usize,
-    reader: &mut R,
-    writer: &mut W,
-) -> io::Result<()>
-    ensures { OnOk result (PrintsFor (laid_texts (take listed listing.now)) (R.remaining reader.old) (W.contents writer.old) (W.contents writer.new)) }
+// The couplers are read to their end before the circuit.
+fn lay<R: Read, W: Write>(listing: &[u8], reader: &mut R, writer: &mut W) -> io::Result<()>
+    ensures { OnOk result (PrintsFor (laid_texts listing.now) (R.remaining reader.old) (W.contents writer.old) (W.contents writer.new)) }
 {
     let mut input = [0u8; INPUT];
     let n = streams::read_full(reader, &mut input)?;
-    let mut couplers = [0u32; COUPLER_LINES];
-    let mut gates = [0u32; GATE_LINES];
-    let mut out = [0u8; OUTPUT];
-    let begun = printing::begin(
-        listing,
-        listed,
-        &input,
-        n,
-        &mut couplers,
-        &mut gates,
-        &mut out,
-    );
-    let k = begun.bytes;
-    writer.write_all(&out[..k])?;
-    let job = begun.job;
-    let q = job.qubits;
-    let c = job.couplers;
-    let g = job.gates;
-    let version = begun.version;
-    let mut phase = begun.phase;
-    let mut from = begun.from;
-    while from <= g {
-        let part = printing::lay_part(version, q, &couplers[..c], &gates[..g], from, &mut out);
-        let k = part.bytes;
-        writer.write_all(&out[..k])?;
-        phase = wires::together(phase, part.phase);
-        from = part.next;
-    }
-    let k = printing::end(version, phase, &mut out);
-    writer.write_all(&out[..k])
+    programs::write_laid(writer, listing, &input[..n])
 }
 
 // The file that the only argument names is read, and then the circuit. What is wrong with the file is told in one line on standard error, and so is how to call the
@@ -116,7 +81,7 @@ fn main(rt: HostRuntime) -> io::Result<()> {
     };
     let mut listing = [0u8; INPUT];
     match read_listing(&rt, path, &mut listing) {
-        Ok(listed) => lay(&listing, listed, &mut rt.reader(), &mut io::writer(&rt)),
+        Ok(listed) => lay(&listing[..listed], &mut rt.reader(), &mut io::writer(&rt)),
         Err(error) => fail_as(&mut errors, rt.alloc(), &name[..n], error),
     }
 }

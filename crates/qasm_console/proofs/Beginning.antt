@@ -5,22 +5,19 @@ use mathlib.Core.List.{List}
 use Prim.Native.Nat.{ℕ, ◌+◌}
 use lib.ListN.{length, take}
 use borrow.Author.Tests.{eq-eqb, ne_eqb}
+use Rattle.std.specs.Prelude.{Result, Ok, Err}
+use Rattle.verdicts.specs.declared.verdict.Refusal.{Refusal}
 use Rattle.sets.specs.Pick.{pick}
 use Rattle.gates.specs.declared.job.Job.{Job}
-use Rattle.verdicts.specs.declared.verdict.Verdict.{Verdict}
-use Rattle.verdicts.specs.Verdicts.{number_of}
+use Rattle.verdicts.specs.Verdicts.{Verdict, number_of}
 use Rattle.stretches.specs.Tests.{judged_stretches}
-use Rattle.reading.specs.Readings.{couplers_in, lent_after, read_verdict}
+use Rattle.reading.specs.Readings.{couplers_in, lent_after}
 use Rattle.reading.specs.Listing.{parsed_couplers, judged_couplers_text, couplers_reading}
-use Rattle.reading.specs.declared.read.Reading.{Reading}
-use Rattle.reading.specs.declared.read.Reading.TheVariants as answers
 use Rattle.reading.proofs.Said.{listed-says, unlisted-says}
 use Rattle.qasm_lines.specs.Spelling.{head_text}
 use Rattle.qasm_reading.specs.declared.read.Circuit.{Circuit}
-use Rattle.qasm_reading.specs.declared.read.CircuitReading.{CircuitReading}
-use Rattle.qasm_reading.specs.declared.read.CircuitReading.TheVariants.{Read, Refused}
 use Rattle.qasm_reading.specs.Parsing.{parsed_circuit}
-use Rattle.qasm_reading.specs.Readings.{circuit_gates, circuit_in, judged_circuit_text, circuit_reading, circuit_verdict}
+use Rattle.qasm_reading.specs.Readings.{circuit_gates, circuit_in, judged_circuit_text, circuit_reading}
 use Rattle.qasm_reading.proofs.Said.{circuit-counted, circuit-read-says, circuit-unread-says}
 use Rattle.console.specs.Printed.{unless, most_coupler_lines, most_gate_lines, Prints, refusal_of}
 use Rattle.console.proofs.Beginning.{first-passed, first-refused}
@@ -73,14 +70,14 @@ module _ (xs t : List ℕ) where
   drawn-unread ne = ap (λ (b : Bool). pick b (handed_circuit (circuit_in (parsed_circuit t)) xs (circuit_gates (parsed_circuit t))) nothing_handed) (ne_eqb (number_of drawing) 0 ne)
 
 -- the reader was lent gs₀, and left gs
-module _ (xs t gs₀ gs : List ℕ) (lent : length gs₀ ≡ most_gate_lines) (r : CircuitReading) (e : r ≡ circuit_reading t (length gs₀)) (g : gs ≡ lent_after (circuit_verdict r) (circuit_gates (parsed_circuit t)) gs₀) (out out' : List ℕ) (b : BegunCircuit) where
+module _ (xs t gs₀ gs : List ℕ) (lent : length gs₀ ≡ most_gate_lines) (r : Result Circuit Refusal) (e : r ≡ circuit_reading t (length gs₀)) (g : gs ≡ lent_after r (circuit_gates (parsed_circuit t)) gs₀) (out out' : List ℕ) (b : BegunCircuit) where
   reading-is : r ≡ circuit_reading t most_gate_lines
   reading-is = e ∙ ap (circuit_reading t) lent
 
   gates-are : gs ≡ gates_after t gs₀
-  gates-are = g ∙ ap (λ (x : CircuitReading). lent_after (circuit_verdict x) (circuit_gates (parsed_circuit t)) gs₀) reading-is
+  gates-are = g ∙ ap (λ (x : Result Circuit Refusal). lent_after x (circuit_gates (parsed_circuit t)) gs₀) reading-is
 
-  pub circuit-read : (c : Circuit) → r ≡ Read c → Prints most_shown (front_circuit c xs (take c.gates gs)) out b.bytes out' → handed_in b ≡ handed_circuit c xs (take c.gates gs) → BeginsCircuit xs t gs₀ out b gs out'
+  pub circuit-read : (c : Circuit) → r ≡ Ok c → Prints most_shown (front_circuit c xs (take c.gates gs)) out b.bytes out' → handed_in b ≡ handed_circuit c xs (take c.gates gs) → BeginsCircuit xs t gs₀ out b gs out'
   unfolding front_drawing
   circuit-read c d p h =
       let said = circuit-read-says t most_gate_lines c (sym reading-is ∙ d) in
@@ -92,7 +89,7 @@ module _ (xs t gs₀ gs : List ℕ) (lent : length gs₀ ≡ most_gate_lines) (r
         gates_read = gates-are;
       }
 
-  pub circuit-unread : (v : Verdict) → r ≡ Refused v → Prints most_shown (refusal_of v) out b.bytes out' → handed_in b ≡ nothing_handed → BeginsCircuit xs t gs₀ out b gs out'
+  pub circuit-unread : (v : Refusal) → r ≡ Err v → Prints most_shown (refusal_of (Err v)) out b.bytes out' → handed_in b ≡ nothing_handed → BeginsCircuit xs t gs₀ out b gs out'
   unfolding front_drawing
   circuit-unread v d p h =
       let said = circuit-unread-says t most_gate_lines v (sym reading-is ∙ d) in
@@ -130,14 +127,14 @@ unfolding front_texts
 front-texts-is s t = refl
 
 -- its reader was lent cs₀, and left cs
-module _ (s t cs₀ cs gs₀ gs out out' : List ℕ) (lent : length cs₀ ≡ most_coupler_lines) (r : Reading) (e : r ≡ couplers_reading s (length cs₀)) (f : cs ≡ lent_after (read_verdict r) (couplers_in (parsed_couplers s)) cs₀) (b : BegunCircuit) where
+module _ (s t cs₀ cs gs₀ gs out out' : List ℕ) (lent : length cs₀ ≡ most_coupler_lines) (r : Result Job Refusal) (e : r ≡ couplers_reading s (length cs₀)) (f : cs ≡ lent_after r (couplers_in (parsed_couplers s)) cs₀) (b : BegunCircuit) where
   answer : r ≡ couplers_reading s most_coupler_lines
   answer = e ∙ ap (couplers_reading s) lent
 
-  couplers-are : cs ≡ lent_after (read_verdict (couplers_reading s most_coupler_lines)) (couplers_in (parsed_couplers s)) cs₀
-  couplers-are = f ∙ ap (λ (x : Reading). lent_after (read_verdict x) (couplers_in (parsed_couplers s)) cs₀) answer
+  couplers-are : cs ≡ lent_after (couplers_reading s most_coupler_lines) (couplers_in (parsed_couplers s)) cs₀
+  couplers-are = f ∙ ap (λ (x : Result Job Refusal). lent_after x (couplers_in (parsed_couplers s)) cs₀) answer
 
-  pub texts-begun : (j : Job) → r ≡ answers.Read j → BeginsCircuit (take j.couplers cs) t gs₀ out b gs out' → BeginsTexts s t cs₀ gs₀ out b cs gs out'
+  pub texts-begun : (j : Job) → r ≡ Ok j → BeginsCircuit (take j.couplers cs) t gs₀ out b gs out' → BeginsTexts s t cs₀ gs₀ out b cs gs out'
   texts-begun j d c =
       let said = listed-says s most_coupler_lines j (sym answer ∙ d) in
       let l : take j.couplers cs ≡ couplers_in (parsed_couplers s) = ap (λ (i : ℕ). take i cs) (listed-count s j (sym answer ∙ d)) ∙ couplers-front s j cs₀ cs (sym answer ∙ d) couplers-are in
@@ -148,7 +145,7 @@ module _ (s t cs₀ cs gs₀ gs out out' : List ℕ) (lent : length cs₀ ≡ mo
         gates_read = c.gates_read ∙ sym (ap (λ (y : Bool). pick y (gates_after t gs₀) gs₀) (eq-eqb (number_of (judged_couplers_text s most_coupler_lines)) 0 said.0));
       }
 
-  pub texts-unbegun : (v : Verdict) → r ≡ answers.Refused v → gs ≡ gs₀ → Prints most_shown (refusal_of v) out b.bytes out' → handed_in b ≡ nothing_handed → BeginsTexts s t cs₀ gs₀ out b cs gs out'
+  pub texts-unbegun : (v : Refusal) → r ≡ Err v → gs ≡ gs₀ → Prints most_shown (refusal_of (Err v)) out b.bytes out' → handed_in b ≡ nothing_handed → BeginsTexts s t cs₀ gs₀ out b cs gs out'
   texts-unbegun v d g p h =
       let said = unlisted-says s most_coupler_lines v (sym answer ∙ d) in
       record {
@@ -157,7 +154,3 @@ module _ (s t cs₀ cs gs₀ gs out out' : List ℕ) (lent : length cs₀ ≡ mo
         couplers_read = couplers-are;
         gates_read = g ∙ sym (ap (λ (y : Bool). pick y (gates_after t gs₀) gs₀) (ne_eqb (number_of (judged_couplers_text s most_coupler_lines)) 0 said.0));
       }
-
-pub texts-same : {s u t w cs gs out cs' gs' out' : List ℕ} {r : BegunCircuit} → s ≡ u → t ≡ w → BeginsTexts s t cs gs out r cs' gs' out' → BeginsTexts u w cs gs out r cs' gs' out'
-texts-same {u = u} {t = t} {cs = cs} {gs = gs} {out = out} {cs' = cs'} {gs' = gs'} {out' = out'} {r = r} e d b =
-    subst (λ (x : List ℕ). BeginsTexts u x cs gs out r cs' gs' out') d (subst (λ (x : List ℕ). BeginsTexts x t cs gs out r cs' gs' out') e b)

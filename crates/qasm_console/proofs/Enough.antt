@@ -8,10 +8,10 @@ use native.Mathlib.Omega.{arith}
 use lib.Dec.{leb}
 use lib.ListN.{length, take}
 use borrow.Author.Tests.{leb-true, le-leb, lt-leb}
+use Rattle.std.specs.Prelude.{Ok, Err}
 use Rattle.sets.specs.Pick.{pick}
-use Rattle.verdicts.specs.declared.verdict.Verdict.{Verdict}
-use Rattle.verdicts.specs.declared.verdict.Verdict.TheVariants.{Accepted, Room, LongText}
-use Rattle.verdicts.specs.Verdicts.{number_of}
+use Rattle.verdicts.specs.declared.verdict.Refusal.TheVariants.{Room, LongText}
+use Rattle.verdicts.specs.Verdicts.{Verdict, number_of}
 use Rattle.verdicts.specs.InOrder.{and_then}
 use Rattle.stretches.specs.Tests.{judged_stretches}
 use Rattle.lines.specs.Pattern.{filled}
@@ -40,7 +40,7 @@ module _ (t : List ℕ) where
   within : length t ≤ most_bytes → (p : ParsedCircuit) → parsed_circuit t ≡ p → number_of (judged_found t most_gate_lines p) ≢ 8
   within h (circuit v n gates phase) e z =
       let few : length gates ≤ most_gate_lines = omega (arith, gates-few t h, ap (λ (p : ParsedCircuit). length (circuit_gates p)) e) in
-      let y : ◌≡◌ {A = ℕ} 0 8 = sym (ap (λ (b : Bool). number_of (pick b Accepted Room)) (le-leb (length gates) most_gate_lines few)) ∙ z in
+      let y : ◌≡◌ {A = ℕ} 0 8 = sym (ap (λ (b : Bool). number_of (pick b (Ok tt) (Err Room))) (le-leb (length gates) most_gate_lines few)) ∙ z in
       omega arith
   within h (angle l) e z = let y : ◌≡◌ {A = ℕ} 12 8 = z in omega arith
   within h (statement l) e z = let y : ◌≡◌ {A = ℕ} 13 8 = z in omega arith
@@ -51,7 +51,7 @@ module _ (t : List ℕ) where
   unfolding judged_circuit_text
   drawing-never-8 z = go (leb (length t) most_bytes) refl z
     where
-      go : (b : Bool) → leb (length t) most_bytes ≡ b → number_of (and_then (pick b Accepted LongText) (judged_found t most_gate_lines (parsed_circuit t))) ≢ 8
+      go : (b : Bool) → leb (length t) most_bytes ≡ b → number_of (and_then (pick b (Ok tt) (Err LongText)) (judged_found t most_gate_lines (parsed_circuit t))) ≢ 8
       go true e z = within (leb-true (length t) most_bytes e) (parsed_circuit t) refl z
       go false e z = let y : ◌≡◌ {A = ℕ} 11 8 = z in omega arith
 
@@ -82,20 +82,25 @@ texts-printable s t =
 -- ---- the bytes that are read
 
 -- a text above its limit is refused with 11, whatever it holds
-long-refused : (v : Verdict) (text : List ℕ) → v ≡ LongText → unless v text ≡ refusal_of LongText
+long-refused : (v : Verdict) (text : List ℕ) → v ≡ Err LongText → unless v text ≡ refusal_of (Err LongText)
 long-refused v text e = sym (unless-refused v text (λ z. let y : ◌≡◌ {A = ℕ} 11 0 = sym (ap number_of e) ∙ z in omega arith)) ∙ ap refusal_of e
 
-drawing-long : (couplers t : List ℕ) → most_bytes < length t → laid_drawing couplers t ≡ refusal_of LongText
+drawing-long : (couplers t : List ℕ) → most_bytes < length t → laid_drawing couplers t ≡ refusal_of (Err LongText)
 unfolding laid_drawing judged_circuit_text
 drawing-long couplers t long = long-refused (judged_circuit_text t most_gate_lines) _ (rw (lt-leb (length t) most_bytes long))
 
-listing-long-refused : (s t : List ℕ) → most_bytes < length s → laid_texts s t ≡ refusal_of LongText
+listing-long-refused : (s t : List ℕ) → most_bytes < length s → laid_texts s t ≡ refusal_of (Err LongText)
 unfolding laid_texts judged_couplers_text
 listing-long-refused s t long = long-refused (judged_couplers_text s most_coupler_lines) _ (rw (lt-leb (length s) most_bytes long))
 
 -- one byte more than a text may have is enough, of each of them: what lies behind it changes nothing
 pub drawing-enough : (couplers t : List ℕ) → laid_drawing couplers (take (most_bytes + 1) t) ≡ laid_drawing couplers t
 drawing-enough couplers t = either-length t (laid_drawing couplers) (drawing-long couplers)
+
+-- of the circuit's text alone
+pub circuit-enough : (s t : List ℕ) → laid_texts s (take (most_bytes + 1) t) ≡ laid_texts s t
+unfolding laid_texts
+circuit-enough s t = ap (unless (judged_couplers_text s most_coupler_lines)) (drawing-enough (couplers_in (parsed_couplers s)) t)
 
 pub texts-enough : (s t : List ℕ) → laid_texts (take (most_bytes + 1) s) (take (most_bytes + 1) t) ≡ laid_texts s t
 unfolding laid_texts

@@ -8,8 +8,9 @@ use native.Mathlib.Decide.{ℕ_discrete, dec_lt}
 use lib.Dec.{eqb}
 use lib.ListN.{length, take}
 use borrow.Author.Tests.{eq-eqb}
+use Rattle.std.specs.Prelude.{Result, Ok, Err}
+use Rattle.verdicts.specs.declared.verdict.Refusal.{Refusal}
 use Rattle.sets.specs.Pick.{pick}
-use Rattle.verdicts.specs.declared.verdict.Verdict.{Verdict}
 use Rattle.verdicts.specs.Verdicts.{number_of}
 use Rattle.gates.specs.Layout.{gates_of}
 use Rattle.circuit.specs.Phase.{phase_of, phases}
@@ -29,8 +30,6 @@ use Rattle.stretches.proofs.Passing.{job-passed}
 use Rattle.stretches.proofs.Records.{stretch-share}
 use Rattle.reading.specs.Readings.{couplers_in}
 use Rattle.reading.specs.Listing.{parsed_couplers, judged_couplers_text, couplers_reading}
-use Rattle.reading.specs.declared.read.Reading.{Reading}
-use Rattle.reading.specs.declared.read.Reading.TheVariants as answers
 use Rattle.reading.proofs.Said.{listed-says, unlisted-says}
 use Rattle.gates.specs.declared.job.Job.{Job}
 use Rattle.versions.specs.declared.Version.{Version}
@@ -38,18 +37,17 @@ use Rattle.qasm_lines.specs.Spelling.{head_text, gates_text, phase_pattern, phas
 use Rattle.lines.specs.Pattern.{filled}
 use Rattle.qasm_lines.proofs.Placed.{gates-append}
 use Rattle.qasm_reading.specs.declared.read.Circuit.{Circuit}
-use Rattle.qasm_reading.specs.declared.read.CircuitReading.{CircuitReading}
-use Rattle.qasm_reading.specs.declared.read.CircuitReading.TheVariants.{Read, Refused}
 use Rattle.qasm_reading.specs.Parsing.{parsed_circuit}
 use Rattle.qasm_reading.specs.Readings.{circuit_gates, circuit_in, judged_circuit_text, circuit_reading}
 use Rattle.qasm_reading.proofs.Said.{circuit-read-says, circuit-unread-says}
 use Rattle.console.specs.Printed.{most_coupler_lines, most_gate_lines, unless}
-use Rattle.console.specs.Parts.{next_part, share_part, parts_from}
+use Rattle.console.specs.Parts.{next_part, share_part, parts_from, phase_from}
 use Rattle.console.proofs.Choosing.{unless-passed, unless-refused}
-use Rattle.console.proofs.Partly.{past_next, past-share, part-next, part-share, parts-past, parts_are}
+use Rattle.console.proofs.Going.{phase-past}
+use Rattle.console.proofs.Partly.{part-next, part-share, parts-past, parts_are}
 use Rattle.qasm_console.specs.declared.printing.BegunCircuit.{BegunCircuit}
 use Rattle.qasm_console.specs.Printed.{whole_phase, laid_circuit, laid_drawing, laid_texts}
-use Rattle.qasm_console.specs.Parts.{front_circuit, front_drawing, front_texts, Handed, nothing_handed, handed_circuit, handed_drawing, handed_in, gates_after, BeginsCircuit, BeginsTexts, phase_from, behind_text}
+use Rattle.qasm_console.specs.Parts.{front_circuit, front_drawing, front_texts, Handed, nothing_handed, handed_circuit, handed_drawing, handed_in, gates_after, BeginsCircuit, BeginsTexts, behind_text}
 use Rattle.qasm_console.proofs.Reading.{gates-front, couplers-front}
 use Rattle.qasm_console.proofs.Beginning.{front-texts-is, handed-passed, handed-refused, drawn-read, drawn-unread, texts-read, texts-unread}
 
@@ -65,13 +63,6 @@ unfolding gates_text
 none v = refl
 
 module _ (n : ℕ) (xs ys : List ℕ) where
-  -- above the number of gates nothing more is added to the common phase
-  pub phase-past : (f k g : ℕ) → length ys < k → phases (phase_from n xs ys f k g) 0 ≡ phases g 0
-  unfolding phase_from
-  phase-past zero k g l = refl
-  phase-past (suc f) k g l =
-      ap₂ (λ (i j : ℕ). phases (phase_from n xs ys f i (phases g j)) 0) (sym (past_next n xs ys k l)) (sym (past-share n xs ys k l)) ∙ phase-past f k (phases g 0) l ∙ phases-again g 0
-
   -- the shares of all stretches from k on
   phase-are : (f k g : ℕ) → length ys + 1 ≤ f + k → All (Accepts n xs) (rest_from n ys k) → phases (phase_from n xs ys f k g) 0 ≡ phases g (phases_of n (rest_from n ys k))
   unfolding phase_from phases_of
@@ -80,7 +71,7 @@ module _ (n : ℕ) (xs ys : List ℕ) where
     where
       go : ((i e : ℕ) → length ys + 1 ≤ f + i → All (Accepts n xs) (rest_from n ys i) → phases (phase_from n xs ys f i e) 0 ≡ phases e (phases_of n (rest_from n ys i))) → Dec (length ys < k)
           → phases (phase_from n xs ys f (next_part n ys k) (phases g (share_part n xs ys k))) 0 ≡ phases g (phases_of n (rest_from n ys k))
-      go rest (yes l) = phase-past (suc f) k g l ∙ sym (ap (λ (ss : List (List ℕ)). phases g (phases_of n ss)) (rest-past n ys k l))
+      go rest (yes l) = phase-past n xs ys (suc f) k g l ∙ sym (ap (λ (ss : List (List ℕ)). phases g (phases_of n ss)) (rest-past n ys k l))
       go rest (no m) =
           let l : k ≤ length ys = omega (arith, m) in
           let s : List ℕ = stretch_at n ys k in
@@ -138,14 +129,14 @@ module _ (xs t gates gates' cs : List ℕ) (h : Handed) (he : h ≡ handed_drawi
   abbrev rest : List ℕ
   rest = behind_text h cs (take h.job.gates gates')
 
-  refused-parts : (v : Verdict) → circuit_reading t most_gate_lines ≡ Refused v → laid_drawing xs t ≡ front_drawing xs t ++ rest
+  refused-parts : (v : Refusal) → circuit_reading t most_gate_lines ≡ Err v → laid_drawing xs t ≡ front_drawing xs t ++ rest
   unfolding laid_drawing front_drawing
   refused-parts v e =
       let ne = (circuit-unread-says t most_gate_lines v e).0 in
       sym (unless-refused (judged_circuit_text t most_gate_lines) _ ne) ∙ unless-refused (judged_circuit_text t most_gate_lines) _ ne
       ∙ sym (append-nil (front_drawing xs t)) ∙ ap (λ (x : List ℕ). front_drawing xs t ++ x) (sym (none-behind h cs gates' (he ∙ drawn-unread xs t ne)))
 
-  read-parts : (c : Circuit) → circuit_reading t most_gate_lines ≡ Read c → laid_drawing xs t ≡ front_drawing xs t ++ rest
+  read-parts : (c : Circuit) → circuit_reading t most_gate_lines ≡ Ok c → laid_drawing xs t ≡ front_drawing xs t ++ rest
   unfolding laid_drawing front_drawing handed_circuit
   read-parts c e =
       let z = (circuit-read-says t most_gate_lines c e).0 in
@@ -159,9 +150,9 @@ module _ (xs t gates gates' cs : List ℕ) (h : Handed) (he : h ≡ handed_drawi
   drawing-parts : laid_drawing xs t ≡ front_drawing xs t ++ rest
   drawing-parts = go (circuit_reading t most_gate_lines) refl
     where
-      go : (w : CircuitReading) → circuit_reading t most_gate_lines ≡ w → laid_drawing xs t ≡ front_drawing xs t ++ rest
-      go (Read c) e = read-parts c e
-      go (Refused v) e = refused-parts v e
+      go : (w : Result Circuit Refusal) → circuit_reading t most_gate_lines ≡ w → laid_drawing xs t ≡ front_drawing xs t ++ rest
+      go (Ok c) e = read-parts c e
+      go (Err v) e = refused-parts v e
 
 -- as beginning leaves it: the front, the parts that are gone on with until the place is above the number of gates, and the common phase are together the whole text
 pub drawing-in-parts : {xs t gates out gates' out' : List ℕ} {r : BegunCircuit} → BeginsCircuit xs t gates out r gates' out'
@@ -174,14 +165,14 @@ module _ {s t couplers gates out couplers' gates' out' : List ℕ} {r : BegunCir
   abbrev going : List ℕ
   going = behind_text (handed_in r) (take r.job.couplers couplers') (take r.job.gates gates')
 
-  unlisted-parts : (v : Verdict) → couplers_reading s most_coupler_lines ≡ answers.Refused v → laid_texts s t ≡ front_texts s t ++ going
+  unlisted-parts : (v : Refusal) → couplers_reading s most_coupler_lines ≡ Err v → laid_texts s t ≡ front_texts s t ++ going
   unfolding laid_texts
   unlisted-parts v e =
       let ne = (unlisted-says s most_coupler_lines v e).0 in
       sym (unless-refused (judged_couplers_text s most_coupler_lines) _ ne) ∙ unless-refused (judged_couplers_text s most_coupler_lines) _ ne ∙ sym (front-texts-is s t)
       ∙ sym (append-nil (front_texts s t)) ∙ ap (λ (x : List ℕ). front_texts s t ++ x) (sym (none-behind (handed_in r) (take r.job.couplers couplers') gates' (b.handed ∙ texts-unread s t ne)))
 
-  listed-parts : (i : Job) → couplers_reading s most_coupler_lines ≡ answers.Read i → laid_texts s t ≡ front_texts s t ++ going
+  listed-parts : (i : Job) → couplers_reading s most_coupler_lines ≡ Ok i → laid_texts s t ≡ front_texts s t ++ going
   unfolding laid_texts handed_circuit
   listed-parts i e =
       let z = (listed-says s most_coupler_lines i e).0 in
@@ -197,6 +188,6 @@ module _ {s t couplers gates out couplers' gates' out' : List ℕ} {r : BegunCir
   pub in_parts : laid_texts s t ≡ front_texts s t ++ behind_text (handed_in r) (take r.job.couplers couplers') (take r.job.gates gates')
   in_parts = go (couplers_reading s most_coupler_lines) refl
     where
-      go : (w : Reading) → couplers_reading s most_coupler_lines ≡ w → laid_texts s t ≡ front_texts s t ++ going
-      go (answers.Read i) e = listed-parts i e
-      go (answers.Refused v) e = unlisted-parts v e
+      go : (w : Result Job Refusal) → couplers_reading s most_coupler_lines ≡ w → laid_texts s t ≡ front_texts s t ++ going
+      go (Ok i) e = listed-parts i e
+      go (Err v) e = unlisted-parts v e

@@ -1,6 +1,6 @@
 pub mod Sizes
-pub mod Whole
 pub mod Partly
+pub mod Whole
 pub mod Reading
 pub mod Beginning
 pub mod Lending

@@ -4,11 +4,11 @@ use mathlib.Core.List.{List}
 use Prim.Native.Nat.{ℕ}
 use native.Mathlib.Omega.{arith}
 use lib.ListN.{length}
+use Rattle.lines.specs.Lent.{Fitted}
 use Rattle.verdicts.specs.Verdicts.{number_of}
 use Rattle.tallies.specs.Tally.{bound_of}
 use Rattle.stretches.specs.Tests.{judged_stretches}
 use Rattle.stretches.proofs.Passing.{job-passed}
-use Rattle.lines.proofs.Writes.{Fitted}
 use Rattle.versions.specs.declared.Version.{Version}
 use Rattle.qasm_lines.specs.Spelling.{head_text, phase_text}
 use Rattle.qasm_lines.proofs.Sizes.{head-most, phase-most}

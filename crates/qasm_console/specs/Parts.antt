@@ -1,19 +1,18 @@
 -- The front of what the program prints, its parts, one for each stretch, and last its common phase. proofs/InParts.antt shows that together they are the whole.
-use Rattle.std.specs.Prelude.{◌≡◌, List, ◌++◌, ℕ, zero, suc, ◌+◌, eqb, length}
+use Rattle.std.specs.Prelude.{◌≡◌, List, ◌++◌, ℕ, ◌+◌, eqb, length}
 use Rattle.sets.specs.Pick.{pick}
 use Rattle.gates.specs.declared.job.Job.{Job}
 use Rattle.verdicts.specs.Verdicts.{number_of}
-use Rattle.circuit.specs.Phase.{phases}
 use Rattle.stretches.specs.Tests.{judged_stretches}
-use Rattle.reading.specs.Readings.{couplers_in, lent_after, read_verdict}
+use Rattle.reading.specs.Readings.{couplers_in, lent_after}
 use Rattle.reading.specs.Listing.{parsed_couplers, judged_couplers_text, couplers_reading}
 use Rattle.versions.specs.declared.Version.{Version}
 use Rattle.qasm_lines.specs.Spelling.{head_text, gates_text, phase_text}
 use Rattle.qasm_reading.specs.declared.read.Circuit.{Circuit}
 use Rattle.qasm_reading.specs.Parsing.{parsed_circuit}
-use Rattle.qasm_reading.specs.Readings.{no_circuit, circuit_gates, circuit_in, judged_circuit_text, circuit_reading, circuit_verdict}
+use Rattle.qasm_reading.specs.Readings.{no_circuit, circuit_gates, circuit_in, judged_circuit_text, circuit_reading}
 use Rattle.console.specs.Printed.{most_coupler_lines, most_gate_lines, Prints, unless}
-use Rattle.console.specs.Parts.{first_part, next_part, share_part, parts_from}
+use Rattle.console.specs.Parts.{first_part, parts_from, phase_from}
 use Rattle.qasm_console.specs.declared.printing.BegunCircuit.{BegunCircuit}
 use Rattle.qasm_console.specs.Printed.{most_shown, drawing_for, texts_for}
 
@@ -61,7 +60,7 @@ handed_in r = record { version = r.version; job = r.job; from = r.from; phase = 
 
 -- the list that is lent for the gates, which the circuit's text t alone changes
 abbrev pub gates_after : List ℕ → List ℕ → List ℕ
-gates_after t gates = lent_after (circuit_verdict (circuit_reading t most_gate_lines)) (circuit_gates (parsed_circuit t)) gates
+gates_after t gates = lent_after (circuit_reading t most_gate_lines) (circuit_gates (parsed_circuit t)) gates
 
 -- what beginning a circuit leaves: the front in `out`, and its gates at the front of their list
 pub record BeginsCircuit (couplers t gates out : List ℕ) (r : BegunCircuit) (gates' out' : List ℕ) : Type 0 where
@@ -73,14 +72,8 @@ pub record BeginsCircuit (couplers t gates out : List ℕ) (r : BegunCircuit) (g
 pub record BeginsTexts (s t couplers gates out : List ℕ) (r : BegunCircuit) (couplers' gates' out' : List ℕ) : Type 0 where
   pub prints : Prints most_shown (front_texts s t) out r.bytes out'
   pub handed : handed_in r ≡ handed_texts s t
-  pub couplers_read : couplers' ≡ lent_after (read_verdict (couplers_reading s most_coupler_lines)) (couplers_in (parsed_couplers s)) couplers
+  pub couplers_read : couplers' ≡ lent_after (couplers_reading s most_coupler_lines) (couplers_in (parsed_couplers s)) couplers
   pub gates_read : gates' ≡ pick (eqb (number_of (judged_couplers_text s most_coupler_lines)) 0) (gates_after t gates) gates
-
--- ---- the shares of the common phase of f parts, the first of which begins at k, added to g one by one
-
-unfoldable pub phase_from : ℕ → List ℕ → List ℕ → ℕ → ℕ → ℕ → ℕ
-phase_from n couplers gates zero k g = g
-phase_from n couplers gates (suc f) k g = phase_from n couplers gates f (next_part n gates k) (phases g (share_part n couplers gates k))
 
 -- what comes behind the front of what is handed on: the parts, and last the whole common phase
 unfoldable pub behind_text : Handed → List ℕ → List ℕ → List ℕ

@@ -1,108 +1,51 @@
 -- The line of each kind of gate, the head and the line of a common phase, spelt out. Assumes nothing.
-use mathlib.Core.Path.{◌≡◌, refl, ap, ◌∙◌}
-use mathlib.Core.Bool.{Bool, true, false}
+use mathlib.Core.Path.{◌≡◌, refl, ap}
 use mathlib.Core.List.{List, [], ◌∷◌, ◌++◌}
-use Prim.Native.Nat.{ℕ, ◌/◌, ◌%◌, ◌≤◌}
+use Prim.Native.Nat.{ℕ, zero, suc, ◌%◌}
 use native.Mathlib.Omega.{arith}
-use lib.Dec.{eqb}
-use lib.ListN.{length, take}
 use borrow.Author.Tests.{eq-eqb, ne_eqb}
-use Rattle.sets.specs.Pick.{pick}
 use Rattle.gates.specs.Layout.{kind_in, a_in, b_in}
+use Rattle.lines.specs.Kinds.{number_of, kind_of}
+use Rattle.lines.specs.declared.kind.Kind.TheVariants.{Rotation}
 use Rattle.lines.specs.Lines.{digits}
 use Rattle.lines.specs.Pattern.{filled}
-use Rattle.lines.proofs.Layouts.{kind-is, a-is, b-is}
 use Rattle.versions.specs.declared.Version.{Version}
 use Rattle.versions.specs.declared.Version.TheVariants.{Two, Three}
-use Rattle.qasm_lines.specs.Spelling.{cx_pattern, turn_pattern, x_pattern, h_pattern, pattern, numbers_in, gate_text, head_pattern, head_text, phase_pattern, phase_text}
+use Rattle.qasm_lines.specs.Spelling.{pattern, numbers_in, gate_text, head_text, phase_text}
 
--- ---- the pattern of a kind
+-- no line where the phase is 0
+pub phase-text-none : (v : Version) (g : ℕ) → g % 131072 ≡ 0 → phase_text v g ≡ []
+unfolding phase_text
+phase-text-none v g e = rw (eq-eqb (g % 131072) 0 e)
 
-module _ (v : Version) (kind : ℕ) where
-  pub pattern-cx : kind ≡ 1 → pattern v kind ≡ cx_pattern
-  unfolding pattern
-  pattern-cx e = rw e
+-- ---- the kind, as the code finds it
 
-  pub pattern-turn : kind ≡ 2 → pattern v kind ≡ turn_pattern v
-  unfolding pattern
-  pattern-turn e = rw e
-
-  pub pattern-x : kind ≡ 3 → pattern v kind ≡ x_pattern
-  unfolding pattern
-  pattern-x e = rw e
-
-  -- any other kind is a Hadamard's: 4, in a list that passes the tests
-  pub pattern-h : (kind ≡ 1 → ⊥) → (kind ≡ 2 → ⊥) → (kind ≡ 3 → ⊥) → pattern v kind ≡ h_pattern
-  unfolding pattern
-  pattern-h a b c = rw (ne_eqb kind 1 a, ne_eqb kind 2 b, ne_eqb kind 3 c)
-
-  pub pattern-short : (kind ≡ 1 → ⊥) → (kind ≡ 2 → ⊥) → 8 ≡ length (pattern v kind)
-  unfolding pattern
-  pattern-short a b = rw (ne_eqb kind 1 a, ne_eqb kind 2 b) (go (eqb kind 3))
-    where
-      go : (t : Bool) → 8 ≡ length (pick t x_pattern h_pattern)
-      go true = refl
-      go false = refl
-
--- ---- how long a pattern is
-
-turn-most : (v : Version) → length (turn_pattern v) ≤ 21
-turn-most Two = omega arith
-turn-most Three = omega arith
-
-pub pattern-most : (v : Version) (kind : ℕ) → length (pattern v kind) ≤ 21
+pub pattern_kind : (v : Version) (k : ℕ) → pattern v (number_of (kind_of k)) ≡ pattern v k
 unfolding pattern
-pattern-most v kind = go (eqb kind 1) (eqb kind 2) (eqb kind 3)
-  where
-    go : (t u w : Bool) → length (pick t cx_pattern (pick u (turn_pattern v) (pick w x_pattern h_pattern))) ≤ 21
-    go true u w = omega arith
-    go false true w = turn-most v
-    go false false true = omega arith
-    go false false false = omega arith
+pattern_kind v zero = refl
+pattern_kind v (suc zero) = refl
+pattern_kind v (suc (suc zero)) = refl
+pattern_kind v (suc (suc (suc zero))) = refl
+pattern_kind v (suc (suc (suc (suc k)))) =
+    let n = suc (suc (suc (suc k))) in
+    rw (ne_eqb n 1 (λ e. omega (arith, e)), ne_eqb n 2 (λ e. omega (arith, e)), ne_eqb n 3 (λ e. omega (arith, e)))
 
-pub head-pattern-most : (v : Version) → length (head_pattern v) ≤ 50
-head-pattern-most Two = omega arith
-head-pattern-most Three = omega arith
+rotation_kind : (k : ℕ) → kind_of k ≡ Rotation → k ≡ 2
+rotation_kind zero e = cc
+rotation_kind (suc zero) e = cc
+rotation_kind (suc (suc zero)) e = refl
+rotation_kind (suc (suc (suc zero))) e = cc
+rotation_kind (suc (suc (suc (suc k)))) e = cc
 
-pub phase-pattern-most : (v : Version) → length (phase_pattern v) ≤ 27
-phase-pattern-most Two = omega arith
-phase-pattern-most Three = omega arith
-
--- ---- from the pattern and its length, which the code has one by one
-
-module _ (line p : List ℕ) {k : ℕ} (e : take (length p) line ≡ p) (f : k ≡ length p) where
-  filled-front : (ns : List ℕ) → filled (take k line) ns ≡ filled p ns
-  filled-front ns = rw f (ap (λ q. filled q ns) e)
-
--- ---- from the numbers that the code takes out of a record
-
+-- the units stand first in a rotation's line
 module _ (x : ℕ) where
-  pub numbers-turn : x / 16777216 ≡ 2 → x % 65536 ∷ x / 65536 % 256 ∷ [] ≡ numbers_in x
+  pub numbers_turn : kind_of (kind_in x) ≡ Rotation → numbers_in x ≡ b_in x ∷ a_in x ∷ []
   unfolding numbers_in
-  numbers-turn e = rw (← kind-is x, e, a-is x, b-is x)
+  numbers_turn e = rw (rotation_kind (kind_in x) e)
 
-  pub numbers-other : (x / 16777216 ≡ 2 → ⊥) → x / 65536 % 256 ∷ x % 65536 ∷ [] ≡ numbers_in x
+  pub numbers_other : (kind_of (kind_in x) ≡ Rotation → ⊥) → numbers_in x ≡ a_in x ∷ b_in x ∷ []
   unfolding numbers_in
-  numbers-other e = rw (← kind-is x, ne_eqb (x / 16777216) 2 e, a-is x, b-is x)
-
-module _ (v : Version) where
-  pub gate-line : (x : ℕ) (line : List ℕ) {ns : List ℕ} {k : ℕ} → take (length (pattern v (x / 16777216))) line ≡ pattern v (x / 16777216) → k ≡ length (pattern v (x / 16777216)) → ns ≡ numbers_in x
-      → filled (take k line) ns ≡ gate_text v x
-  unfolding gate_text
-  gate-line x line e f g = rw g (filled-front line (pattern v (x / 16777216)) e f (numbers_in x) ∙ ap (λ kind. filled (pattern v kind) (numbers_in x)) (kind-is x))
-
-  pub head-line : (n : ℕ) (line : List ℕ) {k : ℕ} → take (length (head_pattern v)) line ≡ head_pattern v → k ≡ length (head_pattern v) → filled (take k line) (n ∷ []) ≡ head_text v n
-  unfolding head_text
-  head-line n line e f = filled-front line (head_pattern v) e f (n ∷ [])
-
-  pub phase-line : (g : ℕ) (line : List ℕ) {k : ℕ} → (g % 131072 ≡ 0 → ⊥) → take (length (phase_pattern v)) line ≡ phase_pattern v → k ≡ length (phase_pattern v)
-      → filled (take k line) (g % 131072 ∷ []) ≡ phase_text v g
-  unfolding phase_text
-  phase-line g line h e f = rw (ne_eqb (g % 131072) 0 h) (filled-front line (phase_pattern v) e f (g % 131072 ∷ []))
-
-  pub phase-text-none : (g : ℕ) → g % 131072 ≡ 0 → phase_text v g ≡ []
-  unfolding phase_text
-  phase-text-none g e = rw (eq-eqb (g % 131072) 0 e)
+  numbers_other h = rw (ne_eqb (kind_in x) 2 (λ e. h (ap kind_of e)))
 
 -- ---- each spelt out
 

@@ -1,9 +1,9 @@
 -- Where the first statement that cannot continue a circuit stands, there the reader stops. Assumes nothing.
+use Rattle.std.specs.Prelude.{Option, None, Some}
 use mathlib.Core.Path.{◌≡◌, refl, sym, ap, ap₂, ◌∙◌}
 use mathlib.Core.Logic.{◌⊎◌, inl, inr}
 use mathlib.Core.Bool.{Bool, true, false}
 use mathlib.Core.List.{List, [], ◌∷◌, ◌++◌, append-nil}
-use mathlib.Core.Option.{Option, none, some}
 use Prim.Native.Nat.{ℕ, ◌≤◌}
 use native.Mathlib.Omega.{arith}
 use lib.ListN.{length, length-append}
@@ -27,9 +27,9 @@ spelt-before : (ws t : List Word) {bs : List (List ℕ)} (front : List Word) →
 spelt-before ws t front e s = ap (λ l. bodies l) e ∙ bodies-append front t ∙ ap (λ l. l ++ bodies t) s
 
 -- what is read as an option is none where it leads to nothing
-none_of : (o : Option (List Word)) → ((t : List Word) → o ≡ some t → ⊥) → o ≡ none
-none_of none h = refl
-none_of (some t) h = absurd (h t refl)
+none_of : {A : Type 0} (o : Option A) → ((t : A) → o ≡ Some t → ⊥) → o ≡ None
+none_of None h = refl
+none_of (Some t) h = absurd (h t refl)
 
 -- ---- before the register
 
@@ -40,23 +40,23 @@ Stuck bs ws = (st rest : List (List ℕ)) → NextStatement bs st → bodies ws 
 early-parsed : (front ws : List Word) → Early (bodies front) → Stuck (bodies front) ws → parsed_words (front ++ ws) ≡ head_fault ws
 unfolding included registered
 early-parsed front ws (version_line v e) stuck =
-    let o = none_of (read_include v (some ws)) (λ t q. let r = include-read v ws t q in stuck (include_words v) (bodies t) (second v e refl) (spelt-before ws t r.words r.same r.spelt)) in
+    let o = none_of (read_include v (Some ws)) (λ t q. let r = include-read v ws t q in stuck (include_words v) (bodies t) (second v e refl) (spelt-before ws t r.words r.same r.spelt)) in
     after-version v front ws e ∙ ap (λ o. included v o ws) o
 early-parsed front ws (both_lines v e) stuck =
-    let o = none_of (read_register v (some ws)).rest (λ t q.
-    let d = register-read v ws t q in
-    stuck (register_words v (read_name v (some ws)) (read_register v (some ws)).value) (bodies t) (third v (read_name v (some ws)) (read_register v (some ws)).value e d.named d.few refl)
-    (spelt-before ws t d.stood.words d.stood.same d.stood.spelt)) in
-    after-include v front ws e ∙ ap (λ o. registered v (read_name v (some ws)) (read_register v (some ws)).value o ws) o
+    let o = none_of (read_register v (Some ws)) (λ r q.
+    let d = register-read v ws r q in
+    stuck (register_words v (read_name v (Some ws)) r.value) (bodies r.rest) (third v (read_name v (Some ws)) r.value e d.named d.few refl)
+    (spelt-before ws r.rest d.stood.words d.stood.same d.stood.spelt)) in
+    after-include v front ws e ∙ ap (λ o. registered v (read_name v (Some ws)) o ws) o
 
 -- ---- behind it
 
 seen-parsed : (v : Version) (name : List ℕ) (front ws : List Word) (s : Seen v name (bodies front)) → Stuck (bodies front) ws
     → parsed_words (front ++ ws) ≡ end_circuit v name s.qubits (form_records s.forms) (phase_of_forms v s.forms) ws
 seen-parsed v name front ws s stuck =
-    after-seen v name front ws s (none_of (read_gate v name (some ws)).rest (λ t q.
-    let g = gate-read v name ws t q in
-    stuck (form_words name g.form) (bodies t) (gate v name g.form s g.good refl) (spelt-before ws t g.words g.same g.spelt)))
+    after-seen v name front ws s (none_of (read_gate v name (Some ws)) (λ said q.
+    let g = gate-read v name ws said q in
+    stuck (form_words name g.form) (bodies said.rest) (gate v name g.form s g.good refl) (spelt-before ws said.rest g.words g.same g.spelt)))
 
 -- ---- the same of a fault
 
@@ -65,7 +65,7 @@ module _ (s : List ℕ) (f : Fault s) where
   unfolding parsed_circuit
   fault-early e = ap parsed_words f.split ∙ early-parsed f.before (f.word ∷ f.behind) e f.stuck
 
-  pub fault-seen : (v : Version) (name : List ℕ) → Seen v name (bodies f.before) → parsed_circuit s ≡ pick (bad_angle v name (some (f.word ∷ f.behind))) (angle f.word.left) (statement f.word.left)
+  pub fault-seen : (v : Version) (name : List ℕ) → Seen v name (bodies f.before) → parsed_circuit s ≡ pick (bad_angle v name (Some (f.word ∷ f.behind))) (angle f.word.left) (statement f.word.left)
   unfolding parsed_circuit end_circuit
   fault-seen v name n = ap parsed_words f.split ∙ seen-parsed v name f.before (f.word ∷ f.behind) n f.stuck
 
@@ -95,8 +95,8 @@ pub unversioned-parsed : (s : List ℕ) → WithoutVersion s → parsed_circuit 
 unfolding parsed_circuit parsed_words versioned
 unversioned-parsed s un = ap₂ versioned (missing Two) (missing Three)
   where
-    missing : (v : Version) → read_version v (some (words s)) ≡ none
-    missing v = none_of (read_version v (some (words s))) (λ t q. let r = version-read v (words s) t q in un v (bodies t) (spelt-before (words s) t r.words r.same r.spelt))
+    missing : (v : Version) → read_version v (Some (words s)) ≡ None
+    missing v = none_of (read_version v (Some (words s))) (λ t q. let r = version-read v (words s) t q in un v (bodies t) (spelt-before (words s) t r.words r.same r.spelt))
 
 pub angle-parsed : (s : List ℕ) (k : ℕ) (w : WrongAngle s k) → (parsed_circuit s ≡ angle w.fault.word.left) × (k ≡ line_at s w.fault.word.left)
 angle-parsed s k w =
@@ -108,9 +108,9 @@ abbrev pub Other : List ℕ → ℕ → Type 0
 Other s k = ((l : ℕ) × (parsed_circuit s ≡ statement l) × (k ≡ line_at s l)) ⊎ ((parsed_circuit s ≡ early) × (k ≡ 0))
 
 seen_other : (s : List ℕ) (k : ℕ) (f : Fault s) → SeenAny (bodies f.before) → ((j : ℕ) → WrongAngle s j → ⊥) → k ≡ fault_line s f → Other s k
-seen_other s k f (v, name, n) other place = go (bad_angle v name (some (f.word ∷ f.behind))) refl (fault-seen s f v name n)
+seen_other s k f (v, name, n) other place = go (bad_angle v name (Some (f.word ∷ f.behind))) refl (fault-seen s f v name n)
   where
-    go : (t : Bool) → bad_angle v name (some (f.word ∷ f.behind)) ≡ t → parsed_circuit s ≡ pick t (angle f.word.left) (statement f.word.left) → Other s k
+    go : (t : Bool) → bad_angle v name (Some (f.word ∷ f.behind)) ≡ t → parsed_circuit s ≡ pick t (angle f.word.left) (statement f.word.left) → Other s k
     go true e p = absurd (other (fault_line s f) (record { fault = f; version = v; name = name; seen = n; only = bad-back v name (f.word ∷ f.behind) e; place = refl }))
     go false e p = inl (f.word.left, p, place)
 

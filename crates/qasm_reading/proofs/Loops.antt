@@ -1,8 +1,8 @@
 -- Loops over statements, whose gates are counted and filled in, and whose phases are put together. Assumes nothing.
+use Rattle.std.specs.Prelude.{Option, None, Some, is_some, option_to_list}
 use mathlib.Core.Path.{◌≡◌, refl, sym, ap, ◌∙◌}
 use mathlib.Core.Bool.{Bool, true, false}
 use mathlib.Core.List.{List, [], ◌∷◌, ◌++◌, append_assoc, append-nil}
-use mathlib.Core.Option.{none, some}
 use Prim.Native.Nat.{ℕ, suc, ◌+◌, ◌≤◌, ◌<◌}
 use native.Mathlib.Numerals.{add-one}
 use native.Mathlib.Omega.{arith}
@@ -17,7 +17,7 @@ use Rattle.words.proofs.Steps.{gap_is, note-is, run_is}
 use Rattle.circuit.specs.Phase.{phases}
 use Rattle.circuit.proofs.Phases.{phases-none, phases-over}
 use Rattle.versions.specs.declared.Version.{Version}
-use Rattle.statements.specs.Statements.{read_gate}
+use Rattle.statements.specs.Statements.{Said, read_gate}
 use Rattle.statements.specs.Forms.{Form, cnot, turn, xgate, hadamard, common, form_record}
 use Rattle.qasm_reading.specs.Parsing.{statement_run}
 use Rattle.qasm_reading.proofs.Runs.{gate-read, gate-short, statement-run-none, statement-run-some, run_small}
@@ -80,37 +80,37 @@ module _ (v : Version) (name : List ℕ) (from : List Word) where
   count-start = record { sum = omega arith; phase = phases-none (statement_run v name from).phase (run_small v name from); same = refl; room = omega arith; small = omega arith }
 
   module _ (n g : ℕ) (l : List Word) (c : CountingGates n g l) where
-    pub count_room : (t : List Word) → (read_gate v name (some l)).rest ≡ some t → n + length (read_gate v name (some l)).records + length t ≤ length from
-    count_room t e =
-        let q = gate-read v name l t e in
-        omega (arith, gate-short v name l t e, record-few q.form, ap length q.value, c.room)
+    pub count_room : (q : Said) → read_gate v name (Some l) ≡ Some q → n + length q.records + length q.rest ≤ length from
+    count_room q e =
+        let r = gate-read v name l q e in
+        omega (arith, gate-short v name l q e, record-few r.form, ap length r.value, c.room)
 
-    pub count-step : (t : List Word) → (read_gate v name (some l)).rest ≡ some t → {m h : ℕ} → m ≡ n + length (read_gate v name (some l)).records → h ≡ phases g (read_gate v name (some l)).phase → CountingGates m h t
+    pub count-step : (q : Said) → read_gate v name (Some l) ≡ Some q → {m h : ℕ} → m ≡ n + length q.records → h ≡ phases g q.phase → CountingGates m h q.rest
     unfolding phases
-    count-step t e {m} {h} a b =
-        let r = statement-run-some v name l t e in
+    count-step q e {m} {h} a b =
+        let r = statement-run-some v name l q e in
         record {
-          sum = omega (arith, ap (λ x. length x.records) r, length-append (read_gate v name (some l)).records (statement_run v name t).records, c.sum);
-          phase = ap (λ x. phases x (statement_run v name t).phase) b ∙ phases-over g (read_gate v name (some l)).phase (statement_run v name t).phase ∙ ap (phases g) (sym (ap (λ x. x.phase) r)) ∙ c.phase;
+          sum = omega (arith, ap (λ x. length x.records) r, length-append q.records (statement_run v name q.rest).records, c.sum);
+          phase = ap (λ x. phases x (statement_run v name q.rest).phase) b ∙ phases-over g q.phase (statement_run v name q.rest).phase ∙ ap (phases g) (sym (ap (λ x. x.phase) r)) ∙ c.phase;
           same = sym (ap (λ x. x.left) r) ∙ c.same;
-          room = omega (arith, count_room t e, a);
+          room = omega (arith, count_room q e, a);
           small = omega (arith, b);
         }
 
-    pub count-done : (read_gate v name (some l)).rest ≡ none → (n ≡ length (statement_run v name from).records) × (g ≡ (statement_run v name from).phase) × (l ≡ (statement_run v name from).left)
+    pub count-done : read_gate v name (Some l) ≡ None → (n ≡ length (statement_run v name from).records) × (g ≡ (statement_run v name from).phase) × (l ≡ (statement_run v name from).left)
     unfolding phases
     count-done e =
         let r = statement-run-none v name l e in
         (omega (arith, ap (λ x. length x.records) r, c.sum), omega (arith, ap (λ x. x.phase) r, c.phase, c.small), sym (ap (λ x. x.left) r) ∙ c.same)
 
--- the code's flag says whether there is one
-pub flag-few : (gate : Bool) (x : ℕ) {rs : List ℕ} → pick gate (x ∷ []) [] ≡ rs → pick gate 1 0 ≡ length rs
-flag-few true x e = ap length e
-flag-few false x e = ap length e
+-- a statement's records are one or none
+pub one-record : (o : Option ℕ) → is_some o ≡ true → length (option_to_list o) ≡ 1
+one-record None e = let z : ◌≡◌ {A = ℕ} 0 1 = cc e in absurd (omega arith)
+one-record (Some x) e = refl
 
-pub fill-next : (gate : Bool) (n : ℕ) {k : ℕ} → pick gate (n + 1) 0 ≤ k → n ≤ k → n + pick gate 1 0 ≤ k
-fill-next true n h l = h
-fill-next false n h l = omega arith
+pub no-record : (o : Option ℕ) → is_some o ≡ false → length (option_to_list o) ≡ 0
+no-record None e = refl
+no-record (Some x) e = let z : ◌≡◌ {A = ℕ} 0 1 = cc e in absurd (omega arith)
 
 -- n records stand at the front of out, and l is left
 pub record FillingGates (v : Version) (name : List ℕ) (from : List Word) (old out : List ℕ) (n : ℕ) (l : List Word) : Type 0 where
@@ -123,25 +123,26 @@ module _ (v : Version) (name : List ℕ) (from : List Word) (old : List ℕ) whe
   pub fill_start : FillingGates v name from old old 0 from
   fill_start = record { put = refl; kept = refl; size = refl; reach = omega arith }
 
-  module _ (out : List ℕ) (n : ℕ) (l : List Word) (c : FillingGates v name from old out n l) (t : List Word) (e : (read_gate v name (some l)).rest ≡ some t) where
+  module _ (out : List ℕ) (n : ℕ) (l : List Word) (c : FillingGates v name from old out n l) (g : Said) (e : read_gate v name (Some l) ≡ Some g) where
     -- a statement that is no gate
-    fill-over : (read_gate v name (some l)).records ≡ [] → FillingGates v name from old out n t
+    pub fill-over : g.records ≡ [] → FillingGates v name from old out n g.rest
     fill-over q =
-        let r : (statement_run v name l).records ≡ (statement_run v name t).records = ap (λ x. x.records) (statement-run-some v name l t e) ∙ ap (λ y. y ++ (statement_run v name t).records) q in
+        let r : (statement_run v name l).records ≡ (statement_run v name g.rest).records = ap (λ x. x.records) (statement-run-some v name l g e) ∙ ap (λ y. y ++ (statement_run v name g.rest).records) q in
         record { put = ap (λ x. take n out ++ x) (sym r) ∙ c.put; kept = c.kept; size = c.size; reach = c.reach }
 
     -- one that is
-    module _ (x : ℕ) (q : (read_gate v name (some l)).records ≡ x ∷ []) where
-      led : (statement_run v name l).records ≡ x ∷ (statement_run v name t).records
-      led = ap (λ y. y.records) (statement-run-some v name l t e) ∙ ap (λ y. y ++ (statement_run v name t).records) q
+    module _ (x : ℕ) (q : g.records ≡ x ∷ []) where
+      led : (statement_run v name l).records ≡ x ∷ (statement_run v name g.rest).records
+      led = ap (λ y. y.records) (statement-run-some v name l g e) ∙ ap (λ y. y ++ (statement_run v name g.rest).records) q
 
-      one-room : length (statement_run v name from).records ≤ length old → n < length out
-      one-room h =
+      pub fill-room : length (statement_run v name from).records ≤ length old → n < length out
+      fill-room h =
           omega (arith, length-append (take n out) (statement_run v name l).records, length-take-le n out c.reach, ap length c.put, ap length led, c.size)
 
-      one-step : n < length out → FillingGates v name from old (set out n x) (n + 1) t
-      one-step h =
+      pub fill_step : length (statement_run v name from).records ≤ length old → FillingGates v name from old (set out n x) (n + 1) g.rest
+      fill_step h =
           let k : drop 1 (drop n out) ≡ drop 1 (drop n old) = ap (drop 1) c.kept in
+          let i = fill-room h in
           record {
             put = rw (add-one, take-suc-set out n x, append_assoc) (ap (λ y. take n out ++ y) (sym led) ∙ c.put);
             kept = drop-set-lt (n + 1) out n x (omega arith) ∙ sym (drop-drop 1 n out) ∙ k ∙ drop-drop 1 n old;
@@ -149,18 +150,8 @@ module _ (v : Version) (name : List ℕ) (from : List Word) (old : List ℕ) whe
             reach = simp length-set (omega arith);
           }
 
-    -- either, by the flag
-    pub fill-room : (gate : Bool) (x : ℕ) → pick gate (x ∷ []) [] ≡ (read_gate v name (some l)).records → length (statement_run v name from).records ≤ length old → pick gate (n + 1) 0 ≤ length out
-    fill-room true x q h = omega (arith, one-room x (sym q) h)
-    fill-room false x q h = omega arith
-
-    pub fill_step : (gate : Bool) (x : ℕ) → pick gate (x ∷ []) [] ≡ (read_gate v name (some l)).records → length (statement_run v name from).records ≤ length old
-        → {new : List ℕ} {m : ℕ} → new ≡ pick gate (set out n x) out → m ≡ n + pick gate 1 0 → FillingGates v name from old new m t
-    fill_step true x q h d e = rw (d, e) (one-step x (sym q) (one-room x (sym q) h))
-    fill_step false x q h d e = let z : n + 0 ≡ n = omega arith in rw (d, e, z) (fill-over (sym q))
-
   module _ (out : List ℕ) (n : ℕ) (l : List Word) (c : FillingGates v name from old out n l) where
-    pub fill_done : (read_gate v name (some l)).rest ≡ none → out ≡ onto (statement_run v name from).records old
+    pub fill_done : read_gate v name (Some l) ≡ None → out ≡ onto (statement_run v name from).records old
     fill_done e =
         let r : (statement_run v name l).records ≡ [] = ap (λ x. x.records) (statement-run-none v name l e) in
         let p : take n out ≡ (statement_run v name from).records = sym (append-nil (take n out)) ∙ ap (λ x. take n out ++ x) (sym r) ∙ c.put in

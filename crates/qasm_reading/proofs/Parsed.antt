@@ -1,12 +1,11 @@
 -- What the reader finds where it is known what stands before. Assumes nothing.
+use Rattle.std.specs.Prelude.{None, Some}
 use mathlib.Core.Path.{◌≡◌, refl, sym, ap, ap₂, ◌∙◌}
 use mathlib.Core.Bool.{true}
 use mathlib.Core.List.{List, [], ◌∷◌, ◌++◌, append_assoc, append-nil}
-use mathlib.Core.Option.{none, some}
 use Prim.Native.Nat.{ℕ, ◌≤◌}
 use Rattle.sets.specs.Lists.{All}
 use Rattle.words.specs.Words.{Word, words, bodies}
-use Rattle.spots.specs.Numbers.{Got}
 use Rattle.words.specs.Taking.{is_name}
 use Rattle.circuit.specs.Phase.{phases}
 use Rattle.circuit.proofs.Phases.{phases-again}
@@ -16,7 +15,7 @@ use Rattle.statements.specs.Statements.{read_version, read_include, read_name, r
 use Rattle.statements.specs.Forms.{Form, GoodForm, forms_words, version_words, include_words, register_words, head_words, form_records, form_phase, phase_of_forms}
 use Rattle.statements.proofs.Words.{before}
 use Rattle.statements.proofs.Heads.{version-on, version-apart-back, include-on, name-on, register-on}
-use Rattle.qasm_reading.specs.Parsing.{circuit, end_circuit, statement_run, registered, included, versioned, parsed_words, parsed_circuit}
+use Rattle.qasm_reading.specs.Parsing.{circuit, end_circuit, statement_run, behind_register, registered, included, versioned, parsed_words, parsed_circuit}
 use Rattle.qasm_reading.specs.Texts.{CircuitText, Seen}
 use Rattle.qasm_reading.proofs.Runs.{gate-nil, statement-run-none, statement-run-on}
 
@@ -28,13 +27,13 @@ forms-phase-again v (f ∷ fs) = phases-again (form_phase v f) (phase_of_forms v
 
 -- ---- behind the version, and behind the include line
 
-pub after-version : (v : Version) (ws t : List Word) → bodies ws ≡ version_words v → parsed_words (ws ++ t) ≡ included v (read_include v (some t)) t
+pub after-version : (v : Version) (ws t : List Word) → bodies ws ≡ version_words v → parsed_words (ws ++ t) ≡ included v (read_include v (Some t)) t
 unfolding parsed_words versioned
-after-version Two ws t e = ap (λ o. versioned o (read_version Three (some (ws ++ t)))) (version-on ws t Two e)
+after-version Two ws t e = ap (λ o. versioned o (read_version Three (Some (ws ++ t)))) (version-on ws t Two e)
 after-version Three ws t e = let o = version-on ws t Three e in ap₂ versioned (version-apart-back (ws ++ t) t o) o
 
 pub after-include : (v : Version) (ws t : List Word) → bodies ws ≡ version_words v ++ include_words v
-    → parsed_words (ws ++ t) ≡ registered v (read_name v (some t)) (read_register v (some t)).value (read_register v (some t)).rest t
+    → parsed_words (ws ++ t) ≡ registered v (read_name v (Some t)) (read_register v (Some t)) t
 unfolding included
 after-include v ws t e =
     let b = before (version_words v) (include_words v) ws e in
@@ -45,12 +44,12 @@ after-include v ws t e =
 
 after-register : (v : Version) (name : List ℕ) (n : ℕ) (ws t : List Word) → is_name name ≡ true → n ≤ 255 → bodies ws ≡ head_words v name n
     → parsed_words (ws ++ t) ≡ end_circuit v name n (statement_run v name t).records (statement_run v name t).phase (statement_run v name t).left
-unfolding head_words registered
+unfolding head_words registered behind_register
 after-register v name n ws t h k e =
     let b = before (version_words v ++ include_words v) (register_words v name n) ws (e ∙ sym (append_assoc (version_words v) (include_words v) (register_words v name n))) in
     let r = register-on b.back t v name n h k b.back_spelt in
     ap (λ l. parsed_words (l ++ t)) b.same ∙ ap parsed_words (append_assoc b.front b.back t) ∙ after-include v b.front (b.back ++ t) b.front_spelt
-    ∙ ap (λ (g : Got Word). registered v (read_name v (some (b.back ++ t))) g.value g.rest (b.back ++ t)) r
+    ∙ ap (λ g. registered v (read_name v (Some (b.back ++ t))) g (b.back ++ t)) r
     ∙ ap (λ m. end_circuit v m n (statement_run v m t).records (statement_run v m t).phase (statement_run v m t).left) (name-on b.back t v name n h k b.back_spelt)
 
 -- .. and behind gates
@@ -63,7 +62,7 @@ after-gates v name n fs ws t h k g e =
     ∙ rw r
 
 -- where no gate stands behind what was seen, the reader stops there
-pub after-seen : (v : Version) (name : List ℕ) (ws t : List Word) (s : Seen v name (bodies ws)) → (read_gate v name (some t)).rest ≡ none
+pub after-seen : (v : Version) (name : List ℕ) (ws t : List Word) (s : Seen v name (bodies ws)) → read_gate v name (Some t) ≡ None
     → parsed_words (ws ++ t) ≡ end_circuit v name s.qubits (form_records s.forms) (phase_of_forms v s.forms) t
 after-seen v name ws t s e =
     let r = statement-run-none v name t e in

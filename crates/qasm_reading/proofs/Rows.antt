@@ -8,9 +8,9 @@ use native.Mathlib.Omega.{arith}
 use lib.Dec.{leb}
 use lib.ListN.{length}
 use borrow.Author.Tests.{leb-true, leb-false, le-leb, lt-leb}
-use Rattle.verdicts.specs.declared.verdict.Verdict.{Verdict}
-use Rattle.verdicts.specs.declared.verdict.Verdict.TheVariants.{Accepted, Room, LongText, Angle, Statement, Unversioned}
-use Rattle.verdicts.specs.Verdicts.{number_of, place_of}
+use Rattle.std.specs.Prelude.{Ok, Err}
+use Rattle.verdicts.specs.declared.verdict.Refusal.TheVariants.{Room, LongText, Angle, Statement, Unversioned}
+use Rattle.verdicts.specs.Verdicts.{Verdict, number_of, place_of}
 use Rattle.verdicts.specs.Rows.{Nowhere}
 use Rattle.reading.specs.Limits.{most_bytes}
 use Rattle.versions.specs.declared.Version.{Version}
@@ -26,7 +26,7 @@ use Rattle.qasm_reading.proofs.Found.{FoundText, found}
 -- ---- from what a text is to the answer
 
 module _ (s : List ℕ) (room : ℕ) where
-  pub judged-long : most_bytes < length s → judged_circuit_text s room ≡ LongText
+  pub judged-long : most_bytes < length s → judged_circuit_text s room ≡ Err LongText
   unfolding judged_circuit_text
   judged-long h = rw (lt-leb (length s) most_bytes h)
 
@@ -38,36 +38,36 @@ module _ (s : List ℕ) (room : ℕ) where
     pub judged-as : (p : ParsedCircuit) → parsed_circuit s ≡ p → judged_circuit_text s room ≡ judged_found s room p
     judged-as p e = judged-short ∙ ap (judged_found s room) e
 
-    pub judged-good : (v : Version) (n : ℕ) (gates : List ℕ) (g : ℕ) → CircuitText s v n gates g → length gates ≤ room → judged_circuit_text s room ≡ Accepted
+    pub judged-good : (v : Version) (n : ℕ) (gates : List ℕ) (g : ℕ) → CircuitText s v n gates g → length gates ≤ room → judged_circuit_text s room ≡ Ok tt
     judged-good v n gates g c l = judged-as (circuit v n gates g) (circuit-parsed s v n gates g c) ∙ rw (le-leb (length gates) room l)
 
-    judged-over : (v : Version) (n : ℕ) (gates : List ℕ) (g : ℕ) → CircuitText s v n gates g → room < length gates → judged_circuit_text s room ≡ Room
+    judged-over : (v : Version) (n : ℕ) (gates : List ℕ) (g : ℕ) → CircuitText s v n gates g → room < length gates → judged_circuit_text s room ≡ Err Room
     judged-over v n gates g c l = judged-as (circuit v n gates g) (circuit-parsed s v n gates g c) ∙ rw (lt-leb (length gates) room l)
 
-    judged-unversioned : WithoutVersion s → judged_circuit_text s room ≡ Unversioned
+    judged-unversioned : WithoutVersion s → judged_circuit_text s room ≡ Err Unversioned
     judged-unversioned u = judged-as unversioned (unversioned-parsed s u)
 
-    judged-angle : (k : ℕ) → WrongAngle s k → judged_circuit_text s room ≡ Angle k
+    judged-angle : (k : ℕ) → WrongAngle s k → judged_circuit_text s room ≡ Err (Angle k)
     judged-angle k w =
         let p = angle-parsed s k w in
-        judged-as (angle w.fault.word.left) p.0 ∙ ap Angle (sym p.1)
+        judged-as (angle w.fault.word.left) p.0 ∙ ap (λ k. Err (Angle k)) (sym p.1)
 
-    judged-statement : (k : ℕ) → WrongStatement s k → judged_circuit_text s room ≡ Statement k
+    judged-statement : (k : ℕ) → WrongStatement s k → judged_circuit_text s room ≡ Err (Statement k)
     judged-statement k w = go (statement-parsed s k w)
       where
-        go : Other s k → judged_circuit_text s room ≡ Statement k
-        go (inl (l, e, p)) = judged-as (statement l) e ∙ ap Statement (sym p)
-        go (inr (e, p)) = judged-as early e ∙ ap Statement (sym p)
+        go : Other s k → judged_circuit_text s room ≡ Err (Statement k)
+        go (inl (l, e, p)) = judged-as (statement l) e ∙ ap (λ k. Err (Statement k)) (sym p)
+        go (inr (e, p)) = judged-as early e ∙ ap (λ k. Err (Statement k)) (sym p)
 
 -- ---- from the answer to what the text is
 
 data AnsweredText (s : List ℕ) (room : ℕ) (said : Verdict) : Type 0 where
-  long : most_bytes < length s → said ≡ LongText → AnsweredText s room said
-  good : Short s → (v : Version) (n : ℕ) (gates : List ℕ) (g : ℕ) → CircuitText s v n gates g → length gates ≤ room → said ≡ Accepted → AnsweredText s room said
-  over : Short s → (v : Version) (n : ℕ) (gates : List ℕ) (g : ℕ) → CircuitText s v n gates g → room < length gates → said ≡ Room → AnsweredText s room said
-  no_version : Short s → WithoutVersion s → said ≡ Unversioned → AnsweredText s room said
-  other_angle : Short s → (k : ℕ) → WrongAngle s k → said ≡ Angle k → AnsweredText s room said
-  other_statement : Short s → (k : ℕ) → WrongStatement s k → said ≡ Statement k → AnsweredText s room said
+  long : most_bytes < length s → said ≡ Err LongText → AnsweredText s room said
+  good : Short s → (v : Version) (n : ℕ) (gates : List ℕ) (g : ℕ) → CircuitText s v n gates g → length gates ≤ room → said ≡ Ok tt → AnsweredText s room said
+  over : Short s → (v : Version) (n : ℕ) (gates : List ℕ) (g : ℕ) → CircuitText s v n gates g → room < length gates → said ≡ Err Room → AnsweredText s room said
+  no_version : Short s → WithoutVersion s → said ≡ Err Unversioned → AnsweredText s room said
+  other_angle : Short s → (k : ℕ) → WrongAngle s k → said ≡ Err (Angle k) → AnsweredText s room said
+  other_statement : Short s → (k : ℕ) → WrongStatement s k → said ≡ Err (Statement k) → AnsweredText s room said
 
 answered-so : (s : List ℕ) (room : ℕ) → AnsweredText s room (judged_circuit_text s room)
 answered-so s room = length-of (leb (length s) most_bytes) refl

@@ -1,7 +1,7 @@
 -- Runs of statements: the longest run is spelt by forms of its records and its common phase, and behind it no gate stands. Assumes nothing.
+use Rattle.std.specs.Prelude.{Option, None, Some}
 use mathlib.Core.Path.{◌≡◌, refl, sym, ap, ◌∙◌}
 use mathlib.Core.List.{List, [], ◌∷◌, ◌++◌, append_assoc, append-nil}
-use mathlib.Core.Option.{Option, none, some}
 use Prim.Native.Nat.{ℕ, zero, suc, ◌≤◌, ◌<◌}
 use native.Mathlib.Omega.{arith}
 use lib.ListN.{length, length-append}
@@ -27,50 +27,50 @@ form-long name (hadamard a) = omega arith
 form-long name (common m t o) = omega arith
 
 -- what was read, and the words it was read from
-pub record GateRead (v : Version) (name : List ℕ) (ws t : List Word) (said : Said) : Type 0 where
+pub record GateRead (v : Version) (name : List ℕ) (ws : List Word) (said : Said) : Type 0 where
   pub form : Form
   pub good : GoodForm v form
   pub value : form_record form ≡ said.records
   pub phase : form_phase v form ≡ said.phase
   pub words : List Word
-  pub same : ws ≡ words ++ t
+  pub same : ws ≡ words ++ said.rest
   pub spelt : bodies words ≡ form_words name form
 
-pub gate-read : (v : Version) (name : List ℕ) (ws t : List Word) → (read_gate v name (some ws)).rest ≡ some t → GateRead v name ws t (read_gate v name (some ws))
-gate-read v name ws t e =
-    let g = gate-said-back v name (some ws) {bs = []} {t = t} (record { words = []; same = e; spelt = refl }) in
+pub gate-read : (v : Version) (name : List ℕ) (ws : List Word) (g : Said) → read_gate v name (Some ws) ≡ Some g → GateRead v name ws g
+gate-read v name ws g e =
+    let b = gate-said-back v name (Some ws) {bs = []} {t = g.rest} g e (record { words = []; same = refl; spelt = refl }) in
     record {
-      form = g.form;
-      good = g.good;
-      value = g.value;
-      phase = g.phase;
-      words = g.leads.words;
-      same = cc g.leads.same;
-      spelt = g.leads.spelt ∙ append-nil (form_words name g.form);
+      form = b.form;
+      good = b.good;
+      value = b.value;
+      phase = b.phase;
+      words = b.leads.words;
+      same = cc b.leads.same;
+      spelt = b.leads.spelt ∙ append-nil (form_words name b.form);
     }
 
-pub gate-short : (v : Version) (name : List ℕ) (ws t : List Word) → (read_gate v name (some ws)).rest ≡ some t → length t < length ws
-gate-short v name ws t e =
-    let g = gate-read v name ws t e in
-    omega (arith, ap length g.same, length-append g.words t, bodies-length g.words, ap length g.spelt, form-long name g.form)
+pub gate-short : (v : Version) (name : List ℕ) (ws : List Word) (g : Said) → read_gate v name (Some ws) ≡ Some g → length g.rest < length ws
+gate-short v name ws g e =
+    let r = gate-read v name ws g e in
+    omega (arith, ap length r.same, length-append r.words g.rest, bodies-length r.words, ap length r.spelt, form-long name r.form)
 
 -- ---- runs
 
-in-none : (f : ℕ) (v : Version) (name : List ℕ) (ws : List Word) → (read_gate v name (some ws)).rest ≡ none → statement_run_in (suc f) v name ws ≡ record { records = []; phase = 0; left = ws }
+in-none : (f : ℕ) (v : Version) (name : List ℕ) (ws : List Word) → read_gate v name (Some ws) ≡ None → statement_run_in (suc f) v name ws ≡ record { records = []; phase = 0; left = ws }
 unfolding statement_run_in
 in-none f v name ws e = rw e
 
-in_some : (f : ℕ) (v : Version) (name : List ℕ) (ws t : List Word) → (read_gate v name (some ws)).rest ≡ some t
-    → statement_run_in (suc f) v name ws ≡ record { records = (read_gate v name (some ws)).records ++ (statement_run_in f v name t).records; phase = phases (read_gate v name (some ws)).phase (statement_run_in f v name t).phase; left = (statement_run_in f v name t).left }
+in_some : (f : ℕ) (v : Version) (name : List ℕ) (ws : List Word) (g : Said) → read_gate v name (Some ws) ≡ Some g
+    → statement_run_in (suc f) v name ws ≡ record { records = g.records ++ (statement_run_in f v name g.rest).records; phase = phases g.phase (statement_run_in f v name g.rest).phase; left = (statement_run_in f v name g.rest).left }
 unfolding statement_run_in
-in_some f v name ws t e = rw e
+in_some f v name ws g e = rw e
 
-pub gate-nil : (v : Version) (name : List ℕ) → (read_gate v name (some [])).rest ≡ none
-gate-nil v name = go (read_gate v name (some [])).rest refl
+pub gate-nil : (v : Version) (name : List ℕ) → read_gate v name (Some []) ≡ None
+gate-nil v name = go (read_gate v name (Some [])) refl
   where
-    go : (o : Option (List Word)) → (read_gate v name (some [])).rest ≡ o → o ≡ none
-    go none e = refl
-    go (some t) e = absurd (omega (arith, gate-short v name [] t e))
+    go : (o : Option Said) → read_gate v name (Some []) ≡ o → o ≡ None
+    go None e = refl
+    go (Some g) e = absurd (omega (arith, gate-short v name [] g e))
 
 in-nil : (f : ℕ) (v : Version) (name : List ℕ) → statement_run_in f v name [] ≡ record { records = []; phase = 0; left = [] }
 unfolding statement_run_in
@@ -82,26 +82,26 @@ statement-run-fuel zero k v name [] a b = in-nil zero v name ∙ sym (in-nil k v
 statement-run-fuel zero k v name (w ∷ ws) a b = absurd (omega arith)
 statement-run-fuel (suc f) zero v name [] a b = in-nil (suc f) v name ∙ sym (in-nil zero v name)
 statement-run-fuel (suc f) zero v name (w ∷ ws) a b = absurd (omega arith)
-statement-run-fuel (suc f) (suc k) v name ws a b = go (read_gate v name (some ws)).rest refl (statement-run-fuel f k v name)
+statement-run-fuel (suc f) (suc k) v name ws a b = go (read_gate v name (Some ws)) refl (statement-run-fuel f k v name)
   where
-    go : (o : Option (List Word)) → (read_gate v name (some ws)).rest ≡ o → ((t : List Word) → length t ≤ f → length t ≤ k → statement_run_in f v name t ≡ statement_run_in k v name t) → statement_run_in (suc f) v name ws ≡ statement_run_in (suc k) v name ws
-    go none e ih = in-none f v name ws e ∙ sym (in-none k v name ws e)
-    go (some t) e ih =
-        let h : length t < length ws = gate-short v name ws t e in
-        in_some f v name ws t e ∙ rw (ih t (omega arith) (omega arith)) (sym (in_some k v name ws t e))
+    go : (o : Option Said) → read_gate v name (Some ws) ≡ o → ((t : List Word) → length t ≤ f → length t ≤ k → statement_run_in f v name t ≡ statement_run_in k v name t) → statement_run_in (suc f) v name ws ≡ statement_run_in (suc k) v name ws
+    go None e ih = in-none f v name ws e ∙ sym (in-none k v name ws e)
+    go (Some g) e ih =
+        let h : length g.rest < length ws = gate-short v name ws g e in
+        in_some f v name ws g e ∙ rw (ih g.rest (omega arith) (omega arith)) (sym (in_some k v name ws g e))
 
-pub statement-run-none : (v : Version) (name : List ℕ) (ws : List Word) → (read_gate v name (some ws)).rest ≡ none → statement_run v name ws ≡ record { records = []; phase = 0; left = ws }
+pub statement-run-none : (v : Version) (name : List ℕ) (ws : List Word) → read_gate v name (Some ws) ≡ None → statement_run v name ws ≡ record { records = []; phase = 0; left = ws }
 unfolding statement_run
 statement-run-none v name [] e = in-nil 0 v name
 statement-run-none v name (w ∷ ws) e = in-none (length ws) v name (w ∷ ws) e
 
-pub statement-run-some : (v : Version) (name : List ℕ) (ws t : List Word) → (read_gate v name (some ws)).rest ≡ some t
-    → statement_run v name ws ≡ record { records = (read_gate v name (some ws)).records ++ (statement_run v name t).records; phase = phases (read_gate v name (some ws)).phase (statement_run v name t).phase; left = (statement_run v name t).left }
+pub statement-run-some : (v : Version) (name : List ℕ) (ws : List Word) (g : Said) → read_gate v name (Some ws) ≡ Some g
+    → statement_run v name ws ≡ record { records = g.records ++ (statement_run v name g.rest).records; phase = phases g.phase (statement_run v name g.rest).phase; left = (statement_run v name g.rest).left }
 unfolding statement_run
-statement-run-some v name [] t e = absurd (omega (arith, gate-short v name [] t e))
-statement-run-some v name (w ∷ ws) t e =
-    let h : length t < length (w ∷ ws) = gate-short v name (w ∷ ws) t e in
-    in_some (length ws) v name (w ∷ ws) t e ∙ rw (statement-run-fuel (length ws) (length t) v name t (omega arith) (omega arith))
+statement-run-some v name [] g e = absurd (omega (arith, gate-short v name [] g e))
+statement-run-some v name (w ∷ ws) g e =
+    let h : length g.rest < length (w ∷ ws) = gate-short v name (w ∷ ws) g e in
+    in_some (length ws) v name (w ∷ ws) g e ∙ rw (statement-run-fuel (length ws) (length g.rest) v name g.rest (omega arith) (omega arith))
 
 -- a run is spelt by forms of its records, and behind it no gate stands
 pub record WholeStatements (v : Version) (name : List ℕ) (ws : List Word) (r : StatementRun) : Type 0 where
@@ -112,20 +112,20 @@ pub record WholeStatements (v : Version) (name : List ℕ) (ws : List Word) (r :
   pub words : List Word
   pub same : ws ≡ words ++ r.left
   pub spelt : bodies words ≡ forms_words name forms
-  pub stops : (read_gate v name (some r.left)).rest ≡ none
+  pub stops : read_gate v name (Some r.left) ≡ None
 
 whole_in : (f : ℕ) (v : Version) (name : List ℕ) (ws : List Word) → length ws ≤ f → WholeStatements v name ws (statement_run_in f v name ws)
 unfolding statement_run_in All form_records phase_of_forms forms_words
 whole_in zero v name [] h = record { forms = []; good = tt; meant = refl; shifted = refl; words = []; same = refl; spelt = refl; stops = gate-nil v name }
 whole_in zero v name (w ∷ ws) h = absurd (omega arith)
-whole_in (suc f) v name ws h = go (read_gate v name (some ws)).rest refl (whole_in f v name)
+whole_in (suc f) v name ws h = go (read_gate v name (Some ws)) refl (whole_in f v name)
   where
-    go : (o : Option (List Word)) → (read_gate v name (some ws)).rest ≡ o → ((t : List Word) → length t ≤ f → WholeStatements v name t (statement_run_in f v name t)) → WholeStatements v name ws (statement_run_in (suc f) v name ws)
-    go none e ih = rw (in-none f v name ws e) (record { forms = []; good = tt; meant = refl; shifted = refl; words = []; same = refl; spelt = refl; stops = e })
-    go (some t) e ih =
-        let g = gate-read v name ws t e in
-        let w = ih t (omega (arith, gate-short v name ws t e)) in
-        rw (in_some f v name ws t e) (record {
+    go : (o : Option Said) → read_gate v name (Some ws) ≡ o → ((t : List Word) → length t ≤ f → WholeStatements v name t (statement_run_in f v name t)) → WholeStatements v name ws (statement_run_in (suc f) v name ws)
+    go None e ih = rw (in-none f v name ws e) (record { forms = []; good = tt; meant = refl; shifted = refl; words = []; same = refl; spelt = refl; stops = e })
+    go (Some said) e ih =
+        let g = gate-read v name ws said e in
+        let w = ih said.rest (omega (arith, gate-short v name ws said e)) in
+        rw (in_some f v name ws said e) (record {
           forms = g.form ∷ w.forms;
           good = (g.good, w.good);
           meant = rw (g.value, w.meant);
@@ -144,11 +144,11 @@ statement-run-whole v name ws = whole_in (length ws) v name ws (omega arith)
 small-in : (f : ℕ) (v : Version) (name : List ℕ) (ws : List Word) → (statement_run_in f v name ws).phase < 131072
 unfolding statement_run_in
 small-in zero v name ws = omega arith
-small-in (suc f) v name ws = go (read_gate v name (some ws)).rest
+small-in (suc f) v name ws = go (read_gate v name (Some ws))
   where
-    go : (o : Option (List Word)) → (statement_run_on (read_gate v name (some ws)) o (statement_run_in f v name) ws).phase < 131072
-    go none = omega arith
-    go (some t) = phases-lt _ _
+    go : (o : Option Said) → (statement_run_on o (statement_run_in f v name) ws).phase < 131072
+    go None = omega arith
+    go (Some g) = phases-lt _ _
 
 pub run_small : (v : Version) (name : List ℕ) (ws : List Word) → (statement_run v name ws).phase < 131072
 unfolding statement_run
@@ -164,4 +164,4 @@ statement-run-on v name (f ∷ fs) ws t h e =
     let b = before (form_words name f) (forms_words name fs) ws e in
     let s : ws ++ t ≡ b.front ++ (b.back ++ t) = ap (λ l. l ++ t) b.same ∙ append_assoc b.front b.back t in
     let g = gate-on v name f b.front (b.back ++ t) h.0 b.front_spelt in
-    ap (statement_run v name) s ∙ statement-run-some v name (b.front ++ (b.back ++ t)) (b.back ++ t) (ap (λ x. x.rest) g) ∙ rw (g, statement-run-on v name fs b.back t h.1 b.back_spelt, append_assoc, phases-over)
+    ap (statement_run v name) s ∙ statement-run-some v name (b.front ++ (b.back ++ t)) _ g ∙ rw (statement-run-on v name fs b.back t h.1 b.back_spelt, append_assoc, phases-over)

@@ -1,8 +1,8 @@
 -- The examples of requests E1 and E5, of what reading answers. `-pi/4` is the request's own; the others are the ends and the traps.
-use Rattle.std.specs.Prelude.{◌≡◌, List, [], ◌∷◌, ◌++◌, ℕ}
+use Rattle.std.specs.Prelude.{◌≡◌, List, [], ◌∷◌, ◌++◌, ℕ, Err}
 use Rattle.gates.specs.Layout.{packed}
 use Rattle.gates.specs.Example.{Example}
-use Rattle.verdicts.specs.declared.verdict.Verdict.TheVariants.{Angle, Statement, Unversioned}
+use Rattle.verdicts.specs.declared.verdict.Refusal.TheVariants.{Angle, Statement, Unversioned}
 use Rattle.versions.specs.declared.Version.TheVariants.{Two, Three}
 use Rattle.qasm_reading.specs.Parsing.{circuit, parsed_circuit}
 use Rattle.qasm_reading.specs.Readings.{judged_circuit_text}
@@ -41,14 +41,14 @@ angle_ends = record {
 
 -- a text that ends before the register: 13, place 0
 abbrev pub ends_early : Example
-ends_early = record { number = 17; says = (room : ℕ) → judged_circuit_text (79 ∷ 80 ∷ 69 ∷ 78 ∷ 81 ∷ 65 ∷ 83 ∷ 77 ∷ 32 ∷ 50 ∷ 46 ∷ 48 ∷ 59 ∷ 10 ∷ 105 ∷ 110 ∷ 99 ∷ 108 ∷ 117 ∷ 100 ∷ 101 ∷ []) room ≡ Statement 0 }
+ends_early = record { number = 17; says = (room : ℕ) → judged_circuit_text (79 ∷ 80 ∷ 69 ∷ 78 ∷ 81 ∷ 65 ∷ 83 ∷ 77 ∷ 32 ∷ 50 ∷ 46 ∷ 48 ∷ 59 ∷ 10 ∷ 105 ∷ 110 ∷ 99 ∷ 108 ∷ 117 ∷ 100 ∷ 101 ∷ []) room ≡ Err (Statement 0) }
 
 -- both faults in one statement, `u1(pi/3) q[256];`: 13 on its line; the angle alone, `u1(pi/3) q[255];`: 12
 abbrev pub both_faults : Example
 both_faults = record {
   number = 18;
-  says = (room : ℕ) → (judged_circuit_text (three_lines ++ (117 ∷ 49 ∷ 40 ∷ 112 ∷ 105 ∷ 47 ∷ 51 ∷ 41 ∷ 32 ∷ 113 ∷ 91 ∷ 50 ∷ 53 ∷ 54 ∷ 93 ∷ 59 ∷ [])) room ≡ Statement 4)
-      × (judged_circuit_text (three_lines ++ (117 ∷ 49 ∷ 40 ∷ 112 ∷ 105 ∷ 47 ∷ 51 ∷ 41 ∷ 32 ∷ 113 ∷ 91 ∷ 50 ∷ 53 ∷ 53 ∷ 93 ∷ 59 ∷ [])) room ≡ Angle 4);
+  says = (room : ℕ) → (judged_circuit_text (three_lines ++ (117 ∷ 49 ∷ 40 ∷ 112 ∷ 105 ∷ 47 ∷ 51 ∷ 41 ∷ 32 ∷ 113 ∷ 91 ∷ 50 ∷ 53 ∷ 54 ∷ 93 ∷ 59 ∷ [])) room ≡ Err (Statement 4))
+      × (judged_circuit_text (three_lines ++ (117 ∷ 49 ∷ 40 ∷ 112 ∷ 105 ∷ 47 ∷ 51 ∷ 41 ∷ 32 ∷ 113 ∷ 91 ∷ 50 ∷ 53 ∷ 53 ∷ 93 ∷ 59 ∷ [])) room ≡ Err (Angle 4));
 }
 
 -- a semicolon in a comment ends nothing: `cx q[0], // to;` and `q[1];` on the next line
@@ -60,7 +60,7 @@ in_comment = record {
 
 -- a statement over three lines has the line on which it starts: `u1(`, `pi/3`, `) q[1];`
 abbrev pub over_lines : Example
-over_lines = record { number = 20; says = (room : ℕ) → judged_circuit_text (three_lines ++ (117 ∷ 49 ∷ 40 ∷ 10 ∷ 112 ∷ 105 ∷ 47 ∷ 51 ∷ 10 ∷ 41 ∷ 32 ∷ 113 ∷ 91 ∷ 49 ∷ 93 ∷ 59 ∷ 10 ∷ [])) room ≡ Angle 4 }
+over_lines = record { number = 20; says = (room : ℕ) → judged_circuit_text (three_lines ++ (117 ∷ 49 ∷ 40 ∷ 10 ∷ 112 ∷ 105 ∷ 47 ∷ 51 ∷ 10 ∷ 41 ∷ 32 ∷ 113 ∷ 91 ∷ 49 ∷ 93 ∷ 59 ∷ 10 ∷ [])) room ≡ Err (Angle 4) }
 
 -- ---- of request E5
 
@@ -98,9 +98,9 @@ gphase_example = record { number = 22; says = Reads (103 ∷ 112 ∷ 104 ∷ 97 
 abbrev pub version_example : Example
 version_example = record {
   number = 23;
-  says = (room : ℕ) → (judged_circuit_text [] room ≡ Unversioned)
-      × (judged_circuit_text (10 ∷ 79 ∷ 80 ∷ 69 ∷ 78 ∷ 81 ∷ 65 ∷ 83 ∷ 77 ∷ 32 ∷ 51 ∷ 59 ∷ []) room ≡ Unversioned)
-      × (judged_circuit_text (79 ∷ 80 ∷ 69 ∷ 78 ∷ 81 ∷ 65 ∷ 83 ∷ 77 ∷ 32 ∷ 50 ∷ 46 ∷ 48 ∷ []) room ≡ Unversioned);
+  says = (room : ℕ) → (judged_circuit_text [] room ≡ Err Unversioned)
+      × (judged_circuit_text (10 ∷ 79 ∷ 80 ∷ 69 ∷ 78 ∷ 81 ∷ 65 ∷ 83 ∷ 77 ∷ 32 ∷ 51 ∷ 59 ∷ []) room ≡ Err Unversioned)
+      × (judged_circuit_text (79 ∷ 80 ∷ 69 ∷ 78 ∷ 81 ∷ 65 ∷ 83 ∷ 77 ∷ 32 ∷ 50 ∷ 46 ∷ 48 ∷ []) room ≡ Err Unversioned);
 }
 
 abbrev pub qasm_examples : List Example

@@ -1,8 +1,8 @@
 -- How a circuit's text is read, statement by statement (requests E1 and E5). proofs/ shows that it finds what specs/Texts.antt says.
-use Rattle.std.specs.Prelude.{List, [], ◌∷◌, ◌++◌, ℕ, zero, suc, length}
-use Rattle.std.proofs.Math.Option.{Option, none, some}
+use Rattle.std.specs.Prelude.{List, [], ◌∷◌, ◌++◌, ℕ, zero, suc, length, Option, None, Some}
 use Rattle.sets.specs.Pick.{pick}
 use Rattle.circuit.specs.Phase.{phases}
+use Rattle.spots.specs.Numbers.{Got}
 use Rattle.words.specs.Words.{Word, words}
 use Rattle.versions.specs.declared.Version.{Version}
 use Rattle.versions.specs.declared.Version.TheVariants.{Two, Three}
@@ -14,13 +14,13 @@ pub record StatementRun : Type 0 where
   pub phase : ℕ
   pub left : List Word
 
-abbrev pub statement_run_on : Said → Option (List Word) → (List Word → StatementRun) → List Word → StatementRun
-statement_run_on g none more ws = record { records = []; phase = 0; left = ws }
-statement_run_on g (some t) more ws = record { records = g.records ++ (more t).records; phase = phases g.phase (more t).phase; left = (more t).left }
+abbrev pub statement_run_on : Option Said → (List Word → StatementRun) → List Word → StatementRun
+statement_run_on None more ws = record { records = []; phase = 0; left = ws }
+statement_run_on (Some g) more ws = record { records = g.records ++ (more g.rest).records; phase = phases g.phase (more g.rest).phase; left = (more g.rest).left }
 
 unfoldable pub statement_run_in : ℕ → Version → List ℕ → List Word → StatementRun
 statement_run_in zero v name ws = record { records = []; phase = 0; left = ws }
-statement_run_in (suc f) v name ws = statement_run_on (read_gate v name (some ws)) (read_gate v name (some ws)).rest (statement_run_in f v name) ws
+statement_run_in (suc f) v name ws = statement_run_on (read_gate v name (Some ws)) (statement_run_in f v name) ws
 
 -- a statement has at least one word
 unfoldable pub statement_run : Version → List ℕ → List Word → StatementRun
@@ -47,24 +47,28 @@ head_fault ws = pick (has_end ws) (statement (left_of ws)) early
 -- behind the gates stands nothing
 unfoldable pub end_circuit : Version → List ℕ → ℕ → List ℕ → ℕ → List Word → ParsedCircuit
 end_circuit v name n gates phase [] = circuit v n gates phase
-end_circuit v name n gates phase (w ∷ ws) = pick (bad_angle v name (some (w ∷ ws))) (angle w.left) (statement w.left)
+end_circuit v name n gates phase (w ∷ ws) = pick (bad_angle v name (Some (w ∷ ws))) (angle w.left) (statement w.left)
 
-unfoldable pub registered : Version → List ℕ → ℕ → Option (List Word) → List Word → ParsedCircuit
-registered v name n none ws = head_fault ws
-registered v name n (some t) ws = end_circuit v name n (statement_run v name t).records (statement_run v name t).phase (statement_run v name t).left
+-- behind the register, on n qubits
+unfoldable pub behind_register : Version → List ℕ → ℕ → List Word → ParsedCircuit
+behind_register v name n t = end_circuit v name n (statement_run v name t).records (statement_run v name t).phase (statement_run v name t).left
+
+unfoldable pub registered : Version → List ℕ → Option (Got Word) → List Word → ParsedCircuit
+registered v name None ws = head_fault ws
+registered v name (Some r) ws = behind_register v name r.value r.rest
 
 unfoldable pub included : Version → Option (List Word) → List Word → ParsedCircuit
-included v none ws = head_fault ws
-included v (some t) ws = registered v (read_name v (some t)) (read_register v (some t)).value (read_register v (some t)).rest t
+included v None ws = head_fault ws
+included v (Some t) ws = registered v (read_name v (Some t)) (read_register v (Some t)) t
 
 -- "The version line decides"
 unfoldable pub versioned : Option (List Word) → Option (List Word) → ParsedCircuit
-versioned (some t) o = included Two (read_include Two (some t)) t
-versioned none (some t) = included Three (read_include Three (some t)) t
-versioned none none = unversioned
+versioned (Some t) o = included Two (read_include Two (Some t)) t
+versioned None (Some t) = included Three (read_include Three (Some t)) t
+versioned None None = unversioned
 
 unfoldable pub parsed_words : List Word → ParsedCircuit
-parsed_words ws = versioned (read_version Two (some ws)) (read_version Three (some ws))
+parsed_words ws = versioned (read_version Two (Some ws)) (read_version Three (Some ws))
 
 unfoldable pub parsed_circuit : List ℕ → ParsedCircuit
 parsed_circuit s = parsed_words (words s)

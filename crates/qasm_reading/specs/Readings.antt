@@ -1,31 +1,24 @@
 -- What reading a circuit's text answers, and what it leaves in the lent list (requests E1 and E5).
-use Rattle.std.specs.Prelude.{◌≡◌, List, [], ◌∷◌, ℕ, eqb, length}
-use Rattle.sets.specs.Pick.{pick}
-use Rattle.verdicts.specs.declared.verdict.Verdict.{Verdict}
-use Rattle.verdicts.specs.declared.verdict.Verdict.TheVariants.{Accepted, Angle, Statement, Unversioned}
-use Rattle.verdicts.specs.Verdicts.{number_of}
+use Rattle.std.specs.Prelude.{◌≡◌, List, [], ◌∷◌, ℕ, length, Option, None, Some, Result, Ok, Err}
+use Rattle.std.specs.Result.{result_and, result_unwrap_or}
+use Rattle.verdicts.specs.Verdicts.{Verdict}
+use Rattle.verdicts.specs.declared.verdict.Refusal.{Refusal}
+use Rattle.verdicts.specs.declared.verdict.Refusal.TheVariants.{Angle, Statement, Unversioned}
 use Rattle.verdicts.specs.InOrder.{and_then}
 use Rattle.reading.specs.Readings.{judged_bytes, judged_places, lent_after}
 use Rattle.words.specs.Bytes.{line_at}
 use Rattle.words.specs.Words.{Word}
 use Rattle.versions.specs.declared.Version.TheVariants.{Two}
 use Rattle.qasm_reading.specs.declared.read.Circuit.{Circuit}
-use Rattle.qasm_reading.specs.declared.read.CircuitReading.{CircuitReading}
-use Rattle.qasm_reading.specs.declared.read.CircuitReading.TheVariants.{Read, Refused}
 use Rattle.qasm_reading.specs.Parsing.{ParsedCircuit, circuit, angle, statement, early, unversioned, parsed_circuit}
 
--- ---- number, place and values of each answer: `number_of` and `place_of` of the verdict, and of a circuit its version, n, the number of records and the common phase (all 0 on refusal)
+-- ---- the values of an answer, whose number and place are those of its verdict: the version, n, the number of records and the common phase (all 0 on refusal)
 
 abbrev pub no_circuit : Circuit
 no_circuit = record { version = Two; qubits = 0; gates = 0; phase = 0 }
 
-abbrev pub circuit_verdict : CircuitReading → Verdict
-circuit_verdict (Read c) = Accepted
-circuit_verdict (Refused v) = v
-
-abbrev pub read_circuit : CircuitReading → Circuit
-read_circuit (Read c) = c
-read_circuit (Refused v) = no_circuit
+abbrev pub read_circuit : Result Circuit Refusal → Circuit
+read_circuit answer = result_unwrap_or answer no_circuit
 
 -- ---- what is in a text
 
@@ -47,11 +40,11 @@ circuit_in unversioned = no_circuit
 
 -- 14, 12 and 13: "both give the line it starts on (0 if the text ends before the register)"
 abbrev pub judged_statements : List ℕ → ParsedCircuit → Verdict
-judged_statements s (circuit v n gates phase) = Accepted
-judged_statements s (angle l) = Angle (line_at s l)
-judged_statements s (statement l) = Statement (line_at s l)
-judged_statements s early = Statement 0
-judged_statements s unversioned = Unversioned
+judged_statements s (circuit v n gates phase) = Ok tt
+judged_statements s (angle l) = Err (Angle (line_at s l))
+judged_statements s (statement l) = Err (Statement (line_at s l))
+judged_statements s early = Err (Statement 0)
+judged_statements s unversioned = Err Unversioned
 
 -- these of what a text is found to be, then 8 as in reading a job: the lent list is shorter than the gates need
 abbrev pub judged_found : List ℕ → ℕ → ParsedCircuit → Verdict
@@ -61,21 +54,21 @@ judged_found s room p = and_then (judged_statements s p) (judged_places (length 
 unfoldable pub judged_circuit_text : List ℕ → ℕ → Verdict
 judged_circuit_text s room = and_then (judged_bytes s) (judged_found s room (parsed_circuit s))
 
-unfoldable pub circuit_reading : List ℕ → ℕ → CircuitReading
-circuit_reading s room = pick (eqb (number_of (judged_circuit_text s room)) 0) (Read (circuit_in (parsed_circuit s))) (Refused (judged_circuit_text s room))
+unfoldable pub circuit_reading : List ℕ → ℕ → Result Circuit Refusal
+circuit_reading s room = result_and (judged_circuit_text s room) (Ok (circuit_in (parsed_circuit s)))
 
 -- ---- parts
 
 -- the answer for what a text is found to be, where it is short enough
-abbrev pub found_answer : List ℕ → ℕ → ParsedCircuit → CircuitReading
-found_answer s room p = pick (eqb (number_of (judged_found s room p)) 0) (Read (circuit_in p)) (Refused (judged_found s room p))
+abbrev pub found_answer : List ℕ → ℕ → ParsedCircuit → Result Circuit Refusal
+found_answer s room p = result_and (judged_found s room p) (Ok (circuit_in p))
 
--- the line of the first of the words; 0 where there is none
-abbrev pub line_of : List ℕ → List Word → ℕ
-line_of s [] = 0
-line_of s (w ∷ ws) = line_at s w.left
+-- the line of the first of the words
+abbrev pub line_of : List ℕ → List Word → Option ℕ
+line_of s [] = None
+line_of s (w ∷ ws) = Some (line_at s w.left)
 
 -- what is found from a place on
-pub record FoundRead (s : List ℕ) (p : ParsedCircuit) (old : List ℕ) (r : CircuitReading) (new : List ℕ) : Type 0 where
+pub record FoundRead (s : List ℕ) (p : ParsedCircuit) (old : List ℕ) (r : Result Circuit Refusal) (new : List ℕ) : Type 0 where
   pub answer : r ≡ found_answer s (length old) p
-  pub list : new ≡ lent_after (circuit_verdict r) (circuit_gates p) old
+  pub list : new ≡ lent_after r (circuit_gates p) old

@@ -1,6 +1,6 @@
 -- The rows of the table that reading a circuit's text answers (requests E1 and E5): each as one statement, "When, and exactly then", and the place.
 use Rattle.std.specs.Prelude.{◌≡◌, List, ℕ, ◌≤◌, ◌<◌, length}
-use Rattle.verdicts.specs.declared.verdict.Verdict.{Verdict}
+use Rattle.verdicts.specs.Verdicts.{Verdict}
 use Rattle.verdicts.specs.Rows.{Row, Nowhere}
 use Rattle.reading.specs.Limits.{most_bytes}
 use Rattle.versions.specs.declared.Version.{Version}

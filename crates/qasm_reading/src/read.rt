@@ -1,17 +1,15 @@
 // The reader of a circuit's text. It judges form only, and writes nothing before the whole text is judged.
-ghost use Rattle.std.specs.Prelude.{◌≡◌, [], length, drop};
-ghost use Rattle.std.proofs.Math.Option.{some};
+ghost use Rattle.std.specs.Prelude.{◌≡◌, length, drop, Some};
 ghost use Rattle.reading.specs.Readings.{lent_after};
 ghost use Rattle.words.specs.Words.{words};
 ghost use Rattle.statements.specs.Statements.{read_include};
-ghost use Rattle.qasm_reading.specs.Parsing.{head_fault, registered, included, parsed_circuit};
-ghost use Rattle.qasm_reading.specs.Readings.{circuit_reading, circuit_verdict, circuit_gates, found_answer, line_of, FoundRead};
+ghost use Rattle.qasm_reading.specs.Parsing.{head_fault, behind_register, included, parsed_circuit};
+ghost use Rattle.qasm_reading.specs.Readings.{circuit_reading, circuit_gates, judged_statements, line_of, FoundRead};
 
 use crate::run;
 use reading::read::MOST_BYTES;
-use spots::spot::Spot;
 use statements::{gate, head};
-use verdicts::verdict::Verdict;
+use verdicts::verdict::Refusal;
 use versions::Version;
 use words::{byte, word};
 
@@ -24,36 +22,22 @@ pub struct Circuit {
     pub phase: u32,
 }
 
-#[derive(Clone, Copy)]
-pub enum CircuitReading {
-    Read { circuit: Circuit },
-    Refused { verdict: Verdict },
-}
-
-// The line on which the first word at `at` or behind starts; 0 where there is none.
-fn line_of(text: &[u8], at: usize) -> usize
+// The line on which the first word at `at` or behind starts.
+fn line_of(text: &[u8], at: usize) -> Option<usize>
     ensures { result ≡ line_of text.now (words (drop at text.now)) }
 {
-    let b = word::next(text, at);
-    let start = b.from;
-    if start < text.len() {
-        return byte::line_behind(&text[..start]);
-    }
-    0
+    let first = word::next(text, at)?;
+    Some(byte::line_behind(&text[..first.from]))
 }
 
-// The include line or the register does not stand at `at`.
-fn head_fault(text: &[u8], at: usize) -> CircuitReading
-    ensures { result ≡ found_answer text.now 0 (head_fault (words (drop at text.now))) }
+// What is refused where the include line or the register does not stand at `at`.
+fn head_fault(text: &[u8], at: usize) -> Refusal
+    ensures { Err result ≡ judged_statements text.now (head_fault (words (drop at text.now))) }
 {
     if head::has_end(text, at) {
-        return CircuitReading::Refused {
-            verdict: Verdict::Statement(line_of(text, at)),
-        };
+        return Refusal::Statement(line_of(text, at).unwrap_or(0));
     }
-    CircuitReading::Refused {
-        verdict: Verdict::Statement(0),
-    }
+    Refusal::Statement(0)
 }
 
 // The gates, behind the register.
@@ -64,77 +48,58 @@ fn body(
     n: u32,
     at: usize,
     gates: &mut [u32],
-) -> CircuitReading
-    ensures { FoundRead text.now (registered version name.now n (some (words (drop at text.now))) []) gates.old result gates.new }
+) -> Result<Circuit, Refusal>
+    ensures { FoundRead text.now (behind_register version name.now n (words (drop at text.now))) gates.old result gates.new }
 {
     let g = run::count(text, version, name, at);
-    let next = g.next;
-    let place = line_of(text, next);
-    if 0 < place {
-        if gate::bad_angle(text, version, name, next) {
-            return CircuitReading::Refused {
-                verdict: Verdict::Angle(place),
-            };
+    if let Some(place) = line_of(text, g.next) {
+        if gate::bad_angle(text, version, name, g.next) {
+            return Err(Refusal::Angle(place));
         }
-        return CircuitReading::Refused {
-            verdict: Verdict::Statement(place),
-        };
+        return Err(Refusal::Statement(place));
     }
     if gates.len() < g.count {
-        return CircuitReading::Refused {
-            verdict: Verdict::Room,
-        };
+        return Err(Refusal::Room);
     }
     run::fill(text, version, name, at, &mut *gates);
-    CircuitReading::Read {
-        circuit: Circuit {
-            version,
-            qubits: n as usize,
-            gates: g.count,
-            phase: g.phase,
-        },
-    }
+    Ok(Circuit {
+        version,
+        qubits: n as usize,
+        gates: g.count,
+        phase: g.phase,
+    })
 }
 
 // Behind the version, which ends at `at`.
-fn behind_version(text: &[u8], version: Version, at: usize, gates: &mut [u32]) -> CircuitReading
-    ensures { FoundRead text.now (included version (read_include version (some (words (drop at text.now)))) (words (drop at text.now))) gates.old result gates.new }
+fn behind_version(
+    text: &[u8],
+    version: Version,
+    at: usize,
+    gates: &mut [u32],
+) -> Result<Circuit, Refusal>
+    ensures { FoundRead text.now (included version (read_include version (Some (words (drop at text.now)))) (words (drop at text.now))) gates.old result gates.new }
 {
-    let i = head::include(text, Spot::At(at), version);
-    match i {
-        Spot::Lost => head_fault(text, at),
-        Spot::At(p) => {
-            let r = head::register(text, i, version);
-            let from = r.from;
-            let to = r.to;
-            let r_next = r.next;
-            match r_next {
-                Spot::Lost => head_fault(text, p),
-                Spot::At(q) => body(text, version, &text[from..to], r.size, q, &mut *gates),
-            }
-        }
-    }
+    let Some(p) = head::include(text, Some(at), version) else {
+        return Err(head_fault(text, at));
+    };
+    let Some(r) = head::register(text, Some(p), version) else {
+        return Err(head_fault(text, p));
+    };
+    let name = &text[r.name.from..r.name.to];
+    body(text, version, name, r.size, r.next, &mut *gates)
 }
 
-pub fn read(text: &[u8], gates: &mut [u32]) -> CircuitReading
-    ensures { (result ≡ circuit_reading text.now (length gates.old)) × (gates.new ≡ lent_after (circuit_verdict result) (circuit_gates (parsed_circuit text.now)) gates.old) }
+pub fn read(text: &[u8], gates: &mut [u32]) -> Result<Circuit, Refusal>
+    ensures { (result ≡ circuit_reading text.now (length gates.old)) × (gates.new ≡ lent_after result (circuit_gates (parsed_circuit text.now)) gates.old) }
 {
     if MOST_BYTES < text.len() {
-        return CircuitReading::Refused {
-            verdict: Verdict::LongText,
-        };
+        return Err(Refusal::LongText);
     }
-    let two = head::version(text, Spot::At(0), Version::Two);
-    match two {
-        Spot::At(p) => behind_version(text, Version::Two, p, &mut *gates),
-        Spot::Lost => {
-            let three = head::version(text, Spot::At(0), Version::Three);
-            match three {
-                Spot::At(p) => behind_version(text, Version::Three, p, &mut *gates),
-                Spot::Lost => CircuitReading::Refused {
-                    verdict: Verdict::Unversioned,
-                },
-            }
-        }
+    if let Some(p) = head::version(text, Some(0), Version::Two) {
+        return behind_version(text, Version::Two, p, &mut *gates);
     }
+    if let Some(p) = head::version(text, Some(0), Version::Three) {
+        return behind_version(text, Version::Three, p, &mut *gates);
+    }
+    Err(Refusal::Unversioned)
 }

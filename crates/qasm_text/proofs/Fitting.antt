@@ -1,33 +1,18 @@
--- The head, the gates behind it and the common phase last: what they leave of a room, and what is written where all of them fit. Assumes nothing.
-use mathlib.Core.Path.{◌≡◌, sym, ap, ◌∙◌}
+-- The head, the gates behind it and the common phase last: what is written where all of them fit. Assumes nothing.
+use mathlib.Core.Path.{◌≡◌, ap, ◌∙◌}
 use mathlib.Core.List.{List, ◌++◌}
-use Prim.Native.Nat.{ℕ, ◌+◌, ◌≤◌}
+use Prim.Native.Nat.{ℕ, ◌≤◌}
 use native.Mathlib.Omega.{arith}
-use lib.Dec.{leb}
 use lib.ListN.{length}
 use lib.Seq.{length-sets}
-use Rattle.lines.specs.Lent.{lines_end, lines_at}
-use Rattle.lines.specs.Leeway.{room_after, is_left}
-use Rattle.lines.specs.declared.room.Leeway.{Leeway}
-use Rattle.lines.specs.declared.room.Leeway.TheVariants.{Left}
-use Rattle.lines.proofs.Rooms.{room-then, room_fits}
-use Rattle.lines.proofs.Writes.{Wrote, wrote_then, Fitted, fitted-wrote}
+use Rattle.lines.specs.Lent.{lines_end, lines_at, Wrote, Fitted}
+use Rattle.lines.proofs.Writes.{wrote_then, fitted-wrote}
 use Rattle.versions.specs.declared.Version.{Version}
 use Rattle.qasm_lines.specs.Spelling.{gate_text, gates_text, head_text, phase_text, circuit_text}
 use Rattle.qasm_lines.proofs.Placed.{gates-lines-fit}
 use Rattle.qasm_lines.proofs.Sizes.{circuit-length}
 
 module _ (v : Version) (n : ℕ) (gs : List ℕ) (g : ℕ) where
-  pub circuit-left : (room : ℕ) {q r s : Leeway} → q ≡ room_after (Left room) (length (head_text v n)) → r ≡ room_after q (length (gates_text v gs)) → s ≡ room_after r (length (phase_text v g))
-      → is_left s ≡ leb (length (circuit_text v n gs g)) room
-  circuit-left room d e f =
-      let h = length (head_text v n) in
-      let k = length (gates_text v gs) in
-      let p = length (phase_text v g) in
-      let two = e ∙ ap (λ (q : Leeway). room_after q k) d in
-      ap is_left (f ∙ ap (λ (r : Leeway). room_after r p) two ∙ room-then (room_after (Left room) h) k p ∙ room-then (Left room) h (k + p) ∙ ap (room_after (Left room)) (sym (circuit-length v n gs g)))
-      ∙ room_fits room (length (circuit_text v n gs g))
-
   pub circuit-wrote : (l : List ℕ) {m k o : List ℕ} {p q e : ℕ} → length (circuit_text v n gs g) ≤ length l → Fitted l 0 (head_text v n) m p
       → (q ≡ lines_end (gate_text v) gs p (length m)) × (k ≡ lines_at (gate_text v) gs p m) → Fitted k q (phase_text v g) o e → Wrote l 0 (circuit_text v n gs g) o e
   unfolding circuit_text

@@ -10,13 +10,11 @@ use Rattle.verdicts.proofs.Rows.{row-passes, tests-1, tests-drawn}
 use Rattle.lines.specs.Lent.{onto}
 use Rattle.reading.specs.Readings.{lent_after}
 use Rattle.reading.specs.Limits.{most_bytes}
-use Rattle.text.specs.declared.write.Writing.TheVariants.{Written}
-use Rattle.text.specs.Writings.{write_verdict}
+use Rattle.std.specs.Prelude.{Ok}
 use Rattle.versions.specs.declared.Version.{Version}
 use Rattle.qasm_reading.specs.declared.read.Circuit.{Circuit}
-use Rattle.qasm_reading.specs.declared.read.CircuitReading.TheVariants.{Read}
 use Rattle.qasm_reading.specs.Parsing.{circuit, parsed_circuit}
-use Rattle.qasm_reading.specs.Readings.{circuit_gates, circuit_reading, found_answer, circuit_verdict}
+use Rattle.qasm_reading.specs.Readings.{circuit_gates, circuit_reading, found_answer}
 use Rattle.qasm_reading.specs.Texts.{CircuitText}
 use Rattle.qasm_reading.proofs.Parsed.{circuit-parsed}
 use Rattle.qasm_reading.proofs.Answers.{reading-is, room-long}
@@ -28,10 +26,10 @@ use Rattle.qasm_text.proofs.Written.{text-circuit}
 -- ---- what stands in the lent memory: the first `bytes` bytes that writing left, the first records that reading left
 
 abbrev pub circuit_written_in : Version → ℕ → List ℕ → ℕ → List ℕ → ℕ → List ℕ
-circuit_written_in v n gates g memory bytes = take bytes (lent_after (write_verdict (Written bytes)) (circuit_text v n gates g) memory)
+circuit_written_in v n gates g memory bytes = take bytes (lent_after (Ok bytes) (circuit_text v n gates g) memory)
 
 abbrev pub circuit_gates_read : List ℕ → Circuit → List ℕ → List ℕ
-circuit_gates_read s c list = take c.gates (lent_after (circuit_verdict (Read c)) (circuit_gates (parsed_circuit s)) list)
+circuit_gates_read s c list = take c.gates (lent_after (Ok c) (circuit_gates (parsed_circuit s)) list)
 
 -- ---- THE THEOREMS
 
@@ -43,7 +41,7 @@ good-circuit v n gates g a b =
     text-circuit v n gates g (omega (arith, few.1)) ((row-passes (tests-drawn n gates)).exactly.0 b)
 
 -- what the writer leaves at the front of the lent memory is the text of n, the gates and the common phase
-pub written-text : (v : Version) (n : ℕ) (gates : List ℕ) (g : ℕ) (memory : List ℕ) (bytes : ℕ) → circuit_writing v n gates g (length memory) ≡ Written bytes
+pub written-text : (v : Version) (n : ℕ) (gates : List ℕ) (g : ℕ) (memory : List ℕ) (bytes : ℕ) → circuit_writing v n gates g (length memory) ≡ Ok bytes
     → circuit_written_in v n gates g memory bytes ≡ circuit_text v n gates g
 written-text v n gates g memory bytes e =
     let w = written v n gates g (length memory) bytes e in
@@ -51,13 +49,13 @@ written-text v n gates g memory bytes e =
 
 pub record CircuitReadBack (s : List ℕ) (v : Version) (n : ℕ) (gates : List ℕ) (g : ℕ) (list : List ℕ) : Type 0 where
   pub found : Circuit
-  pub answer : circuit_reading s (length list) ≡ Read found
+  pub answer : circuit_reading s (length list) ≡ Ok found
   pub same_version : found.version ≡ v
   pub same_qubits : found.qubits ≡ n
   pub same_gates : circuit_gates_read s found list ≡ gates
   pub same_phase : found.phase ≡ read_phase v g
 
-pub circuit-reads-back : (v : Version) (n : ℕ) (gates : List ℕ) (g : ℕ) (memory list : List ℕ) (bytes : ℕ) → circuit_writing v n gates g (length memory) ≡ Written bytes
+pub circuit-reads-back : (v : Version) (n : ℕ) (gates : List ℕ) (g : ℕ) (memory list : List ℕ) (bytes : ℕ) → circuit_writing v n gates g (length memory) ≡ Ok bytes
     → bytes ≤ most_bytes → length gates ≤ length list → CircuitReadBack (circuit_written_in v n gates g memory bytes) v n gates g list
 circuit-reads-back v n gates g memory list bytes e short long =
     let w = written v n gates g (length memory) bytes e in

@@ -5,14 +5,13 @@ use mathlib.Core.List.{List}
 use Prim.Native.Nat.{ℕ, ◌≤◌, ◌<◌}
 use native.Mathlib.Omega.{arith}
 use lib.ListN.{length}
-use Rattle.verdicts.specs.declared.verdict.Verdict.{Verdict}
-use Rattle.verdicts.specs.declared.verdict.Verdict.TheVariants.{Room}
-use Rattle.verdicts.specs.Verdicts.{judged_qubits, judged_drawn}
+use Rattle.std.specs.Prelude.{Err}
+use Rattle.verdicts.specs.declared.verdict.Refusal.TheVariants.{Room}
+use Rattle.verdicts.specs.Verdicts.{Verdict, verdict_in, judged_qubits, judged_drawn}
 use Rattle.verdicts.specs.InOrder.{and_then}
 use Rattle.verdicts.specs.Rows.{Row, Nowhere, Passes1, PassesDrawn}
 use Rattle.verdicts.proofs.Rows.{Tests, row-fails, row-passes, row-then, row_first, Beyond, beyond-not, beyond-test, beyond-then, tests-1, tests-drawn}
 use Rattle.reading.specs.Readings.{judged_places}
-use Rattle.text.specs.Writings.{write_verdict}
 use Rattle.text.proofs.Rows.{room-tests}
 use Rattle.versions.specs.declared.Version.{Version}
 use Rattle.qasm_lines.specs.Spelling.{circuit_text}
@@ -28,7 +27,7 @@ module _ (v : Version) (n : ℕ) (gates : List ℕ) (g room : ℕ) where
   behind1 = and_then (judged_drawn n gates) judged_fit
 
   tests-8 : Tests judged_fit 8 (length (circuit_text v n gates g) ≤ room) (room < length (circuit_text v n gates g)) Nowhere
-  tests-8 = room-tests (length (circuit_text v n gates g)) room Room (omega arith) refl
+  tests-8 = room-tests (length (circuit_text v n gates g)) room (Err Room) (omega arith) refl
 
   beyond5 : Beyond 5 judged_fit
   beyond5 = beyond-test tests-8 5 (omega arith)
@@ -51,5 +50,5 @@ module _ (v : Version) (n : ℕ) (gates : List ℕ) (g room : ℕ) where
     row_8 = past5 8 (λ e. omega (arith, e)) (λ e. omega (arith, e)) (row-fails tests-8);
   }
 
-  pub writing-rows : CircuitWritingRows v n gates g room (write_verdict (circuit_writing v n gates g room))
+  pub writing-rows : CircuitWritingRows v n gates g room (verdict_in (circuit_writing v n gates g room))
   writing-rows = subst (CircuitWritingRows v n gates g room) (sym (writing-verdict v n gates g room)) judged-rows

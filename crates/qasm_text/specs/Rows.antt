@@ -1,6 +1,6 @@
 -- Document 01's table, "Records and refusals", of writing a circuit in OpenQASM (requests E1 and E5): each row as one statement, "When, and exactly then", and the place.
 use Rattle.std.specs.Prelude.{List, ℕ, ◌≤◌, ◌<◌, length}
-use Rattle.verdicts.specs.declared.verdict.Verdict.{Verdict}
+use Rattle.verdicts.specs.Verdicts.{Verdict}
 use Rattle.verdicts.specs.Rows.{Row, Nowhere, Some, First, Passes1, BadDrawn, PassesDrawn}
 use Rattle.versions.specs.declared.Version.{Version}
 use Rattle.qasm_lines.specs.Spelling.{circuit_text}

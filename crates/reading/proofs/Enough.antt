@@ -9,11 +9,11 @@ use native.Mathlib.Omega.{arith}
 use lib.Dec.{leb}
 use lib.ListN.{length, length-append, replicate, length-replicate}
 use borrow.Author.Tests.{leb-true, le-leb}
+use Rattle.std.specs.Prelude.{Ok, Err}
 use Rattle.sets.specs.Pick.{pick, both}
 use Rattle.gates.specs.Layout.{packed, kind_in, a_in, b_in}
-use Rattle.verdicts.specs.declared.verdict.Verdict.{Verdict}
-use Rattle.verdicts.specs.declared.verdict.Verdict.TheVariants.{Accepted, Room, LongText}
-use Rattle.verdicts.specs.Verdicts.{number_of}
+use Rattle.verdicts.specs.declared.verdict.Refusal.TheVariants.{Room, LongText}
+use Rattle.verdicts.specs.Verdicts.{Verdict, number_of}
 use Rattle.verdicts.specs.InOrder.{and_then}
 use Rattle.lines.specs.Lines.{digits_in, digits, fields_text, line_text, letter, fields_in, record_text, records_text, text_of}
 use Rattle.lines.proofs.Writes.{text-length}
@@ -22,6 +22,8 @@ use Rattle.reading.specs.Misfit.{FitsLine}
 use Rattle.sets.specs.Lists.{All}
 use Rattle.reading.specs.Parsing.{Parsed, misfit, job, parsed}
 use Rattle.reading.specs.Readings.{judged_lines, judged_lists, judged_reading}
+use Rattle.reading.specs.declared.sort.Sort.{Sort}
+use Rattle.reading.specs.declared.sort.Sort.TheVariants.{Couplers, Gates}
 use Rattle.reading.proofs.Runs.{text-parsed}
 use Rattle.reading.proofs.Misfits.{job-found}
 use Rattle.reading.proofs.Sizes.{text-least}
@@ -48,7 +50,7 @@ module _ (s : List ℕ) (a b : ℕ) (ha : most_bytes < 4 + 6 * (a + 1)) (hb : mo
   unfolding judged_reading
   left = go (leb (length s) most_bytes) refl
     where
-      go : (t : Bool) → leb (length s) most_bytes ≡ t → NeverEight (and_then (pick t Accepted LongText) (and_then (judged_lines (parsed s)) (judged_lists (parsed s) a b)))
+      go : (t : Bool) → leb (length s) most_bytes ≡ t → NeverEight (and_then (pick t (Ok tt) (Err LongText)) (and_then (judged_lines (parsed s)) (judged_lists (parsed s) a b)))
       go true e = within (leb-true (length s) most_bytes e) (parsed s) refl
       go false e = inr (inr refl)
 
@@ -63,7 +65,7 @@ unfolding records_text
 repeated-length m zero x e = omega arith
 repeated-length m (suc k) x e = rw (suc-mul k m) (omega (arith, length-append (record_text x) (records_text (replicate k x)), repeated-length m k x e))
 
-pub same-fit : (g : Bool) (k x : ℕ) → FitsLine g x → All (FitsLine g) (replicate k x)
+pub same-fit : (g : Sort) (k x : ℕ) → FitsLine g x → All (FitsLine g) (replicate k x)
 unfolding All
 same-fit g zero x h = tt
 same-fit g (suc k) x h = (h, same-fit g k x h)
@@ -80,7 +82,7 @@ module _ (c d : ℕ) where
 
   least-parsed : parsed (least_text c d) ≡ job 0 (replicate c (packed 0 0 0)) (replicate d (packed 3 0 0))
   unfolding packed kind_in b_in
-  least-parsed = text-parsed 0 (replicate c (packed 0 0 0)) (replicate d (packed 3 0 0)) (omega arith) (same-fit false c (packed 0 0 0) refl) (same-fit true d (packed 3 0 0) (inr (inr (inl (refl, refl)))))
+  least-parsed = text-parsed 0 (replicate c (packed 0 0 0)) (replicate d (packed 3 0 0)) (omega arith) (same-fit Couplers c (packed 0 0 0) refl) (same-fit Gates d (packed 3 0 0) (inr (inr (inl (refl, refl)))))
 
   -- so what is asked of a and b above cannot be less
   pub reads-8 : (a b : ℕ) → 4 + 6 * c + 4 * d ≤ most_bytes → (a < c) ⊎ (b < d) → number_of (judged_reading (least_text c d) a b) ≡ 8
@@ -88,7 +90,7 @@ module _ (c d : ℕ) where
   reads-8 a b h more =
       rw (le-leb (length (least_text c d)) most_bytes (omega (arith, least-length)), least-parsed, length-replicate c (packed 0 0 0), length-replicate d (packed 3 0 0)) (go (leb c a) (leb d b) refl refl more)
     where
-      go : (t u : Bool) → leb c a ≡ t → leb d b ≡ u → (a < c) ⊎ (b < d) → number_of (pick (both t u) Accepted Room) ≡ 8
+      go : (t u : Bool) → leb c a ≡ t → leb d b ≡ u → (a < c) ⊎ (b < d) → number_of (pick (both t u) (Ok tt) (Err Room)) ≡ 8
       go true true p q (inl l) = absurd (omega (arith, leb-true c a p))
       go true true p q (inr l) = absurd (omega (arith, leb-true d b q))
       go true false p q m = refl

@@ -1,8 +1,8 @@
 -- The first lines of a text: of a job's text they are a job's text again, and what stands behind them changes nothing. Assumes nothing.
+use Rattle.std.specs.Prelude.{Option, None, Some}
 use mathlib.Core.Path.{◌≡◌, refl, sym, ap, ◌∙◌, subst}
 use mathlib.Core.Bool.{Bool, true, false}
 use mathlib.Core.List.{List, [], ◌∷◌, ◌++◌, append_assoc, append-nil}
-use mathlib.Core.Option.{Option, none, some}
 use Prim.Native.Nat.{ℕ, zero, suc, ◌+◌, ◌-◌, ◌/◌, ◌%◌, ◌≤◌, ◌<◌}
 use native.Mathlib.Omega.{arith}
 use lib.Dec.{eqb, ltb}
@@ -14,10 +14,13 @@ use Rattle.gates.specs.Layout.{kind_in, a_in, b_in}
 use Rattle.lines.specs.Lines.{digits, fields_text, line_text, letter, fields_in, record_text, records_text, text_of}
 use Rattle.reading.specs.Misfit.{JobText, first_lines, NoLf, FitsLine}
 use Rattle.sets.specs.Lists.{All}
+use Rattle.spots.specs.Numbers.{Got}
 use Rattle.reading.specs.Parsing.{read_one, read_head}
 use Rattle.sets.proofs.Lists.{all_append}
 use Rattle.spots.proofs.Numbers.{never-some}
 use Rattle.lines.proofs.Digits.{digits-small, digits-big}
+use Rattle.reading.specs.declared.sort.Sort.{Sort}
+use Rattle.reading.specs.declared.sort.Sort.TheVariants.{Couplers, Gates}
 use Rattle.reading.proofs.Lines.{one-back, one-forth, head-back}
 
 -- ---- a line has one LF, its last byte
@@ -97,13 +100,13 @@ text-front j n es gs t =
 
 -- ---- the first lines of a job's text
 
-pub fit-take : (g : Bool) (k : ℕ) (xs : List ℕ) → All (FitsLine g) xs → All (FitsLine g) (take k xs)
+pub fit-take : (g : Sort) (k : ℕ) (xs : List ℕ) → All (FitsLine g) xs → All (FitsLine g) (take k xs)
 unfolding All
 fit-take g zero xs h = tt
 fit-take g (suc k) [] h = tt
 fit-take g (suc k) (x ∷ xs) h = (h.0, fit-take g k xs h.1)
 
-pub front-job : (j n : ℕ) (es gs t : List ℕ) → n ≤ 255 → All (FitsLine false) es → All (FitsLine true) gs → j ≤ length es + length gs → JobText (first_lines (suc j) (text_of n es gs ++ t))
+pub front-job : (j n : ℕ) (es gs t : List ℕ) → n ≤ 255 → All (FitsLine Couplers) es → All (FitsLine Gates) gs → j ≤ length es + length gs → JobText (first_lines (suc j) (text_of n es gs ++ t))
 front-job j n es gs t h a b l =
     let z : j - length es - length gs ≡ 0 = omega arith in
     record {
@@ -111,8 +114,8 @@ front-job j n es gs t h a b l =
       couplers = take j es;
       gates = take (j - length es) gs;
       few = h;
-      couplers_fit = fit-take false j es a;
-      gates_fit = fit-take true (j - length es) gs b;
+      couplers_fit = fit-take Couplers j es a;
+      gates_fit = fit-take Gates (j - length es) gs b;
       same = text-front j n es gs t ∙ ap (λ k. text_of n (take j es) (take (j - length es) gs) ++ first_lines k t) z
           ∙ ap (λ l. text_of n (take j es) (take (j - length es) gs) ++ l) (front-zero t) ∙ append-nil _;
     }
@@ -133,8 +136,8 @@ job-fronts s k j =
       couplers = take k es;
       gates = take (k - length es) gs;
       few = j.few;
-      couplers_fit = fit-take false k es j.couplers_fit;
-      gates_fit = fit-take true (k - length es) gs j.gates_fit;
+      couplers_fit = fit-take Couplers k es j.couplers_fit;
+      gates_fit = fit-take Gates (k - length es) gs j.gates_fit;
       same = ap (first_lines (suc k)) (j.same ∙ sym (append-nil (text_of n es gs))) ∙ text-front k n es gs [] ∙ ap (λ t. l ++ t) (front-nil _) ∙ append-nil l;
     }
 
@@ -167,29 +170,28 @@ front-back (suc k) (x ∷ s) = ap (λ l. x ∷ l) (go (eqb x 10) (front-back k s
     go false a b = b
 
 -- a line that stands at the front of the first lines stands at the front of the text
-pub front-none : (g : Bool) (k : ℕ) (s : List ℕ) → (read_one g s).rest ≡ none → (read_one g (first_lines k s)).rest ≡ none
-front-none g k s h = go (read_one g (first_lines k s)).rest refl
+pub front-none : (g : Sort) (k : ℕ) (s : List ℕ) → read_one g s ≡ None → read_one g (first_lines k s) ≡ None
+front-none g k s h = go (read_one g (first_lines k s)) refl
   where
-    go : (o : Option (List ℕ)) → (read_one g (first_lines k s)).rest ≡ o → o ≡ none
-    go none e = refl
-    go (some t) e =
-        let b = one-back g (first_lines k s) t e in
-        let x = (read_one g (first_lines k s)).value in
-        let w : s ≡ record_text x ++ (t ++ back k s) = sym (front-back k s) ∙ ap (λ l. l ++ back k s) b.0 ∙ append_assoc (record_text x) t (back k s) in
-        never-some (sym h ∙ ap (λ l. (read_one g l).rest) w ∙ ap (λ r. r.rest) (one-forth g x (t ++ back k s) b.1))
+    go : (o : Option (Got ℕ)) → read_one g (first_lines k s) ≡ o → o ≡ None
+    go None e = refl
+    go (Some r) e =
+        let b = one-back g (first_lines k s) r e in
+        let w : s ≡ record_text r.value ++ (r.rest ++ back k s) = sym (front-back k s) ∙ ap (λ l. l ++ back k s) b.0 ∙ append_assoc (record_text r.value) r.rest (back k s) in
+        never-some (sym h ∙ ap (read_one g) w ∙ one-forth g r.value (r.rest ++ back k s) b.1)
 
 -- a line without LF is none of a job's
-pub unended-none : (g : Bool) (t : List ℕ) → NoLf t → (read_one g t).rest ≡ none
+pub unended-none : (g : Sort) (t : List ℕ) → NoLf t → read_one g t ≡ None
 unfolding record_text
-unended-none g t h = go (read_one g t).rest refl
+unended-none g t h = go (read_one g t) refl
   where
-    go : (o : Option (List ℕ)) → (read_one g t).rest ≡ o → o ≡ none
-    go none e = refl
-    go (some u) e = absurd (line-ends _ _ u (subst NoLf (one-back g t u e).0 h))
+    go : (o : Option (Got ℕ)) → read_one g t ≡ o → o ≡ None
+    go None e = refl
+    go (Some r) e = absurd (line-ends _ _ r.rest (subst NoLf (one-back g t r e).0 h))
 
-pub unended-head : (t : List ℕ) → NoLf t → (read_head t).rest ≡ none
-unended-head t h = go (read_head t).rest refl
+pub unended-head : (t : List ℕ) → NoLf t → read_head t ≡ None
+unended-head t h = go (read_head t) refl
   where
-    go : (o : Option (List ℕ)) → (read_head t).rest ≡ o → o ≡ none
-    go none e = refl
-    go (some u) e = absurd (line-ends 113 ((read_head t).value ∷ []) u (subst NoLf (head-back t u e).0 h))
+    go : (o : Option (Got ℕ)) → read_head t ≡ o → o ≡ None
+    go None e = refl
+    go (Some r) e = absurd (line-ends 113 (r.value ∷ []) r.rest (subst NoLf (head-back t r e).0 h))

@@ -1,19 +1,21 @@
 -- Parsing finds a job exactly in a job's text, and in any other the first line that cannot continue a job. Assumes nothing.
+use Rattle.std.specs.Prelude.{Option, None, Some}
 use mathlib.Core.Path.{◌≡◌, refl, sym, ap, ◌∙◌, subst}
 use mathlib.Core.Bool.{Bool, true, false}
 use mathlib.Core.List.{List, [], ◌∷◌, ◌++◌, append_assoc, append-nil}
-use mathlib.Core.Option.{Option, none, some}
 use Prim.Native.Nat.{ℕ, zero, suc, ◌+◌, ◌≤◌, ◌<◌}
 use native.Mathlib.Omega.{arith}
 use lib.Dec.{ltb}
 use lib.ListN.{length}
 use borrow.Author.Tests.{ltb-true, ltb-false}
+use Rattle.spots.specs.Numbers.{Got}
 use Rattle.reading.specs.Limits.{most_first}
 use Rattle.lines.specs.Lines.{line_text, records_text, text_of}
 use Rattle.reading.specs.Misfit.{JobText, first_lines, Misfit, FitsLine}
 use Rattle.sets.specs.Lists.{All}
 use Rattle.reading.specs.Parsing.{read_head, Parsed, misfit, job, end_of, body_of, parsed}
 use Rattle.spots.proofs.Numbers.{never-some}
+use Rattle.reading.specs.declared.sort.Sort.TheVariants.{Couplers, Gates}
 use Rattle.reading.proofs.Fronts.{front-job, job-fronts, back, front-back, front-none, front-more}
 use Rattle.reading.proofs.Lines.{head-forth}
 use Rattle.reading.proofs.Runs.{TakenJob, taken, parsed-forth, text-parsed}
@@ -25,12 +27,12 @@ two e = let z : ◌≡◌ {A = ℕ} 0 1 = cc e in absurd (omega arith)
 pub record FoundJob (s : List ℕ) (n : ℕ) (es gs : List ℕ) : Type 0 where
   pub same : s ≡ text_of n es gs
   pub few : n ≤ most_first
-  pub couplers : All (FitsLine false) es
-  pub gates : All (FitsLine true) gs
+  pub couplers : All (FitsLine Couplers) es
+  pub gates : All (FitsLine Gates) gs
 
 pub job-found : (s : List ℕ) (n : ℕ) (es gs : List ℕ) → parsed s ≡ job n es gs → FoundJob s n es gs
 unfolding parsed body_of end_of
-job-found s n es gs e = go (read_head s).rest refl e
+job-found s n es gs e = go (read_head s) refl e
   where
     end : (m : ℕ) (cs hs l : List ℕ) → TakenJob s m cs hs l → end_of m cs hs l ≡ job n es gs → FoundJob s n es gs
     end m cs hs [] k e =
@@ -41,15 +43,15 @@ job-found s n es gs e = go (read_head s).rest refl e
         (record { same = k.same ∙ append-nil (text_of m cs hs); few = k.few; couplers = k.couplers; gates = k.gates })))
     end m cs hs (x ∷ l) k e = two e
 
-    go : (o : Option (List ℕ)) → (read_head s).rest ≡ o → body_of (read_head s).value o ≡ job n es gs → FoundJob s n es gs
-    go none d e = two e
-    go (some t) d e = end _ _ _ _ (taken s t d) e
+    go : (o : Option (Got ℕ)) → read_head s ≡ o → body_of o ≡ job n es gs → FoundJob s n es gs
+    go None d e = two e
+    go (Some r) d e = end _ _ _ _ (taken s r d) e
 
 pub job-parsed : (s : List ℕ) (j : JobText s) → parsed s ≡ job j.qubits j.couplers j.gates
 job-parsed s j = ap parsed j.same ∙ text-parsed j.qubits j.couplers j.gates j.few j.couplers_fit j.gates_fit
 
 -- a first line that is no `q` line
-first-misfit : (s : List ℕ) → (read_head s).rest ≡ none → Misfit s 1
+first-misfit : (s : List ℕ) → read_head s ≡ None → Misfit s 1
 unfolding text_of
 first-misfit s e = record {
   counted = omega arith;
@@ -58,7 +60,7 @@ first-misfit s e = record {
       let q = line_text 113 (j.qubits ∷ []) in
       let r = records_text j.couplers ++ records_text j.gates in
       let w : s ≡ q ++ (r ++ back 1 s) = sym (front-back 1 s) ∙ ap (λ l. l ++ back 1 s) j.same ∙ append_assoc q r (back 1 s) in
-      never-some (sym e ∙ ap (λ l. (read_head l).rest) w ∙ ap (λ g. g.rest) (head-forth j.qubits (r ++ back 1 s) j.few));
+      never-some (sym e ∙ ap read_head w ∙ head-forth j.qubits (r ++ back 1 s) j.few);
 }
 
 -- what is left behind the runs begins with a line of neither sort
@@ -74,20 +76,20 @@ later-misfit s n es gs x t k = record { counted = omega arith; before = before; 
     here j =
         let w : first_lines (2 + length es + length gs) s ≡ text_of n es gs ++ first_lines 1 (x ∷ t) = ap (first_lines (2 + length es + length gs)) k.same ∙ front-more n es gs (x ∷ t) in
         let p : parsed (text_of n es gs ++ first_lines 1 (x ∷ t)) ≡ end_of n es gs (first_lines 1 (x ∷ t))
-        = parsed-forth n es gs (first_lines 1 (x ∷ t)) k.few k.couplers k.gates (λ z. front-none false 1 (x ∷ t) (k.stop_coupler z)) (front-none true 1 (x ∷ t) k.stop) in
+        = parsed-forth n es gs (first_lines 1 (x ∷ t)) k.few k.couplers k.gates (λ z. front-none Couplers 1 (x ∷ t) (k.stop_coupler z)) (front-none Gates 1 (x ∷ t) k.stop) in
         two (sym p ∙ ap parsed (sym w) ∙ job-parsed _ j)
 
 pub misfit-first : (s : List ℕ) (k : ℕ) → parsed s ≡ misfit k → Misfit s k
 unfolding parsed body_of end_of
-misfit-first s k e = go (read_head s).rest refl e
+misfit-first s k e = go (read_head s) refl e
   where
     end : (m : ℕ) (cs hs l : List ℕ) → TakenJob s m cs hs l → end_of m cs hs l ≡ misfit k → Misfit s k
     end m cs hs [] t e = two (sym e)
     end m cs hs (x ∷ l) t e = let z : 2 + length cs + length hs ≡ k = cc e in subst (Misfit s) z (later-misfit s m cs hs x l t)
 
-    go : (o : Option (List ℕ)) → (read_head s).rest ≡ o → body_of (read_head s).value o ≡ misfit k → Misfit s k
-    go none d e = let z : 1 ≡ k = cc e in subst (Misfit s) z (first-misfit s d)
-    go (some t) d e = end _ _ _ _ (taken s t d) e
+    go : (o : Option (Got ℕ)) → read_head s ≡ o → body_of o ≡ misfit k → Misfit s k
+    go None d e = let z : 1 ≡ k = cc e in subst (Misfit s) z (first-misfit s d)
+    go (Some r) d e = end _ _ _ _ (taken s r d) e
 
 -- ---- there is one such line at most, and none in a job's text
 

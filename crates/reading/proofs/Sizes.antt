@@ -14,6 +14,7 @@ use Rattle.lines.proofs.Writes.{width-least, width-most, line-length, record-two
 use Rattle.reading.specs.Limits.{most_first}
 use Rattle.reading.specs.Misfit.{FitsLine}
 use Rattle.sets.specs.Lists.{All}
+use Rattle.reading.specs.declared.sort.Sort.TheVariants.{Couplers}
 
 -- ---- lines of one, two and three numbers
 
@@ -44,7 +45,7 @@ module _ (x : ℕ) where
   width_one h = ap length (record-one x h) ∙ line-one (letter (kind_in x)) (a_in x)
 
   -- as in `e 0 1`
-  coupler-least : FitsLine false x → 6 ≤ length (record_text x)
+  coupler-least : FitsLine Couplers x → 6 ≤ length (record_text x)
   coupler-least h = omega (arith, width_two (omega (arith, h)), width-least (a_in x), width-least (b_in x))
 
   -- as in `n 0`, and in `r 255 65535`
@@ -63,7 +64,7 @@ module _ (x : ℕ) where
 
 -- ---- a text
 
-pub couplers-least : (xs : List ℕ) → All (FitsLine false) xs → 6 * length xs ≤ length (records_text xs)
+pub couplers-least : (xs : List ℕ) → All (FitsLine Couplers) xs → 6 * length xs ≤ length (records_text xs)
 unfolding records_text All
 couplers-least [] h = omega arith
 couplers-least (x ∷ xs) h = omega (arith, length-append (record_text x) (records_text xs), coupler-least x h.0, couplers-least xs h.1)
@@ -79,7 +80,7 @@ records-most [] = omega arith
 records-most (x ∷ xs) = omega (arith, length-append (record_text x) (records_text xs), (record-sizes x).1, records-most xs)
 
 -- 4 bytes for the `q` line, 6 for each coupler and 4 for each gate, as in `q 1`, `e 0 1` and `n 0`
-pub text-least : (n : ℕ) (es gs : List ℕ) → All (FitsLine false) es → 4 + 6 * length es + 4 * length gs ≤ length (text_of n es gs)
+pub text-least : (n : ℕ) (es gs : List ℕ) → All (FitsLine Couplers) es → 4 + 6 * length es + 4 * length gs ≤ length (text_of n es gs)
 text-least n es gs h = omega (arith, text-length n es gs, line-one 113 n, width-least n, couplers-least es h, records-least gs)
 
 -- 6 bytes for the `q` line and 12 for each other line, as in `q 255` and `r 255 65535`

@@ -1,16 +1,18 @@
 -- Which texts are a job's, and which line of any other is refused (document 01, "The job text"). Nothing here says how a text is read.
-use Rattle.std.specs.Prelude.{◌≡◌, ◌⊎◌, Bool, true, false, List, [], ◌∷◌, ℕ, zero, suc, ◌≤◌, ◌<◌, eqb}
+use Rattle.std.specs.Prelude.{◌≡◌, ◌⊎◌, List, [], ◌∷◌, ℕ, zero, suc, ◌≤◌, ◌<◌, eqb}
 use Rattle.sets.specs.Lists.{All}
 use Rattle.sets.specs.Pick.{pick}
 use Rattle.gates.specs.Layout.{kind_in, b_in}
 use Rattle.reading.specs.Limits.{most_first}
 use Rattle.lines.specs.Lines.{text_of}
+use Rattle.reading.specs.declared.sort.Sort.{Sort}
+use Rattle.reading.specs.declared.sort.Sort.TheVariants.{Couplers, Gates}
 
 -- a record of a gate or a Hadamard, or of a coupler: a record's numbers are within the text's limits whatever it holds; "X is record kind 3 with b = 0",
 -- "Hadamards, record kind 4 with b = 0"
-abbrev pub FitsLine : Bool → ℕ → Type 0
-FitsLine false x = kind_in x ≡ 0
-FitsLine true x = (kind_in x ≡ 1) ⊎ (kind_in x ≡ 2) ⊎ ((kind_in x ≡ 3) × (b_in x ≡ 0)) ⊎ ((kind_in x ≡ 4) × (b_in x ≡ 0))
+abbrev pub FitsLine : Sort → ℕ → Type 0
+FitsLine Couplers x = kind_in x ≡ 0
+FitsLine Gates x = (kind_in x ≡ 1) ⊎ (kind_in x ≡ 2) ⊎ ((kind_in x ≡ 3) × (b_in x ≡ 0)) ⊎ ((kind_in x ≡ 4) × (b_in x ≡ 0))
 
 -- the text is that of a job
 pub record JobText (s : List ℕ) : Type 0 where
@@ -18,8 +20,8 @@ pub record JobText (s : List ℕ) : Type 0 where
   pub couplers : List ℕ
   pub gates : List ℕ
   pub few : qubits ≤ most_first
-  pub couplers_fit : All (FitsLine false) couplers
-  pub gates_fit : All (FitsLine true) gates
+  pub couplers_fit : All (FitsLine Couplers) couplers
+  pub gates_fit : All (FitsLine Gates) gates
   pub same : s ≡ text_of qubits couplers gates
 
 -- the first k lines of a text, each up to its LF or to the end

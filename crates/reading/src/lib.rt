@@ -6,3 +6,4 @@ pub mod couplers;
 mod line;
 pub mod read;
 mod run;
+pub mod sort;

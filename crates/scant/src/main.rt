@@ -4,18 +4,12 @@
 
 ghost use Rattle.std.specs.Prelude.{◌≤◌, length};
 
-use console::{COUPLER_LINES, GATE_LINES};
-use laying::lay::Answer;
-use lines::print;
+use console::{COUPLER_LINES, GATE_LINES, programs};
 use reading::read;
-use reading::read::Reading;
 use std::io;
 use std::io::{Read, Write};
 use stretches::job;
 use text::write;
-use text::write::Writing;
-use verdicts::verdict;
-use verdicts::verdict::Verdict;
 
 // Room for the stored bundle.
 const BUNDLE: usize = 131072;
@@ -32,22 +26,11 @@ const RECORDS: usize = 49;
 // Lent to writing, in bytes.
 const ROOM: usize = 29;
 
-// Room for an `x` line: no number has more than 20 digits.
-const LINE: usize = 32;
-
-fn say<W: Write>(writer: &mut W, v: Verdict) -> io::Result<()> {
-    let mut out = [0u8; LINE];
-    let k = print::refusal(verdict::number(v), verdict::place(v), &mut out);
-    writer.write_all(&out[..k])
-}
-
 fn read_scant<W: Write>(writer: &mut W, text: &[u8]) -> io::Result<()> {
     let mut couplers = [0u32; COUPLERS];
     let mut gates = [0u32; GATES];
-    match read::read(text, &mut couplers, &mut gates) {
-        Reading::Read { job: _ } => say(writer, Verdict::Accepted),
-        Reading::Refused { verdict } => say(writer, verdict),
-    }
+    let answer = read::read(text, &mut couplers, &mut gates);
+    programs::write_verdict(writer, answer.map(|_| ()))
 }
 
 fn lay_scant<W: Write>(
@@ -57,16 +40,8 @@ fn lay_scant<W: Write>(
     gates: &[u32],
 ) -> io::Result<()> {
     let mut laid = [0u32; RECORDS];
-    match job::lay_job(n, couplers, gates, &mut laid) {
-        Answer::Laid {
-            records: _,
-            cnots: _,
-            rotations: _,
-            depth: _,
-            phase: _,
-        } => say(writer, Verdict::Accepted),
-        Answer::Refused { verdict } => say(writer, verdict),
-    }
+    let answer = job::lay_job(n, couplers, gates, &mut laid);
+    programs::write_verdict(writer, answer.map(|_| ()))
 }
 
 fn write_scant<W: Write>(
@@ -76,10 +51,8 @@ fn write_scant<W: Write>(
     gates: &[u32],
 ) -> io::Result<()> {
     let mut text = [0u8; ROOM];
-    match write::write(n, couplers, gates, &mut text) {
-        Writing::Written { bytes: _ } => say(writer, Verdict::Accepted),
-        Writing::Refused { verdict } => say(writer, verdict),
-    }
+    let answer = write::write(n, couplers, gates, &mut text);
+    programs::write_verdict(writer, answer.map(|_| ()))
 }
 
 fn lay_and_write<W: Write>(
@@ -98,12 +71,12 @@ fn turn<W: Write>(writer: &mut W, text: &[u8]) -> io::Result<()> {
     let mut couplers = [0u32; COUPLER_LINES];
     let mut gates = [0u32; GATE_LINES];
     match read::read(text, &mut couplers, &mut gates) {
-        Reading::Read { job } => {
+        Ok(job) => {
             let c = job.couplers;
             let g = job.gates;
             lay_and_write(writer, job.qubits, &couplers[..c], &gates[..g])
         }
-        Reading::Refused { verdict: _ } => Ok(()),
+        Err(_) => Ok(()),
     }
 }
 
@@ -112,12 +85,10 @@ fn each<W: Write>(writer: &mut W, bundle: &[u8]) -> io::Result<()>
     requires { length bundle.now ≤ 131072 }
 {
     let mut start: usize = 0;
-    for i in 0..bundle.len() {
-        if start <= i {
-            if bundle[i] == b'-' {
-                turn(writer, &bundle[start..i])?;
-                start = i + 3;
-            }
+    for (i, &x) in bundle.iter().enumerate() {
+        if start <= i && x == b'-' {
+            turn(writer, &bundle[start..i])?;
+            start = i + 3;
         }
     }
     Ok(())

@@ -1,12 +1,17 @@
 -- Laws of a search: `first_of` and `some_of`. Assumes nothing.
-use mathlib.Core.Path.{◌≡◌, refl, ap, subst}
-use mathlib.Core.Bool.{Bool, true, false}
+use mathlib.Core.Path.{◌≡◌, refl, sym, ap, ◌∙◌, subst}
+use mathlib.Core.Bool.{Bool, true, false, not, cond}
+use mathlib.Core.List.{List, [], ◌∷◌}
 use Prim.Native.Nat.{ℕ, zero, suc, ◌+◌, ◌-◌, ◌≤◌, ◌<◌}
+use native.Mathlib.Numerals.{add-one}
 use native.Mathlib.Omega.{arith}
 use lib.Dec.{ltb}
+use lib.ListN.{length, get_or}
 use borrow.Author.Tests.{lt-ltb, le-ltb, ltb-true, ltb-false}
+use Rattle.std.proofs.Common.{Option, Some, None, MatchOption}
+use Rattle.std.specs.List.{position_or_len}
 use Rattle.sets.specs.Pick.{pick}
-use Rattle.sets.specs.Search.{first_of, some_of}
+use Rattle.sets.specs.Search.{first_of, some_of, found_of}
 use Rattle.sets.proofs.Deciding.{never}
 
 pub sub-suc : (n r : ℕ) → r < n → n - r ≡ suc (n - (r + 1))
@@ -88,3 +93,67 @@ first-is f d k le hit miss = go (ltb m k) (ltb k m) refl refl
 -- a search begins with all its numbers to try
 pub first-all : (f : ℕ → Bool) (n : ℕ) → first_of f (n - 0) 0 ≡ first_of f n 0
 first-all f n = ap (λ (d : ℕ). first_of f d 0) (omega arith)
+
+-- a search that found m, or nothing
+pub found-here : (f : ℕ → Bool) (n m : ℕ) → m < n → first_of f n 0 ≡ m → Some m ≡ found_of f n
+unfolding found_of
+found-here f n m h e = rw (e, lt-ltb m n h)
+
+pub found-none : (f : ℕ → Bool) (n m : ℕ) → n ≤ m → first_of f n 0 ≡ m → None ≡ found_of f n
+unfolding found_of
+found-none f n m h e = rw (e, le-ltb m n h)
+
+-- what it found
+pub found-first : (f : ℕ → Bool) (n : ℕ) {m : ℕ} → found_of f n ≡ Some m → (first_of f n 0 ≡ m) × (m < n)
+unfolding found_of
+found-first f n {m} e = go (ltb (first_of f n 0) n) refl e
+  where
+    go : (b : Bool) → ltb (first_of f n 0) n ≡ b → pick b (Some (first_of f n 0)) None ≡ Some m → (first_of f n 0 ≡ m) × (m < n)
+    go true q e = let o : first_of f n 0 ≡ m = cc in (o, omega (arith, ltb-true (first_of f n 0) n q, o))
+    go false q e = let z : ◌≡◌ {A = ℕ} 0 1 = cc in absurd (omega arith)
+
+pub found-not : (f : ℕ → Bool) (n : ℕ) → found_of f n ≡ None → n ≤ first_of f n 0
+unfolding found_of
+found-not f n e = go (ltb (first_of f n 0) n) refl e
+  where
+    go : (b : Bool) → ltb (first_of f n 0) n ≡ b → pick b (Some (first_of f n 0)) None ≡ None → n ≤ first_of f n 0
+    go true q e = let z : ◌≡◌ {A = ℕ} 0 1 = cc in absurd (omega arith)
+    go false q e = ltb-false (first_of f n 0) n q
+
+-- ---- a search along a list
+
+first-shift : (f : ℕ → Bool) (d r : ℕ) → first_of f d (r + 1) ≡ 1 + first_of (λ k. f (suc k)) d r
+unfolding first_of
+first-shift f zero r = omega arith
+first-shift f (suc d) r = ap (λ (b : Bool). pick b (r + 1) (first_of f d (r + 1 + 1))) (ap f (add-one r)) ∙ go (f (suc r)) (first-shift f d (r + 1))
+  where
+    go : (b : Bool) → first_of f d (r + 1 + 1) ≡ 1 + first_of (λ k. f (suc k)) d (r + 1) → pick b (r + 1) (first_of f d (r + 1 + 1)) ≡ 1 + pick b r (first_of (λ k. f (suc k)) d (r + 1))
+    go true e = omega arith
+    go false e = e
+
+pub first-position : {A : Type 0} (p : A → Bool) (d : A) (xs : List A) (f : ℕ → Bool) → ((k : ℕ) → k < length xs → p (get_or xs k d) ≡ f k) → position_or_len p xs ≡ first_of f (length xs) 0
+unfolding first_of
+first-position p d [] f same = refl
+first-position p d (x ∷ xs) f same =
+    ap (λ (b : Bool). cond (not b) (1 + position_or_len p xs) 0) (same 0 (omega arith))
+    ∙ go (f 0) (first-position p d xs (λ k. f (suc k)) (λ k l. same (suc k) (omega arith)))
+  where
+    go : (b : Bool) → position_or_len p xs ≡ first_of (λ k. f (suc k)) (length xs) 0
+        → cond (not b) (1 + position_or_len p xs) 0 ≡ pick b 0 (first_of f (length xs) (0 + 1))
+    go true e = refl
+    go false e = ap (λ (n : ℕ). 1 + n) e ∙ sym (first-shift f (length xs) 0)
+
+-- what `position` answers is what a search over the places finds
+pub found-position : {A : Type 0} (p : A → Bool) (d : A) (xs : List A) (f : ℕ → Bool) (r : Option ℕ) → ((k : ℕ) → k < length xs → p (get_or xs k d) ≡ f k)
+    → r ≡ cond (ltb (position_or_len p xs) (length xs)) (Some (position_or_len p xs)) None
+    → MatchOption r (length xs ≤ first_of f (length xs) 0) (λ q. (q < length xs) × (q ≡ first_of f (length xs) 0))
+found-position p d xs f r same e =
+    subst (λ (o : Option ℕ). MatchOption o (length xs ≤ m) (λ q. (q < length xs) × (q ≡ m)))
+    (sym (e ∙ ap (λ (n : ℕ). cond (ltb n (length xs)) (Some n) None) (first-position p d xs f same))) (go (ltb m (length xs)) refl)
+  where
+    m : ℕ
+    m = first_of f (length xs) 0
+
+    go : (b : Bool) → ltb m (length xs) ≡ b → MatchOption (cond b (Some m) None) (length xs ≤ m) (λ q. (q < length xs) × (q ≡ m))
+    go true h = (ltb-true m (length xs) h, refl)
+    go false h = ltb-false m (length xs) h

@@ -8,5 +8,7 @@ pub mod Turn
 pub mod Comb
 pub mod Dot
 pub mod Finding
+pub mod Searching
 pub mod Deciding
 pub mod Storing
+pub mod Making

@@ -7,6 +7,7 @@ ghost use Rattle.sets.specs.Bit.{has};
 ghost use Rattle.sets.specs.Size.{size_of, lowest_of, single_of, only_of};
 
 // How many qubits x has.
+#[tactic(auto, unfolding(crate::specs::Size::size_of))]
 pub fn size(x: u32) -> usize
     ensures { result ≡ size_of x }
 {
@@ -14,12 +15,14 @@ pub fn size(x: u32) -> usize
 }
 
 // The lowest qubit of x; 32 where x is empty.
+#[tactic(auto, unfolding(crate::specs::Size::lowest_of))]
 pub fn lowest(x: u32) -> usize
     ensures { result ≡ lowest_of x }
 {
     u32::trailing_zeros(x) as usize
 }
 
+#[tactic(auto, unfolding(crate::specs::Size::single_of))]
 pub fn single(x: u32) -> bool
     ensures { result ≡ single_of x }
 {
@@ -36,5 +39,5 @@ pub fn only(q: usize) -> u32
 pub fn holds(x: u32, q: usize) -> bool
     ensures { result ≡ has x q }
 {
-    if q < 32 { (x >> q) % 2 == 1 } else { false }
+    q < 32 && (x >> q) % 2 == 1
 }

@@ -4,6 +4,7 @@ ghost use Rattle.share.specs.Own.{mine, own_sets, inside_of};
 ghost use Rattle.share.specs.OwnTable.{masked_sum, masked_sums, own_table, own_of};
 
 use gates::job::Job;
+use std::array;
 use table::sums::Sums;
 
 #[derive(Clone, Copy)]
@@ -15,12 +16,14 @@ pub struct Own {
     pub mirror: [u32; Job::QUBITS],
 }
 
+#[tactic(auto, unfolding(crate::specs::Own::inside_of))]
 pub fn inside(set: u32, p: u32) -> bool
     ensures { result ≡ inside_of set p }
 {
     p & set == p
 }
 
+#[tactic(auto, unfolding(crate::specs::Own::mine))]
 fn own_set(set: u32, i: usize, x: u32) -> u32
     ensures { result ≡ mine set i x }
 {
@@ -31,13 +34,10 @@ fn own_set(set: u32, i: usize, x: u32) -> u32
 fn own_sets(set: u32, xs: [u32; Job::QUBITS]) -> [u32; Job::QUBITS]
     ensures { result ≡ own_sets set xs }
 {
-    let mut own = [0u32; 20];
-    for i in 0..Job::QUBITS {
-        own[i] = own_set(set, i, xs[i]);
-    }
-    own
+    array::from_fn(|i| own_set(set, i, xs[i]))
 }
 
+#[tactic(auto, unfolding(crate::specs::OwnTable::masked_sum))]
 fn own_sum(set: u32, p: u32, a: u32) -> u32
     ensures { result ≡ masked_sum set p a }
 {
@@ -52,25 +52,15 @@ fn own_sums(
 ) -> [u32; Job::PARITIES]
     ensures { result ≡ masked_sums set parity sum }
 {
-    let mut own = [0u32; 256];
-    for k in 0..Job::PARITIES {
-        own[k] = own_sum(set, parity[k], sum[k]);
-    }
-    own
+    array::from_fn(|k| own_sum(set, parity[k], sum[k]))
 }
 
 // The terms inside the island.
 fn own_terms(set: u32, s: Sums) -> Sums
     ensures { result ≡ own_table set s }
 {
-    let parity = s.parity;
-    let sum = s.sum;
-    let own = Sums {
-        parity,
-        sum: own_sums(set, parity, sum),
-        len: s.len,
-    };
-    own.terms()
+    let sum = own_sums(set, s.parity, s.sum);
+    Sums { sum, ..s }.terms()
 }
 
 pub fn handed(

@@ -11,9 +11,9 @@ fn beside(near: [u32; Job::QUBITS], set: u32) -> u32
     ensures { result ≡ nbrs set near }
 {
     let mut all = 0;
-    for u in 0..Job::QUBITS {
+    for (u, &neighbours) in near.iter().enumerate() {
         if sets::holds(set, u) {
-            all = all | near[u];
+            all |= neighbours;
         }
     }
     all
@@ -37,8 +37,5 @@ pub fn connected(near: [u32; Job::QUBITS], set: u32) -> bool
 pub fn spare(near: [u32; Job::QUBITS], set: u32, q: usize) -> bool
     ensures { result ≡ spare_of near set q }
 {
-    if sets::holds(set, q) {
-        return connected(near, set ^ sets::only(q));
-    }
-    false
+    sets::holds(set, q) && connected(near, set ^ sets::only(q))
 }

@@ -1,13 +1,13 @@
 -- Words with their places: where words stand that are spelt so, a statement is read, and what stands behind them is left. Assumes nothing.
+use Rattle.std.specs.Prelude.{Some}
 use mathlib.Core.Path.{◌≡◌, refl, sym, ap, ◌∙◌}
 use mathlib.Core.List.{List, [], ◌∷◌, ◌++◌, map}
-use mathlib.Core.Option.{some}
 use Prim.Native.Nat.{ℕ, suc}
 use native.Mathlib.Omega.{arith}
 use lib.ListN.{length, get_or, length-append}
 use Rattle.words.specs.Words.{Word, bodies}
 use Rattle.versions.specs.declared.Version.{Version}
-use Rattle.statements.specs.Statements.{read_gate}
+use Rattle.statements.specs.Statements.{Said, read_gate}
 use Rattle.statements.specs.Forms.{Form, GoodForm, form_words, form_record, form_phase}
 use Rattle.statements.proofs.Forth.{tag, tag-bodies, after_form, gate-forth}
 use Rattle.statements.proofs.Back.{gate-said-back}
@@ -57,11 +57,12 @@ tagged ws t bs e = tag-bodies (ws ++ t) ∙ ap (λ l. tag (places_of (ws ++ t)) 
 
 -- THEOREM: where a form stands, what it says is read, and the words behind it are left
 pub gate-on : (v : Version) (name : List ℕ) (f : Form) (ws t : List Word) → GoodForm v f → bodies ws ≡ form_words name f
-    → read_gate v name (some (ws ++ t)) ≡ record { records = form_record f; phase = form_phase v f; rest = some t }
+    → read_gate v name (Some (ws ++ t)) ≡ Some (record { records = form_record f; phase = form_phase v f; rest = t })
 gate-on v name f ws t h e =
     let u = tag (after_form f (places_of (ws ++ t))) (bodies t) in
-    let g : read_gate v name (some (ws ++ t)) ≡ record { records = form_record f; phase = form_phase v f; rest = some u } = ap (λ l. read_gate v name (some l)) (tagged ws t (form_words name f) e) ∙ gate-forth v name f (places_of (ws ++ t)) (bodies t) h in
-    let b = gate-said-back v name (some (ws ++ t)) {bs = []} {t = u} (record { words = []; same = ap (λ x. x.rest) g; spelt = refl }) in
+    let r : Said = record { records = form_record f; phase = form_phase v f; rest = u } in
+    let g : read_gate v name (Some (ws ++ t)) ≡ Some r = ap (λ l. read_gate v name (Some l)) (tagged ws t (form_words name f) e) ∙ gate-forth v name f (places_of (ws ++ t)) (bodies t) h in
+    let b = gate-said-back v name (Some (ws ++ t)) {bs = []} {t = u} r g (record { words = []; same = refl; spelt = refl }) in
     let s : ws ++ t ≡ b.leads.words ++ u = cc b.leads.same in
     let l : length t ≡ length u = sym (tag-length _ (bodies t) ∙ bodies-length t) in
-    g ∙ ap (λ x. record { records = form_record f; phase = form_phase v f; rest = some x }) (sym (same-behind ws b.leads.words t u s l))
+    g ∙ ap (λ x. Some (record { records = form_record f; phase = form_phase v f; rest = x })) (sym (same-behind ws b.leads.words t u s l))

@@ -5,104 +5,81 @@ ghost use Rattle.statements.specs.Statements.{read_many, read_times, read_divide
 
 use crate::mark;
 use angles::{Multiple, Scale};
-use spots::spot::{Fetched, Spot};
+use spots::spot::Fetched;
 use words::take;
 
 // `k*pi`
-fn many(text: &[u8], from: Spot, scale: Scale) -> Fetched
+#[tactic(auto, unfolding(crate::specs::Statements::read_many))]
+fn many(text: &[u8], from: Option<usize>, scale: Scale) -> Option<Fetched>
     ensures { got_words text.now result ≡ read_many scale (words_at text.now from) }
 {
-    let k = take::number(text, from, angles::most_times(scale));
-    let k_next = k.next;
-    let star = mark::mark(text, k_next, b'*');
-    let end = mark::pi(text, star);
-    Fetched {
+    let k = take::number(text, from, angles::most_times(scale))?;
+    let star = mark::mark(text, Some(k.next), b'*');
+    let next = mark::pi(text, star)?;
+    Some(Fetched {
         value: k.value,
-        next: end,
-    }
+        next,
+    })
 }
 
 // `0`, `pi` or `k*pi`
-fn times(text: &[u8], from: Spot, scale: Scale) -> Fetched
+#[tactic(auto, unfolding(crate::specs::Statements::read_times))]
+fn times(text: &[u8], from: Option<usize>, scale: Scale) -> Option<Fetched>
     ensures { got_words text.now result ≡ read_times scale (words_at text.now from) }
 {
-    let once = mark::pi(text, from);
-    match once {
-        Spot::At(_) => Fetched {
-            value: 1,
-            next: once,
-        },
-        Spot::Lost => {
-            let m = many(text, from, scale);
-            let m_next = m.next;
-            match m_next {
-                Spot::At(_) => m,
-                Spot::Lost => {
-                    let zero = mark::mark(text, from, b'0');
-                    Fetched {
-                        value: 0,
-                        next: zero,
-                    }
-                }
-            }
-        }
-    }
+    let once = mark::pi(text, from).map(|next| Fetched { value: 1, next });
+    once.or_else(|| many(text, from, scale)).or_else(|| mark::mark(text, from, b'0').map(
+        |next| Fetched { value: 0, next },
+    ))
 }
 
 // `/` and a power of two
-fn divided(text: &[u8], from: Spot, scale: Scale) -> Fetched
-    ensures { got_words text.now result ≡ read_divided scale (words_at text.now from) }
+#[tactic(auto, unfolding(crate::specs::Statements::read_divided))]
+fn divided(text: &[u8], from: usize, scale: Scale) -> Option<Fetched>
+    ensures { got_words text.now result ≡ read_divided scale (words_at text.now (Some from)) }
 {
-    let slash = mark::mark(text, from, b'/');
-    let d = take::number(text, slash, angles::most_times(scale));
-    if angles::is_over(scale, d.value) {
-        return d;
-    }
-    Fetched {
-        value: d.value,
-        next: Spot::Lost,
-    }
+    let slash = mark::mark(text, Some(from), b'/');
+    let d = take::number(text, slash, angles::most_times(scale))?;
+    let is_power = angles::is_over(scale, d.value);
+    if is_power { Some(d) } else { None }
 }
 
-fn over(text: &[u8], from: Spot, scale: Scale) -> Fetched
-    ensures { got_words text.now result ≡ read_divisor scale (words_at text.now from) }
+// Over 1 where nothing of that stands there.
+#[tactic(auto, unfolding(crate::specs::Statements::read_divisor))]
+fn over(text: &[u8], from: usize, scale: Scale) -> Fetched
+    ensures { got_words text.now (Some result) ≡ read_divisor scale (words_at text.now (Some from)) }
 {
-    let d = divided(text, from, scale);
-    let d_next = d.next;
-    match d_next {
-        Spot::At(_) => d,
-        Spot::Lost => Fetched {
-            value: 1,
-            next: from,
-        },
-    }
+    let plain = Fetched {
+        value: 1,
+        next: from,
+    };
+    divided(text, from, scale).unwrap_or(plain)
 }
 
-fn multiple(text: &[u8], from: Spot, scale: Scale, minus: bool) -> Fetched
+#[tactic(auto, unfolding(crate::specs::Statements::read_multiple))]
+fn multiple(text: &[u8], from: Option<usize>, scale: Scale, minus: bool) -> Option<Fetched>
     ensures { got_words text.now result ≡ read_multiple scale minus (words_at text.now from) }
 {
-    let k = times(text, from, scale);
-    let k_next = k.next;
-    let d = over(text, k_next, scale);
-    let d_next = d.next;
+    let k = times(text, from, scale)?;
+    let d = over(text, k.next, scale);
     let m = Multiple {
         minus,
         k: k.value,
         over: d.value,
     };
-    let count = m.count(scale);
-    Fetched {
-        value: count,
-        next: d_next,
-    }
+    Some(Fetched {
+        value: m.count(scale),
+        next: d.next,
+    })
 }
 
-pub(crate) fn angle(text: &[u8], from: Spot, scale: Scale) -> Fetched
+#[tactic(auto, unfolding(crate::specs::Statements::read_angle))]
+pub(crate) fn angle(text: &[u8], from: Option<usize>, scale: Scale) -> Option<Fetched>
     ensures { got_words text.now result ≡ read_angle scale (words_at text.now from) }
 {
     let minus = mark::mark(text, from, b'-');
     match minus {
-        Spot::At(_) => multiple(text, minus, scale, true),
-        Spot::Lost => multiple(text, from, scale, false),
+        Some(_) => multiple(text, minus, scale, true),
+        None => multiple(text, from, scale, false),
     }
 }

@@ -1,13 +1,11 @@
 -- The tests of one column, and counts of columns, as the loops go. Assumes nothing.
 use mathlib.Core.Path.{◌≡◌, refl, sym, ap, ap₂, ◌∙◌}
-use mathlib.Core.Bool.{Bool, true, false, not}
+use mathlib.Core.Bool.{Bool, true, false}
 use mathlib.Core.List.{List}
-use Prim.Native.Nat.{ℕ, ◌+◌, ◌-◌, ◌≤◌, ◌<◌, min}
+use Prim.Native.Nat.{ℕ, ◌+◌, ◌≤◌, ◌<◌, min}
 use native.Mathlib.Omega.{arith}
-use lib.Dec.{eqb}
 use native.Mathlib.Decide.{dec_lt}
 use lib.ListN.{length, get_or, replicate, length-replicate, get_or-replicate, get_or-eq_default}
-use borrow.Author.Tests.{eq-eqb, ne_eqb}
 use Rattle.sets.specs.Pick.{both}
 use Rattle.sets.specs.Bit.{has}
 use Rattle.sets.proofs.Deciding.{both-no}
@@ -15,72 +13,35 @@ use Rattle.sets.proofs.Bits.{bit-of-zero}
 use Rattle.sets.proofs.Words.{out-has}
 use Rattle.sets.specs.Tables.{tab, sum_to, one}
 use Rattle.sets.proofs.Tabling.{Filled, filled-all, Marked, marked_all, tab-length, tab-at, tab-ext, sum-zero, sum-next, sum-front, sum_ones, one-le}
-use Rattle.steps.specs.Selection.{count_of, zero_at, one_at, zeros_of, ones_of, live_of, row_of, Few, tallied_of}
+use Rattle.steps.specs.Selection.{count_of, zero_at, one_at, row_of, Few, tallied_of}
 use Rattle.steps.specs.Choice.{more_of, equal_of}
 
-pub one-yes : (r x : ℕ) (s b : Bool) → s ≡ true → b ≡ has x r → b ≡ one_at r s x
+-- what is struck off has no ones
+pub one-struck : (r : ℕ) (s : Bool) → one_at r s 0 ≡ false
 unfolding one_at
-one-yes r x s b e h = h ∙ sym (ap (λ (t : Bool). both t (has x r)) e)
+one-struck r s = ap (both s) (out-has 0 r (bit-of-zero r)) ∙ both-no s false refl
 
-pub one-no : (r x : ℕ) (s : Bool) → s ≡ false → false ≡ one_at r s x
-unfolding one_at
-one-no r x s e = sym (ap (λ (t : Bool). both t (has x r)) e)
+-- nor zeros
+pub zero-struck : (r : ℕ) (s : Bool) → zero_at r s 0 ≡ false
+unfolding zero_at
+zero-struck r true = refl
+zero-struck r false = refl
+
+-- marks up to the columns' end are all marks, where what is struck off has none
+pub marked-all : (f : Bool → ℕ → Bool) → ((s : Bool) → f s 0 ≡ false) → (sel : List Bool) (xs : List ℕ) (n k : ℕ) → n ≡ min (length xs) 256 → n ≤ k → (z : List Bool) → length z ≡ 256
+    → Marked (λ j. f (get_or sel j false) (get_or xs j 0)) k z → z ≡ tab 256 (λ j. f (get_or sel j false) (get_or xs j 0))
+marked-all f h sel xs n k en l z e m =
+    marked_all (λ j. f (get_or sel j false) (get_or xs j 0)) 256 k z e m
+    (λ j a b. ap (f (get_or sel j false)) (get_or-eq_default xs 0 {n = j} (omega (arith, en, l))) ∙ h (get_or sel j false))
 
 pub one-at-le : (r : ℕ) (s : Bool) (x : ℕ) → one (one_at r s x) ≤ one s
 unfolding one_at
 one-at-le r true x = one-le (has x r)
 one-at-le r false x = omega arith
 
-module _ (r x : ℕ) (s : Bool) where
-  pub zero-no : s ≡ false → false ≡ zero_at r s x
-  unfolding zero_at
-  zero-no e = sym (ap (λ (t : Bool). both t (both (not (eqb x 0)) (not (has x r)))) e)
-
-  pub zero-struck : s ≡ true → x ≡ 0 → false ≡ zero_at r s x
-  unfolding zero_at
-  zero-struck e z = rw (e, eq-eqb x 0 z)
-
-  pub zero_one : s ≡ true → (x ≡ 0 → ⊥) → has x r ≡ true → false ≡ zero_at r s x
-  unfolding zero_at
-  zero_one e n h = rw (e, ne_eqb x 0 n, h)
-
-  pub zero-yes : s ≡ true → (x ≡ 0 → ⊥) → has x r ≡ false → true ≡ zero_at r s x
-  unfolding zero_at
-  zero-yes e n h = rw (e, ne_eqb x 0 n, h)
-
--- ---- marking, to the end of the columns
-
-module _ (xs : List ℕ) (n k : ℕ) (en : n ≡ min (length xs) 256) (all : n ≤ k) where
-  past : (j : ℕ) → k ≤ j → j < 256 → get_or xs j 0 ≡ 0
-  past j h l = get_or-eq_default xs 0 {n = j} (omega (arith, en, all))
-
-  ones-past : (r : ℕ) (sel : List Bool) (j : ℕ) → k ≤ j → j < 256 → one_at r (get_or sel j false) (get_or xs j 0) ≡ false
-  unfolding one_at
-  ones-past r sel j h l = ap (λ (x : ℕ). both (get_or sel j false) (has x r)) (past j h l) ∙ ap (both (get_or sel j false)) (out-has 0 r (bit-of-zero r)) ∙ both-no (get_or sel j false) false refl
-
-  zeros-past : (r : ℕ) (sel : List Bool) (j : ℕ) → k ≤ j → j < 256 → zero_at r (get_or sel j false) (get_or xs j 0) ≡ false
-  zeros-past r sel j h l = go (get_or sel j false) refl
-    where
-      go : (s : Bool) → get_or sel j false ≡ s → zero_at r (get_or sel j false) (get_or xs j 0) ≡ false
-      go true e = sym (zero-struck r (get_or xs j 0) (get_or sel j false) e (past j h l))
-      go false e = sym (zero-no r (get_or xs j 0) (get_or sel j false) e)
-
-  module _ (z : List Bool) (wide : length z ≡ 256) where
-    pub ones-all : (r : ℕ) (sel : List Bool) → Marked (λ j. one_at r (get_or sel j false) (get_or xs j 0)) k z → z ≡ ones_of r sel xs
-    unfolding ones_of
-    ones-all r sel m = marked_all (λ j. one_at r (get_or sel j false) (get_or xs j 0)) 256 k z wide m (ones-past r sel)
-
-    pub zeros-all : (r : ℕ) (sel : List Bool) → Marked (λ j. zero_at r (get_or sel j false) (get_or xs j 0)) k z → z ≡ zeros_of r sel xs
-    unfolding zeros_of
-    zeros-all r sel m = marked_all (λ j. zero_at r (get_or sel j false) (get_or xs j 0)) 256 k z wide m (zeros-past r sel)
-
-    pub live_all : Marked (λ j. not (eqb (get_or xs j 0) 0)) k z → z ≡ live_of xs
-    unfolding live_of
-    live_all m = marked_all (λ j. not (eqb (get_or xs j 0) 0)) 256 k z wide m (λ j h l. ap not (eq-eqb (get_or xs j 0) 0 (past j h l)))
-
 -- ---- counting
 
--- the columns selected among the first k, and the ones of row q among them
+-- the columns selected of the first k, and the ones of row q among them
 unfoldable pub counted : List Bool → ℕ → ℕ
 counted sel k = sum_to k (λ j. one (get_or sel j false))
 
@@ -101,9 +62,9 @@ module _ (sel : List Bool) where
   unfolding counted
   counted-small k n e = omega (arith, e, sum_ones k (λ j. one (get_or sel j false)) (λ j l. one-le (get_or sel j false)))
 
-  pub counted-all : (k n : ℕ) → 256 ≤ k → k ≤ 256 → n ≡ counted sel k → n ≡ count_of sel
+  pub counted-all : (k n : ℕ) → k ≡ 256 → n ≡ counted sel k → n ≡ count_of sel
   unfolding counted count_of
-  counted-all k n h l e = e ∙ ap (λ (i : ℕ). sum_to i (λ j. one (get_or sel j false))) (omega arith)
+  counted-all k n h e = e ∙ ap (λ (i : ℕ). sum_to i (λ j. one (get_or sel j false))) h
 
   pub count_most : count_of sel ≤ 256
   unfolding count_of
@@ -124,10 +85,16 @@ module _ (q : ℕ) (sel : List Bool) (xs : List ℕ) where
   unfolding row_to
   row_small k n e = omega (arith, e, sum_ones k (λ j. one (one_at q (get_or sel j false) (get_or xs j 0))) (λ j l. one-le (one_at q (get_or sel j false) (get_or xs j 0))))
 
-  pub row-all : (n k m : ℕ) → n ≡ min (length xs) 256 → n ≤ k → k ≤ n → m ≡ row_to q sel xs k → m ≡ row_of sel xs q
+  pub row-all : (k m : ℕ) → k ≡ 256 → m ≡ row_to q sel xs k → m ≡ row_of sel xs q
   unfolding row_to row_of
-  row-all n k m en h l e =
-      e ∙ sym (sum-front 256 k (λ j. one (one_at q (get_or sel j false) (get_or xs j 0))) (omega (arith, en)) (λ j a b. ap one (ones-past xs n k en h q sel j a b)))
+  row-all k m e h = h ∙ ap (λ (i : ℕ). sum_to i (λ j. one (one_at q (get_or sel j false) (get_or xs j 0)))) e
+
+  pub row-front : (n k m : ℕ) → n ≡ min (length xs) 256 → n ≤ k → k ≤ n → m ≡ row_to q sel xs k → m ≡ row_of sel xs q
+  unfolding row_to row_of
+  row-front n k m en h l e =
+      e
+      ∙ sym (sum-front 256 k (λ j. one (one_at q (get_or sel j false) (get_or xs j 0))) (omega (arith, en))
+      (λ j a b. ap one (ap (one_at q (get_or sel j false)) (get_or-eq_default xs 0 {n = j} (omega (arith, en, h))) ∙ one-struck q (get_or sel j false))))
 
 -- ---- the ones of all rows
 
@@ -148,33 +115,25 @@ module _ (sel : List Bool) (xs : List ℕ) where
       go (no h) = omega (arith, get_or-eq_default z 0 {n = q} (omega (arith, r.wide)))
 
   pub rows-tallied : (k x : ℕ) (z z' : List ℕ) → get_or sel k false ≡ true → x ≡ get_or xs k 0 → z' ≡ tallied_of x z → RowsCounted k z → RowsCounted (k + 1) z'
-  unfolding tallied_of
+  unfolding tallied_of one_at
   rows-tallied k x z z' e ex ez r = record {
     wide = ap length ez ∙ tab-length 20 (λ q. get_or z q 0 + one (has x q));
     ones = λ q l.
-        row_next q sel xs k (get_or z q 0) (get_or z' q 0) x (has x q) (one-yes q x (get_or sel k false) (has x q) e refl) ex (r.ones q l)
+        row_next q sel xs k (get_or z q 0) (get_or z' q 0) x (has x q) (sym (ap (λ (s : Bool). both s (has x q)) e)) ex (r.ones q l)
         (ap (λ (y : List ℕ). get_or y q 0) ez ∙ tab-at 20 (λ q. get_or z q 0 + one (has x q)) q 0 l);
   }
 
   pub rows-passed : (k : ℕ) (z : List ℕ) → get_or sel k false ≡ false → RowsCounted k z → RowsCounted (k + 1) z
+  unfolding one_at
   rows-passed k z e r = record {
     wide = r.wide;
-    ones = λ q l. row_next q sel xs k (get_or z q 0) (get_or z q 0) (get_or xs k 0) false (one-no q (get_or xs k 0) (get_or sel k false) e) refl (r.ones q l) (omega arith);
+    ones = λ q l. row_next q sel xs k (get_or z q 0) (get_or z q 0) (get_or xs k 0) false (sym (ap (λ (s : Bool). both s (has (get_or xs k 0) q)) e)) refl (r.ones q l) (omega arith);
   }
 
-  pub rows_all : (n k : ℕ) (z : List ℕ) → n ≡ min (length xs) 256 → n ≤ k → k ≤ n → RowsCounted k z → z ≡ tab 20 (row_of sel xs)
-  rows_all n k z en h l r = filled-all 0 (row_of sel xs) 20 20 z r.wide (omega arith) (λ q b. row-all q sel xs n k (get_or z q 0) en h l (r.ones q b))
+  pub rows_all : (k : ℕ) (z : List ℕ) → k ≡ 256 → RowsCounted k z → z ≡ tab 20 (row_of sel xs)
+  rows_all k z e r = filled-all 0 (row_of sel xs) 20 20 z r.wide (omega arith) (λ q b. row-all q sel xs k (get_or z q 0) e (r.ones q b))
 
 -- ---- equal entries
-
-module _ (n o : ℕ) where
-  pub more-zeros : o < n - o → n - o ≡ more_of n o
-  unfolding more_of
-  more-zeros h = omega arith
-
-  pub more-ones : n - o ≤ o → o ≡ more_of n o
-  unfolding more_of
-  more-ones h = omega arith
 
 -- from the ones of all rows to their equal entries
 pub equal-all : (sel : List Bool) (xs : List ℕ) (n : ℕ) (os : List ℕ) → n ≡ count_of sel → os ≡ tab 20 (row_of sel xs) → tab 20 (λ q. more_of n (get_or os q 0)) ≡ tab 20 (equal_of sel xs)

@@ -1,5 +1,5 @@
 -- The two steps unfolded: each law is what a return of the code asks. Assumes nothing.
-use mathlib.Core.Path.{◌≡◌, refl, sym, ap, ◌∙◌}
+use mathlib.Core.Path.{◌≡◌, refl, sym, ap, ◌∙◌, subst}
 use mathlib.Core.Logic.{◌≢◌}
 use mathlib.Core.Bool.{Bool}
 use mathlib.Core.List.{List}
@@ -11,6 +11,9 @@ use Rattle.sets.specs.Pick.{pick}
 use Rattle.columns.specs.Pieces.{Piece, idle, followed_by, Memory, held, wrote}
 use Rattle.columns.specs.Turning.{lay_cnot}
 use Rattle.columns.specs.Striking.{strike_off}
+use Rattle.columns.specs.Worked.{Worked}
+use Rattle.columns.specs.declared.work.Work.{Work}
+use Rattle.columns.proofs.Working.{same-then}
 use Rattle.columns.proofs.Piecing.{wrote_none, wrote_on}
 use Rattle.steps.specs.Selection.{count_of, zeros_of, ones_of, row_of}
 use Rattle.steps.specs.Choice.{sparing, without, partner}
@@ -36,6 +39,14 @@ module _ (r m n : ℕ) (xs : List ℕ) where
   pub moved_on : (angles out : List ℕ) (at : ℕ) {ys o : List ℕ} {a : ℕ} {w : Memory} → held ys o a ≡ wrote out at (crossed r m n xs) → w ≡ wrote o a (strike_off angles ys) → w ≡ wrote out at (moved angles r m n xs)
   unfolding moved
   moved_on angles out at h g = wrote_on out at (crossed r m n xs) (strike_off angles) h g
+
+module _ (r m n : ℕ) {w v u : Work} where
+  pub crossed-both : n ≡ 0 → Worked w v (lay_cnot m r w.cols.now) → Worked v u (lay_cnot r m v.cols.now) → Worked w u (crossed r m n w.cols.now)
+  crossed-both e a b = record { same = same-then a.same b.same; memory = crossed-twice r m n w.cols.now w.out.now w.at e a.memory b.memory }
+
+  pub crossed-straight : n ≢ 0 → v ≡ w → Worked v u (lay_cnot r m v.cols.now) → Worked w u (crossed r m n w.cols.now)
+  crossed-straight ne e b =
+      subst (λ (x : Work). Worked x u (crossed r m n x.cols.now)) e (record { same = b.same; memory = crossed-once r m n v.cols.now v.out.now v.at ne b.memory })
 
 -- ---- the base step
 

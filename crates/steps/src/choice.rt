@@ -1,5 +1,5 @@
 // The qubits that the steps choose.
-ghost use Rattle.std.specs.Prelude.{◌≡◌, get_or};
+ghost use Rattle.std.specs.Prelude.{◌≡◌, ◌≤◌, ◌<◌, get_or, MatchOption};
 ghost use Rattle.sets.specs.Bit.{has};
 ghost use Rattle.gates.specs.Limits.{most_qubits};
 ghost use Rattle.spares.specs.Spare.{spare_of};
@@ -10,6 +10,7 @@ use crate::selection;
 use chip::search;
 use gates::job::Job;
 use spares::spare;
+use std::array;
 
 // Of the qubits that may be taken and are worth less than `over` the one of most worth, the lowest in
 // a tie; 20 where there is none.
@@ -32,37 +33,18 @@ pub fn best(may: [bool; Job::QUBITS], worth: [usize; Job::QUBITS], over: usize) 
     found
 }
 
-fn more(n: usize, ones: usize) -> usize
-    ensures { result ≡ more_of n ones }
-{
-    if ones < n {
-        if n - ones > ones {
-            return n - ones;
-        }
-    }
-    ones
-}
-
 // The equal entries of rows of n entries, of which so many are ones.
 fn equals(n: usize, ones: [usize; Job::QUBITS]) -> [usize; Job::QUBITS]
     ensures { result ≡ tab most_qubits (λ q. more_of n (get_or ones q 0)) }
 {
-    let mut z = [0; Job::QUBITS];
-    for q in 0..Job::QUBITS {
-        z[q] = more(n, ones[q]);
-    }
-    z
+    ones.map(|o| n.saturating_sub(o).max(o))
 }
 
 // The spare qubits of `set`.
 pub fn spares(near: [u32; Job::QUBITS], set: u32) -> [bool; Job::QUBITS]
     ensures { result ≡ tab most_qubits (spare_of near set) }
 {
-    let mut z = [false; Job::QUBITS];
-    for q in 0..Job::QUBITS {
-        z[q] = spare::spare(near, set, q);
-    }
-    z
+    array::from_fn(|q| spare::spare(near, set, q))
 }
 
 // The spare qubit whose row has most equal entries.
@@ -94,11 +76,7 @@ pub fn neighbours(near: [u32; Job::QUBITS], set: u32, r: usize) -> u32
 pub fn members(set: u32) -> [bool; Job::QUBITS]
     ensures { result ≡ tab most_qubits (has set) }
 {
-    let mut z = [false; Job::QUBITS];
-    for q in 0..Job::QUBITS {
-        z[q] = sets::holds(set, q);
-    }
-    z
+    array::from_fn(|q| sets::holds(set, q))
 }
 
 // The neighbour of r in `set` with most ones.

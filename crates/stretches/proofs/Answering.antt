@@ -8,15 +8,16 @@ use lib.Dec.{eqb, ltb}
 use lib.ListN.{length, take, drop}
 use lib.Seq.{sets, sets-eq, length-sets, take-append_seam, length-take-le}
 use borrow.Author.Tests.{eq-eqb, ne_eqb, ltb-false}
+use Rattle.std.specs.Prelude.{Ok, Err}
 use Rattle.sets.specs.Pick.{pick}
 use Rattle.gates.specs.Layout.{gates_of}
-use Rattle.verdicts.specs.declared.verdict.Verdict.{Verdict}
-use Rattle.verdicts.specs.declared.verdict.Verdict.TheVariants.{Accepted, Room}
-use Rattle.verdicts.specs.Verdicts.{number_of}
-use Rattle.verdicts.proofs.Judged.{zero-accepted, then-on, then-stop}
-use Rattle.laying.specs.Answers.{counts_of}
-use Rattle.laying.specs.declared.lay.Answer.{Answer}
-use Rattle.laying.specs.declared.lay.Answer.TheVariants.{Refused}
+use Rattle.verdicts.specs.declared.verdict.Refusal.{Refusal}
+use Rattle.verdicts.specs.declared.verdict.Refusal.TheVariants.{Room}
+use Rattle.verdicts.specs.Verdicts.{Verdict, number_of}
+use Rattle.verdicts.proofs.Judged.{zero-accepted, stopped, then-on, then-stop}
+use Rattle.laying.specs.Answers.{Answer, counts_of}
+use Rattle.laying.proofs.Going.{going, going-accepted}
+use Rattle.laying.specs.declared.lay.Laid.{Laid}
 use Rattle.stretches.specs.Stretches.{stretches_of}
 use Rattle.stretches.specs.Tests.{judged_five, judged_parities_from, judged_reaches, job_bound, judged_bound, judged_stretches, job_verdict}
 use Rattle.stretches.specs.Laid.{job_records, job_phase, job_answered, job_output}
@@ -42,7 +43,7 @@ module _ (n : ℕ) (xs ys : List ℕ) where
   unfolding judged_bound
   room-enough room e = go (ltb room (job_bound n ys)) refl e
     where
-      go : (b : Bool) → ltb room (job_bound n ys) ≡ b → number_of (pick b Room Accepted) ≡ 0 → job_bound n ys ≤ room
+      go : (b : Bool) → ltb room (job_bound n ys) ≡ b → number_of (pick b (Err Room) (Ok tt)) ≡ 0 → job_bound n ys ≤ room
       go true x e = absurd (let y : ◌≡◌ {A = ℕ} 8 0 = e in omega arith)
       go false x e = ltb-false room (job_bound n ys) x
 
@@ -58,31 +59,25 @@ module _ (n : ℕ) (xs ys : List ℕ) where
 
     -- ---- refused
 
-    answers-refused : (v : Verdict) → v ≡ verdict → (number_of v ≡ 0 → ⊥) → (Refused v ≡ job_answered n xs ys room) × (out ≡ job_output n xs ys out)
-    unfolding job_answered job_output
-    answers-refused v e ne =
-        let b : eqb (number_of verdict) 0 ≡ false = ne_eqb (number_of verdict) 0 (λ z. ne (ap number_of e ∙ z)) in (
-          ap Refused e ∙ sym (ap (λ (t : Bool). pick t (counts_of (gates_of n R) (job_phase n ys)) (Refused verdict)) b),
-          sym (ap (λ (t : Bool). pick t (R ++ drop (length R) out) out) b),
-        )
+    module _ {r : Refusal} (answer : Answer) (h : answer ≡ Err r) where
+      answers-refused : verdict ≡ Err r → (answer ≡ job_answered n xs ys room) × (out ≡ job_output n xs ys out)
+      unfolding job_answered job_output
+      answers-refused e = (
+        h ∙ sym (ap (λ (v : Verdict). going v (counts_of (gates_of n R) (job_phase n ys))) e),
+        sym (ap (λ (t : Bool). pick t (R ++ drop (length R) out) out) (ne_eqb (number_of verdict) 0 (stopped refl e))),
+      )
 
-    pub refused : (v : Verdict) → v ≡ judged_stretches n xs ys → (number_of v ≡ 0 → ⊥) → (Refused v ≡ job_answered n xs ys room) × (out ≡ job_output n xs ys out)
-    refused v e ne = answers-refused v (e ∙ stopped) ne
-      where
-        stopped : judged_stretches n xs ys ≡ verdict
-        stopped = unfold job_verdict in then-stop (judged_stretches n xs ys) _ (λ z. ne (ap number_of e ∙ z))
+      pub refused : judged_stretches n xs ys ≡ Err r → (answer ≡ job_answered n xs ys room) × (out ≡ job_output n xs ys out)
+      refused e = answers-refused (unfold job_verdict in sym (then-stop (judged_stretches n xs ys) _ (stopped refl e)) ∙ e)
+
+      pub refused-8 : number_of (judged_stretches n xs ys) ≡ 0 → judged_bound n ys room ≡ Err r → (answer ≡ job_answered n xs ys room) × (out ≡ job_output n xs ys out)
+      refused-8 a e = answers-refused (unfold job_verdict in sym (then-on (judged_stretches n xs ys) _ a) ∙ e)
 
     module _ (a : number_of (judged_stretches n xs ys) ≡ 0) where
-      pub refused-8 : (v : Verdict) → v ≡ judged_bound n ys room → (number_of v ≡ 0 → ⊥) → (Refused v ≡ job_answered n xs ys room) × (out ≡ job_output n xs ys out)
-      refused-8 v e ne = answers-refused v (e ∙ stopped) ne
-        where
-          stopped : judged_bound n ys room ≡ verdict
-          stopped = unfold job_verdict in then-on (judged_stretches n xs ys) _ a
-
       -- ---- accepted
 
       module _ (b : number_of (judged_bound n ys room) ≡ 0) where
-        pub accepted-is : verdict ≡ Accepted
+        pub accepted-is : verdict ≡ Ok tt
         unfolding job_verdict
         accepted-is = sym (then-on (judged_stretches n xs ys) _ a) ∙ zero-accepted (judged_bound n ys room) b
 
@@ -105,9 +100,9 @@ module _ (n : ℕ) (xs ys : List ℕ) where
           read : take k out' ≡ R
           read = ap₂ (λ (i : ℕ) (l : List ℕ). take i l) p memory ∙ take-append_seam R (drop (length R) out)
 
-          pub counted : (r : Answer) (f : ℕ) → f ≡ job_phase n ys → r ≡ counts_of (gates_of n (take k out')) f → (r ≡ job_answered n xs ys room) × (out' ≡ job_output n xs ys out)
+          pub counted : (l : Laid) (f : ℕ) → f ≡ job_phase n ys → l ≡ counts_of (gates_of n (take k out')) f → (Ok l ≡ job_answered n xs ys room) × (out' ≡ job_output n xs ys out)
           unfolding job_answered job_output
-          counted r f d h = (
-            h ∙ ap₂ counts_of (ap (gates_of n) read) d ∙ sym (ap (λ (t : Bool). pick t (counts_of (gates_of n R) (job_phase n ys)) (Refused verdict)) accepted),
+          counted l f d h = (
+            ap Ok (h ∙ ap₂ counts_of (ap (gates_of n) read) d) ∙ sym (going-accepted verdict (counts_of (gates_of n R) (job_phase n ys)) (ap number_of accepted-is)),
             memory ∙ sym (ap (λ (t : Bool). pick t (R ++ drop (length R) out) out) accepted),
           )

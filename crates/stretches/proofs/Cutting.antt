@@ -1,10 +1,16 @@
 -- A list cut at some of its items: the first piece, the rest behind the first such item, and what holds of every piece. Assumes nothing.
 use mathlib.Core.Path.{◌≡◌, refl, sym, ap, ◌∙◌}
-use mathlib.Core.Bool.{Bool, true, false}
+use mathlib.Core.Bool.{Bool, true, false, cond}
 use mathlib.Core.List.{List, [], ◌∷◌}
 use Prim.Native.Nat.{ℕ, suc, ◌+◌, ◌≤◌, ◌<◌}
 use native.Mathlib.Omega.{arith}
+use lib.Dec.{ltb}
 use lib.ListN.{length, get_or, take, drop}
+use borrow.Author.Tests.{ltb-false}
+use Rattle.std.specs.Prelude.{Some, None}
+use Rattle.std.specs.Option.{unwrap_or}
+use Rattle.std.specs.List.{position, position_or_len}
+use Rattle.std.proofs.lemmas.List.Recursion.{is_position_or_len}
 use Rattle.sets.specs.Pick.{pick}
 use Rattle.sets.specs.Lists.{All, those}
 use Rattle.sets.proofs.Lists.{all-always}
@@ -29,6 +35,21 @@ module _ {A : Type 0} (h : A → Bool) where
       go : (b : Bool) → (first_at h xs < length xs → h (get_or xs (first_at h xs) d) ≡ true) → h x ≡ b → pick b 0 (suc (first_at h xs)) < suc (length xs) → h (get_or (x ∷ xs) (pick b 0 (suc (first_at h xs))) d) ≡ true
       go true r e l = e
       go false r e l = r (omega arith)
+
+  -- `position` finds it
+  pub found-first : (xs : List A) → unwrap_or (position h xs) (length xs) ≡ first_at h xs
+  found-first xs = ap (λ (m : ℕ). unwrap_or (cond (ltb m (length xs)) (Some m) None) (length xs)) same ∙ go (ltb (first_at h xs) (length xs)) refl
+    where
+      step : (b : Bool) (m : ℕ) → pick b 0 (suc m) ≡ cond b 0 (1 + m)
+      step true m = refl
+      step false m = omega arith
+
+      same : position_or_len h xs ≡ first_at h xs
+      same = unfold first_at in sym (is_position_or_len (first_at h) h refl (λ x ys. step (h x) (first_at h ys)) xs)
+
+      go : (b : Bool) → ltb (first_at h xs) (length xs) ≡ b → unwrap_or (cond b (Some (first_at h xs)) None) (length xs) ≡ first_at h xs
+      go true e = refl
+      go false e = omega (arith, ltb-false (first_at h xs) (length xs) e, first-le xs)
 
   -- ---- no such item
 

@@ -5,26 +5,23 @@ use mathlib.Core.Bool.{Bool, true, false}
 use mathlib.Core.List.{List, [], ◌∷◌, ◌++◌, map}
 use Prim.Native.Nat.{ℕ, suc, ◌≤◌, ◌<◌}
 use native.Mathlib.Omega.{arith}
-use lib.Dec.{eqb}
 use lib.ListN.{length, take, drop, length-map}
 use lib.Seq.{take-append_seam}
-use borrow.Author.Tests.{eqb-true, eqb-false, eq-eqb}
+use borrow.Author.Tests.{eq-eqb, ne_eqb}
 use Rattle.sets.specs.Pick.{pick}
 use Rattle.gates.specs.declared.gate.Gate.{Gate}
 use Rattle.gates.specs.Layout.{gate_of, gates_of}
 use Rattle.gates.specs.Hadamards.{is_hadamard}
-use Rattle.verdicts.specs.declared.verdict.Verdict.{Verdict}
-use Rattle.verdicts.specs.Verdicts.{number_of}
+use Rattle.verdicts.specs.Verdicts.{Verdict, number_of}
 use Rattle.verdicts.specs.InOrder.{and_then}
-use Rattle.verdicts.proofs.Judged.{zero-accepted, then-stop, then-zero}
+use Rattle.verdicts.proofs.Judged.{then-stop, then-zero}
 use Rattle.verdicts.proofs.Rows.{row-fails}
 use Rattle.circuit.specs.Phase.{phase_of, phases}
 use Rattle.meaning.specs.Same.{Alike}
 use Rattle.tallies.specs.Tally.{cnots_of, rotations_of, depth_of, largest}
 use Rattle.chip.specs.Couplers.{near_of}
-use Rattle.laying.specs.declared.lay.Answer.{Answer}
-use Rattle.laying.specs.declared.lay.Answer.TheVariants.{Laid, Refused}
-use Rattle.laying.specs.Answers.{counts_of, verdict_in, records_in, cnots_in, rotations_in, depth_in, phase_in}
+use Rattle.laying.proofs.Going.{going-verdict, going-accepted, going-refused}
+use Rattle.laying.specs.Answers.{Answer, counts_of, verdict_in, records_in, cnots_in, rotations_in, depth_in, phase_in}
 use Rattle.laying.specs.Demands.{Island, FlipsLast, Agree}
 use Rattle.laying.specs.Laid.{GoesOnIsland}
 use Rattle.laying.proofs.Demands as laying
@@ -68,23 +65,15 @@ module _ (n : ℕ) (couplers gates out : List ℕ) where
   -- every job gets the answer of the first test that it fails, of 1 to 8 in that order, or is accepted
   pub demand-1-verdict : verdict_in answer ≡ verdict
   unfolding job_answered
-  demand-1-verdict = go (eqb (number_of verdict) 0) refl
-    where
-      go : (b : Bool) → eqb (number_of verdict) 0 ≡ b → verdict_in (pick b (counts_of laid phase) (Refused verdict)) ≡ verdict
-      go true e = unfold counts_of in sym (zero-accepted verdict (eqb-true (number_of verdict) 0 e))
-      go false e = refl
+  demand-1-verdict = going-verdict verdict (counts_of laid phase)
 
   -- "On refusal all counts are 0 and no lent record has changed"
   pub demand-1-refused : number_of verdict ≢ 0 → (records_in answer ≡ 0) × (cnots_in answer ≡ 0) × (rotations_in answer ≡ 0) × (depth_in answer ≡ 0) × (phase_in answer ≡ 0)
       × (job_output n couplers gates out ≡ out)
   unfolding job_answered job_output
-  demand-1-refused ne = go (eqb (number_of verdict) 0) refl
-    where
-      go : (b : Bool) → eqb (number_of verdict) 0 ≡ b
-          → let a = pick b (counts_of laid phase) (Refused verdict) in
-          (records_in a ≡ 0) × (cnots_in a ≡ 0) × (rotations_in a ≡ 0) × (depth_in a ≡ 0) × (phase_in a ≡ 0) × (pick b (records ++ drop (length records) out) out ≡ out)
-      go true e = absurd (ne (eqb-true (number_of verdict) 0 e))
-      go false e = (refl, refl, refl, refl, refl, refl)
+  demand-1-refused ne =
+      let none = going-refused verdict (counts_of laid phase) ne in
+      (none.0, none.1, none.2, none.3, none.4, ap (λ (b : Bool). pick b (records ++ drop (length records) out) out) (ne_eqb (number_of verdict) 0 ne))
 
   -- "An acceptance returns the number of records, CNOTs, rotations and the depth; the first records of the output are the circuit and all later ones stay"; "the acceptance returns the sum"
   -- of the common phases
@@ -92,14 +81,15 @@ module _ (n : ℕ) (couplers gates out : List ℕ) where
       → (records_in answer ≡ length records) × (cnots_in answer ≡ cnots_of laid) × (rotations_in answer ≡ rotations_of laid) × (depth_in answer ≡ depth_of laid)
       × (phase_in answer ≡ phase) × (job_output n couplers gates out ≡ records ++ drop (length records) out)
   unfolding job_answered job_output counts_of
-  demand-1-accepted z = go (eqb (number_of verdict) 0) refl
-    where
-      go : (b : Bool) → eqb (number_of verdict) 0 ≡ b
-          → let a = pick b (Laid (length laid) (cnots_of laid) (rotations_of laid) (depth_of laid) phase) (Refused verdict) in
-          (records_in a ≡ length records) × (cnots_in a ≡ cnots_of laid) × (rotations_in a ≡ rotations_of laid) × (depth_in a ≡ depth_of laid)
-          × (phase_in a ≡ phase) × (pick b (records ++ drop (length records) out) out ≡ records ++ drop (length records) out)
-      go true e = (length-map records (gate_of n), refl, refl, refl, refl, refl)
-      go false e = absurd (eqb-false (number_of verdict) 0 e z)
+  demand-1-accepted z =
+      let said = going-accepted verdict (counts_of laid phase) z in (
+        ap records_in said ∙ length-map records (gate_of n),
+        ap cnots_in said,
+        ap rotations_in said,
+        ap depth_in said,
+        ap phase_in said,
+        ap (λ (b : Bool). pick b (records ++ drop (length records) out) out) (eq-eqb (number_of verdict) 0 z),
+      )
 
   -- what was laid is the records
   pub records-are : number_of verdict ≡ 0 → job_laid n couplers gates out ≡ records
@@ -199,7 +189,7 @@ module _ (n : ℕ) (couplers : List ℕ) where
     where
       returned : phase_in (job_answered n couplers gates room) ≡ job_phase n gates
       returned =
-          unfold job_answered counts_of in ap (λ (b : Bool). phase_in (pick b (counts_of (gates_of n (job_records n couplers gates)) (job_phase n gates)) (Refused (job_verdict n couplers gates room)))) (eq-eqb (number_of (job_verdict n couplers gates room)) 0 z)
+          unfold job_answered counts_of in ap phase_in (going-accepted (job_verdict n couplers gates room) (counts_of (gates_of n (job_records n couplers gates)) (job_phase n gates)) z)
 
   -- in each stretch the X gates of each island stand behind its other gates, by ascending qubit
   pub demand-2-flips-last : (gates : List ℕ) (room : ℕ) → number_of (job_verdict n couplers gates room) ≡ 0

@@ -1,13 +1,11 @@
 -- The depth that is answered, of every job: 0 exactly when no CNOT is laid, and at most the number of CNOTs. Assumes nothing.
-use mathlib.Core.Path.{◌≡◌, refl, sym, ◌∙◌, subst}
+use mathlib.Core.Path.{◌≡◌, refl, sym, ap, ◌∙◌, subst}
 use mathlib.Core.Logic.{◌↔◌}
-use mathlib.Core.Bool.{Bool, true, false}
+use mathlib.Core.Bool.{true}
 use mathlib.Core.List.{List, [], ◌∷◌, ◌++◌, map, append-nil, map-append}
 use Prim.Native.Nat.{ℕ, ◌≤◌}
 use native.Mathlib.Omega.{arith}
-use lib.Dec.{eqb}
-use borrow.Author.Tests.{eqb-true}
-use Rattle.sets.specs.Pick.{pick}
+use Rattle.std.specs.Prelude.{Ok, Err}
 use Rattle.gates.specs.Limits.{most_qubits}
 use Rattle.gates.specs.declared.gate.Gate.{Gate}
 use Rattle.gates.specs.declared.gate.Gate.TheVariants.{Bad}
@@ -16,15 +14,13 @@ use Rattle.gates.specs.Hadamards.{is_hadamard}
 use Rattle.sets.specs.Lists.{All}
 use Rattle.sets.proofs.Lists.{all_map}
 use Rattle.gates.proofs.Hadamards.{hadamard-bad}
-use Rattle.verdicts.specs.declared.verdict.Verdict.{Verdict}
-use Rattle.verdicts.specs.Verdicts.{number_of}
+use Rattle.verdicts.specs.Verdicts.{Verdict, number_of}
 use Rattle.tallies.specs.Tally.{tally, cnots_of, depth_of, largest}
 use Rattle.tallies.specs.Sublist.{Sublist, none, with, without}
 use Rattle.tallies.proofs.DepthLaws.{depth-part, depth-none, depth-few}
 use Rattle.circuit.proofs.Wiring.{good-up}
-use Rattle.laying.specs.declared.lay.Answer.{Answer}
-use Rattle.laying.specs.declared.lay.Answer.TheVariants.{Refused}
-use Rattle.laying.specs.Answers.{counts_of, cnots_in, depth_in}
+use Rattle.laying.proofs.Going.{going}
+use Rattle.laying.specs.Answers.{Answer, counts_of, cnots_in, depth_in}
 use Rattle.stretches.specs.Cut.{weave}
 use Rattle.stretches.specs.Stretches.{stretches_of, hadamards_of}
 use Rattle.stretches.specs.Tests.{job_verdict}
@@ -94,9 +90,8 @@ module _ (n : ℕ) (couplers gates : List ℕ) (room : ℕ) where
   -- 0 exactly when no CNOT is laid, and at most their number
   pub answered-depth : (depth_in answer ≡ 0 ↔ cnots_in answer ≡ 0) × (depth_in answer ≤ cnots_in answer)
   unfolding job_answered
-  answered-depth = go (eqb (number_of verdict) 0) refl
+  answered-depth = go verdict refl
     where
-      go : (b : Bool) → eqb (number_of verdict) 0 ≡ b
-          → let a = pick b (counts_of laid (job_phase n gates)) (Refused verdict) in (depth_in a ≡ 0 ↔ cnots_in a ≡ 0) × (depth_in a ≤ cnots_in a)
-      go true e = unfold counts_of in (sound-depth laid (laid-sound (eqb-true (number_of verdict) 0 e)), depth-few laid)
-      go false e = ((λ z. refl, λ z. refl), omega arith)
+      go : (v : Verdict) → verdict ≡ v → let a = going v (counts_of laid (job_phase n gates)) in (depth_in a ≡ 0 ↔ cnots_in a ≡ 0) × (depth_in a ≤ cnots_in a)
+      go (Ok tt) e = unfold counts_of in (sound-depth laid (laid-sound (ap number_of e)), depth-few laid)
+      go (Err r) e = ((λ z. refl, λ z. refl), omega arith)

@@ -1,19 +1,19 @@
 -- The loops of tests 6, 7 and 8 over the stretches. Assumes nothing.
-use mathlib.Core.Path.{◌≡◌, sym, ap, ap₂, ◌∙◌, subst}
-use mathlib.Core.Bool.{Bool}
+use mathlib.Core.Path.{◌≡◌, refl, sym, ap, ap₂, ◌∙◌, subst}
+use mathlib.Core.Bool.{Bool, true, false}
 use mathlib.Core.List.{List, [], ◌∷◌}
 use Prim.Native.Nat.{ℕ, ◌+◌, ◌-◌, ◌≤◌, ◌<◌}
 use native.Mathlib.Omega.{arith}
 use native.Mathlib.Decide.{dec_lt}
 use lib.ListN.{length}
 use borrow.Author.Tests.{lt-ltb, le-ltb, eq-eqb, ne_eqb}
+use Rattle.std.specs.Prelude.{Ok, Err, is_err}
 use Rattle.sets.specs.Pick.{pick}
 use Rattle.gates.specs.Layout.{gates_of}
-use Rattle.verdicts.specs.declared.verdict.Verdict.{Verdict}
-use Rattle.verdicts.specs.declared.verdict.Verdict.TheVariants.{Accepted, ManyParities, Unreachable, Room}
-use Rattle.verdicts.specs.Verdicts.{number_of}
+use Rattle.verdicts.specs.declared.verdict.Refusal.TheVariants.{ManyParities, Unreachable, Room}
+use Rattle.verdicts.specs.Verdicts.{Verdict, number_of}
 use Rattle.verdicts.specs.InOrder.{and_then}
-use Rattle.verdicts.proofs.Judged.{then-on, then-stop}
+use Rattle.verdicts.proofs.Judged.{stopped, then-on, then-stop}
 use Rattle.tallies.specs.Tally.{bound_of, largest}
 use Rattle.meaning.specs.Borne.{over_at, terms}
 use Rattle.chip.specs.Couplers.{near_of}
@@ -27,6 +27,15 @@ use Rattle.stretches.specs.Parts.{hadamard_at}
 use Rattle.sets.proofs.Lists.{all_head, all_tail}
 use Rattle.stretches.proofs.Passing.{none-one}
 use Rattle.stretches.proofs.Going.{stretch-within, rest-start, rest-past, rest-step, hadamards-start, hadamards-past, hadamards-more, hadamards-last, behind-some, behind-none, hadamards-count}
+
+-- whether it refuses
+pub err-went : (v : Verdict) → is_err v ≡ false → number_of v ≡ 0
+err-went (Ok tt) e = refl
+err-went (Err r) e = let z : ◌≡◌ {A = Bool} true false = e in let y : ◌≡◌ {A = ℕ} 0 1 = cc z in absurd (omega arith)
+
+pub err-stopped : (v : Verdict) → is_err v ≡ true → number_of v ≡ 0 → ⊥
+err-stopped (Ok tt) e z = let y : ◌≡◌ {A = Bool} true false = sym e in let x : ◌≡◌ {A = ℕ} 0 1 = cc y in omega arith
+err-stopped (Err r) e z = stopped refl refl z
 
 module _ (n : ℕ) (xs : List ℕ) where
   abbrev all : List (List ℕ)
@@ -58,7 +67,7 @@ module _ (n : ℕ) (xs : List ℕ) where
   pub sixth-none : Sixth 0
   sixth-none = record { within = omega arith; same = ap (judged_parities_from n 0) (rest-start n xs) }
 
-  pub sixth-end : (k : ℕ) → length xs < k → Sixth k → Accepted ≡ judged_parities_from n 0 all
+  pub sixth-end : (k : ℕ) → length xs < k → Sixth k → Ok tt ≡ judged_parities_from n 0 all
   unfolding judged_parities_from
   sixth-end k l r = sym (ap (judged_parities_from n k) (rest-past n xs k l)) ∙ r.same
 
@@ -67,20 +76,20 @@ module _ (n : ℕ) (xs : List ℕ) where
     unfolding judged_parities_from
     sixth-cons = ap (judged_parities_from n k) (lent-step k s e l)
 
-    pub sixth-over : w < length s → ManyParities (k + w) ≡ judged_parities_from n 0 all
+    pub sixth-over : w < length s → Err (ManyParities (k + w)) ≡ judged_parities_from n 0 all
     unfolding judged_parities_at
     sixth-over m =
-        let v : judged_parities_at n k s ≡ ManyParities (k + over_at (gates_of n s)) =
-        ap (λ (b : Bool). pick b (ManyParities (k + over_at (gates_of n s))) Accepted) (lt-ltb (over_at (gates_of n s)) (length s) (omega (arith, o))) in
-        ap (λ (i : ℕ). ManyParities (k + i)) o ∙ sym v
+        let v : judged_parities_at n k s ≡ Err (ManyParities (k + over_at (gates_of n s))) =
+        ap (λ (b : Bool). pick b (Err (ManyParities (k + over_at (gates_of n s)))) (Ok tt)) (lt-ltb (over_at (gates_of n s)) (length s) (omega (arith, o))) in
+        ap (λ (i : ℕ). Err (ManyParities (k + i))) o ∙ sym v
         ∙ then-stop (judged_parities_at n k s) (judged_parities_from n (k + length s + 1) (rest (k + length s + 1))) (λ z. let y : ◌≡◌ {A = ℕ} 6 0 = sym (ap number_of v) ∙ z in omega arith)
         ∙ sym sixth-cons ∙ r.same
 
     pub sixth-next : length s ≤ w → Sixth (k + length s + 1)
     unfolding judged_parities_at
     sixth-next m =
-        let v : judged_parities_at n k s ≡ Accepted =
-        ap (λ (b : Bool). pick b (ManyParities (k + over_at (gates_of n s))) Accepted) (le-ltb (over_at (gates_of n s)) (length s) (omega (arith, o))) in
+        let v : judged_parities_at n k s ≡ Ok tt =
+        ap (λ (b : Bool). pick b (Err (ManyParities (k + over_at (gates_of n s)))) (Ok tt)) (le-ltb (over_at (gates_of n s)) (length s) (omega (arith, o))) in
         record {
           within = omega (arith, lent-within k s e l);
           same = then-on (judged_parities_at n k s) (judged_parities_from n (k + length s + 1) (rest (k + length s + 1))) (ap number_of v) ∙ sym sixth-cons ∙ r.same;
@@ -100,11 +109,11 @@ module _ (n : ℕ) (xs : List ℕ) where
     pub seventh-none : All (OnlyReach n couplers) all → Seventh 0
     seventh-none c = record { within = omega arith; only = subst (All (OnlyReach n couplers)) (sym (rest-start n xs)) c; same = ap (judged_reach_from n isls 0) (rest-start n xs) }
 
-    pub seventh-end : (k : ℕ) → length xs < k → Seventh k → Accepted ≡ judged_reach_from n isls 0 all
+    pub seventh-end : (k : ℕ) → length xs < k → Seventh k → Ok tt ≡ judged_reach_from n isls 0 all
     unfolding judged_reach_from
     seventh-end k l r = sym (ap (judged_reach_from n isls k) (rest-past n xs k l)) ∙ r.same
 
-    module _ (k : ℕ) (l : k ≤ length xs) (s : List ℕ) (e : Lent k s) (v : Verdict) (w : ℕ) (a : v ≡ verdict_of n couplers s largest) (b : w ≡ number_of v) (r : Seventh k) where
+    module _ (k : ℕ) (l : k ≤ length xs) (s : List ℕ) (e : Lent k s) (v : Verdict) (a : v ≡ verdict_of n couplers s largest) (r : Seventh k) where
       onlys : All (OnlyReach n couplers) (s ∷ rest (k + length s + 1))
       onlys = subst (All (OnlyReach n couplers)) (lent-step k s e l) r.only
 
@@ -115,19 +124,19 @@ module _ (n : ℕ) (xs : List ℕ) where
       unfolding judged_reach_from
       seventh-cons = ap (judged_reach_from n isls k) (lent-step k s e l)
 
-      pub seventh-not : (w ≡ 0 → ⊥) → Unreachable k ≡ judged_reach_from n isls 0 all
+      pub seventh-not : (number_of v ≡ 0 → ⊥) → Err (Unreachable k) ≡ judged_reach_from n isls 0 all
       unfolding judged_reach_at
       seventh-not ne =
-          let u : judged_reach_at n isls k s ≡ Unreachable k =
-          ap (λ (q : Bool). pick q Accepted (Unreachable k)) (ne_eqb (number_of (judged_reach n isls (gates_of n s))) 0 (λ z. ne (b ∙ ap number_of reach ∙ z))) in
+          let u : judged_reach_at n isls k s ≡ Err (Unreachable k) =
+          ap (λ (q : Bool). pick q (Ok tt) (Err (Unreachable k))) (ne_eqb (number_of (judged_reach n isls (gates_of n s))) 0 (λ z. ne (ap number_of reach ∙ z))) in
           sym u ∙ then-stop (judged_reach_at n isls k s) (judged_reach_from n isls (k + length s + 1) (rest (k + length s + 1))) (λ z. let y : ◌≡◌ {A = ℕ} 7 0 = sym (ap number_of u) ∙ z in omega arith)
           ∙ sym seventh-cons ∙ r.same
 
-      pub seventh-next : w ≡ 0 → Seventh (k + length s + 1)
+      pub seventh-next : number_of v ≡ 0 → Seventh (k + length s + 1)
       unfolding judged_reach_at
       seventh-next z =
-          let u : judged_reach_at n isls k s ≡ Accepted =
-          ap (λ (q : Bool). pick q Accepted (Unreachable k)) (eq-eqb (number_of (judged_reach n isls (gates_of n s))) 0 (sym (ap number_of reach) ∙ sym b ∙ z)) in
+          let u : judged_reach_at n isls k s ≡ Ok tt =
+          ap (λ (q : Bool). pick q (Ok tt) (Err (Unreachable k))) (eq-eqb (number_of (judged_reach n isls (gates_of n s))) 0 (sym (ap number_of reach) ∙ z)) in
           record {
             within = omega (arith, lent-within k s e l);
             only = all_tail (OnlyReach n couplers) s (rest (k + length s + 1)) onlys;
@@ -187,15 +196,15 @@ module _ (n : ℕ) (xs : List ℕ) where
   }
 
   module _ (room left : ℕ) where
-    short : room < job_bound n xs → Room ≡ judged_bound n xs room
+    short : room < job_bound n xs → Err Room ≡ judged_bound n xs room
     unfolding judged_bound
-    short m = sym (ap (λ (b : Bool). pick b Room Accepted) (lt-ltb room (job_bound n xs) m))
+    short m = sym (ap (λ (b : Bool). pick b (Err Room) (Ok tt)) (lt-ltb room (job_bound n xs) m))
 
-    pub eighth-end : (k : ℕ) → length xs < k → Eighth room left k → Accepted ≡ judged_bound n xs room
+    pub eighth-end : (k : ℕ) → length xs < k → Eighth room left k → Ok tt ≡ judged_bound n xs room
     unfolding judged_bound bounds_of
     eighth-end k l r =
         let z : due k ≡ 0 = ap₂ (λ (a : List (List ℕ)) (b : List ℕ). bounds_of n a + length b) (rest-past n xs k l) (hadamards-past n xs k l) in
-        sym (ap (λ (b : Bool). pick b Room Accepted) (le-ltb room (job_bound n xs) (omega (arith, r.sum, z))))
+        sym (ap (λ (b : Bool). pick b (Err Room) (Ok tt)) (le-ltb room (job_bound n xs) (omega (arith, r.sum, z))))
 
     module _ (k : ℕ) (l : k ≤ length xs) (s : List ℕ) (e : Lent k s) (r : Eighth room left k) where
       counts : All (Counted n) (s ∷ rest (k + length s + 1))
@@ -209,14 +218,14 @@ module _ (n : ℕ) (xs : List ℕ) where
         unfolding bounds_of
         sums = ap (bounds_of n) (lent-step k s e l) ∙ ap (λ (m : ℕ). m + bounds_of n (rest (k + length s + 1))) (sym a)
 
-        pub eighth-short : left < B → Room ≡ judged_bound n xs room
+        pub eighth-short : left < B → Err Room ≡ judged_bound n xs room
         eighth-short m = short (omega (arith, r.sum, sums))
 
         module _ (m : B ≤ left) (h : List ℕ) (d : h ≡ hadamard_at n xs k) where
           count : length (hadamards_from n xs k) ≡ length h + length (hadamards_from n xs (k + length s + 1))
           count = lent-hadamards k s e l ∙ ap (λ (t : List ℕ). length t + length (hadamards_from n xs (k + length s + 1))) (sym d)
 
-          pub eighth-full : left - B < length h → Room ≡ judged_bound n xs room
+          pub eighth-full : left - B < length h → Err Room ≡ judged_bound n xs room
           eighth-full p = short (omega (arith, r.sum, sums, count))
 
           pub eighth-next : length h ≤ left - B → Eighth room (left - B - length h) (k + length s + 1)

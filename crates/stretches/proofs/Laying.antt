@@ -3,9 +3,8 @@ use mathlib.Core.Path.{◌≡◌, refl, sym, ap, ap₂, ◌∙◌, subst}
 use mathlib.Core.List.{List, [], ◌∷◌, ◌++◌, append_assoc}
 use Prim.Native.Nat.{ℕ, ◌+◌, ◌%◌, ◌≤◌, ◌<◌}
 use native.Mathlib.Omega.{arith}
-use native.Mathlib.Numerals.{add-one}
-use lib.ListN.{length, get_or, take, length-append}
-use lib.Seq.{sets, length-sets, length-take-le, take-suc, take_all}
+use lib.ListN.{length, length-append}
+use lib.Seq.{sets, length-sets}
 use Rattle.sets.proofs.Storing.{sets-append}
 use Rattle.gates.specs.Layout.{gates_of}
 use Rattle.circuit.specs.Phase.{phase_of, phases}
@@ -19,36 +18,6 @@ use Rattle.sets.proofs.Lists.{all_head, all_tail}
 use Rattle.stretches.proofs.Going.{rest-start, rest-past}
 use Rattle.stretches.proofs.Parting.{parts_all, parts_none, parts-step}
 use Rattle.stretches.proofs.Judging.{lent-step, lent-within}
-
--- ---- records stored one by one
-
-pub record Stored (records : List ℕ) (at : ℕ) (out₀ : List ℕ) (i : ℕ) (out : List ℕ) : Type 0 where
-  pub within : i ≤ length records
-  pub size : length out ≡ length out₀
-  pub memory : out ≡ sets out₀ at (take i records)
-
-module _ (records : List ℕ) (at : ℕ) (out₀ : List ℕ) where
-  pub stored-none : Stored records at out₀ 0 out₀
-  stored-none = record { within = omega arith; size = refl; memory = refl }
-
-  pub stored_next : (i : ℕ) (out out' : List ℕ) → Stored records at out₀ i out → i < length records → out' ≡ sets out (at + i) (get_or records i 0 ∷ []) → Stored records at out₀ (i + 1) out'
-  stored_next i out out' s l e =
-      let t : take (i + 1) records ≡ take i records ++ (get_or records i 0 ∷ []) = ap (λ (k : ℕ). take k records) (add-one i) ∙ take-suc records i 0 l in
-      let k : at + length (take i records) ≡ at + i = omega (arith, length_taken) in
-      record {
-        within = omega arith;
-        size = ap length e ∙ length-sets out (at + i) (get_or records i 0 ∷ []) ∙ s.size;
-        memory = e ∙ ap (λ (o : List ℕ). sets o (at + i) (get_or records i 0 ∷ [])) s.memory
-            ∙ sym (ap (sets out₀ at) t ∙ sets-append out₀ at (take i records) (get_or records i 0 ∷ []) ∙ ap (λ (j : ℕ). sets (sets out₀ at (take i records)) j (get_or records i 0 ∷ [])) k);
-      }
-    where
-      length_taken : length (take i records) ≡ i
-      length_taken = length-take-le i records (omega (arith, l))
-
-  pub stored-all : (i : ℕ) (out : List ℕ) → Stored records at out₀ i out → length records ≤ i → out ≡ sets out₀ at records
-  stored-all i out s l = s.memory ∙ ap (sets out₀ at) (take_all i records l)
-
--- ---- the stretches
 
 module _ (n : ℕ) (couplers xs : List ℕ) where
   abbrev J : List ℕ

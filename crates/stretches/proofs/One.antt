@@ -1,19 +1,19 @@
 -- A job without Hadamards gets word for word what it gets as a single stretch. Assumes nothing.
 use mathlib.Core.Path.{◌≡◌, refl, sym, ap, ap₂, ◌∙◌, subst}
-use mathlib.Core.Bool.{Bool, true, false}
+use mathlib.Core.Bool.{Bool, false}
 use mathlib.Core.List.{List, [], ◌∷◌, ◌++◌, map}
 use Prim.Native.Nat.{ℕ, ◌+◌, ◌<◌}
 use native.Mathlib.Omega.{arith}
 use lib.Dec.{eqb, ltb}
 use lib.ListN.{length, get_or, drop, length-map}
-use borrow.Author.Tests.{eqb-true, eq-eqb}
+use borrow.Author.Tests.{eq-eqb}
+use Rattle.std.specs.Prelude.{Ok, Err}
 use Rattle.sets.specs.Pick.{pick}
 use Rattle.gates.specs.declared.gate.Gate.{Gate}
 use Rattle.gates.specs.Layout.{gate_of, gates_of, record_of}
 use Rattle.gates.specs.Hadamards.{is_hadamard}
-use Rattle.verdicts.specs.declared.verdict.Verdict.{Verdict}
-use Rattle.verdicts.specs.declared.verdict.Verdict.TheVariants.{Accepted, ManyParities, Room}
-use Rattle.verdicts.specs.Verdicts.{number_of, judged_qubits, judged_couplers, judged_gates}
+use Rattle.verdicts.specs.declared.verdict.Refusal.TheVariants.{ManyParities, Room}
+use Rattle.verdicts.specs.Verdicts.{Verdict, number_of, judged_qubits, judged_couplers, judged_gates}
 use Rattle.verdicts.specs.InOrder.{and_then}
 use Rattle.verdicts.proofs.Judged.{then-assoc, then-accepted}
 use Rattle.verdicts.proofs.Passing.{drawn-gates}
@@ -24,7 +24,7 @@ use Rattle.tallies.specs.Tally.{bound_of}
 use Rattle.chip.specs.Couplers.{near_of}
 use Rattle.isles.specs.Islands.{islands_of}
 use Rattle.judging.specs.Tests.{judged_count, judged_parities, judged_reach, judged_room, judged_meaning, verdict_of, verdict_on}
-use Rattle.laying.specs.declared.lay.Answer.TheVariants.{Refused}
+use Rattle.laying.proofs.Going.{going}
 use Rattle.laying.specs.Answers.{circuit_of, counts_of, answered, output_of}
 use Rattle.sets.specs.Lists.{All}
 use Rattle.stretches.specs.Cut.{weave}
@@ -74,8 +74,8 @@ module _ (n : ℕ) (couplers gates : List ℕ) (none : hadamards_of n gates ≡ 
   unfolding judged_parities_from judged_parities_at judged_parities
   one-six =
       ap (judged_parities_from n 0) one ∙ then-accepted (judged_parities_at n 0 gates)
-      ∙ ap (λ (k : ℕ). pick (ltb (over_at gs) k) (ManyParities (0 + over_at gs)) Accepted) (sym (length-map gates (gate_of n)))
-      ∙ ap (λ (k : ℕ). pick (ltb (over_at gs) (length gs)) (ManyParities k) Accepted) (let z : 0 + over_at gs ≡ over_at gs = omega arith in z)
+      ∙ ap (λ (k : ℕ). pick (ltb (over_at gs) k) (Err (ManyParities (0 + over_at gs))) (Ok tt)) (sym (length-map gates (gate_of n)))
+      ∙ ap (λ (k : ℕ). pick (ltb (over_at gs) (length gs)) (Err (ManyParities k)) (Ok tt)) (let z : 0 + over_at gs ≡ over_at gs = omega arith in z)
 
   one-seven : judged_reaches n couplers gates ≡ judged_reach n isls gs
   unfolding judged_reaches
@@ -85,7 +85,7 @@ module _ (n : ℕ) (couplers gates : List ℕ) (none : hadamards_of n gates ≡ 
   unfolding judged_bound judged_room job_bound bounds_of
   one-eight room =
       let e : bounds_of n (stretches_of n gates) + length (hadamards_of n gates) ≡ bound_of n (length (terms gs)) = omega (arith, ap (bounds_of n) one, ap length none) in
-      ap (λ (k : ℕ). pick (ltb room k) Room Accepted) e
+      ap (λ (k : ℕ). pick (ltb room k) (Err Room) (Ok tt)) e
 
   -- ---- all of them
 
@@ -112,15 +112,14 @@ module _ (n : ℕ) (couplers gates : List ℕ) (none : hadamards_of n gates ≡ 
   pub one_answer : (room : ℕ) → job_answered n couplers gates room ≡ answered n couplers gates room
   unfolding job_answered answered
   one_answer room =
-      ap₂ (λ (v : Verdict) (f : ℕ). pick (eqb (number_of v) 0) (counts_of (gates_of n (job_records n couplers gates)) f) (Refused v)) (one-verdict room) one-phase
-      ∙ go (eqb (number_of v) 0) refl
+      ap₂ (λ (v : Verdict) (f : ℕ). going v (counts_of (gates_of n (job_records n couplers gates)) f)) (one-verdict room) one-phase ∙ go v refl
     where
       v : Verdict
       v = verdict_of n couplers gates room
 
-      go : (b : Bool) → eqb (number_of v) 0 ≡ b → pick b (counts_of (gates_of n (job_records n couplers gates)) (phase_of gs)) (Refused v) ≡ pick b (counts_of circuit (phase_of gs)) (Refused v)
-      go true e = ap (λ (hs : List Gate). counts_of hs (phase_of gs)) (ap (gates_of n) one-records ∙ stretch-gates n couplers gates room (eqb-true (number_of v) 0 e))
-      go false e = refl
+      go : (w : Verdict) → v ≡ w → going w (counts_of (gates_of n (job_records n couplers gates)) (phase_of gs)) ≡ going w (counts_of circuit (phase_of gs))
+      go (Ok tt) e = ap (λ (hs : List Gate). Ok (counts_of hs (phase_of gs))) (ap (gates_of n) one-records ∙ stretch-gates n couplers gates room (ap number_of e))
+      go (Err r) e = refl
 
   -- the same output
   pub one-output : (out : List ℕ) → job_output n couplers gates out ≡ output_of n couplers gates out

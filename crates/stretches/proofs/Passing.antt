@@ -8,15 +8,15 @@ use native.Mathlib.Omega.{arith}
 use lib.Dec.{eqb, ltb}
 use lib.ListN.{length, get_or, length-map, length-append}
 use borrow.Author.Tests.{eqb-true, ltb-false, le-ltb}
+use Rattle.std.specs.Prelude.{Ok, Err}
 use Rattle.sets.specs.Pick.{pick, both}
 use Rattle.gates.specs.Limits.{most_gates}
 use Rattle.gates.specs.Layout.{gate_of, gates_of, record_of, Good, is_bad}
 use Rattle.gates.specs.Hadamards.{is_hadamard}
 use Rattle.gates.proofs.Records.{good-not-bad}
 use Rattle.gates.proofs.Hadamards.{hadamard-bad}
-use Rattle.verdicts.specs.declared.verdict.Verdict.{Verdict}
-use Rattle.verdicts.specs.declared.verdict.Verdict.TheVariants.{Accepted, ManyGates, ManyParities, Unreachable, Room}
-use Rattle.verdicts.specs.Verdicts.{number_of, judged_qubits, judged_couplers, judged_gates, is_neither, judged_drawn}
+use Rattle.verdicts.specs.declared.verdict.Refusal.TheVariants.{ManyGates, ManyParities, Unreachable, Room}
+use Rattle.verdicts.specs.Verdicts.{Verdict, number_of, judged_qubits, judged_couplers, judged_gates, is_neither, judged_drawn}
 use Rattle.verdicts.specs.InOrder.{and_then}
 use Rattle.verdicts.proofs.Judged.{zero-accepted, then-zero, then-on, then-accepted}
 use Rattle.verdicts.proofs.Rows.{row-passes}
@@ -59,7 +59,7 @@ fair-neither : (n x : ℕ) → Fair n x → is_neither n x ≡ false
 unfolding is_neither
 fair-neither n x f = ap (λ (b : Bool). both b (not (is_hadamard n x))) (good-not-bad n (gate_of n x) f)
 
-fair-accepted : (n : ℕ) (s : List ℕ) → All (Fair n) s → judged_gates n s ≡ Accepted
+fair-accepted : (n : ℕ) (s : List ℕ) → All (Fair n) s → judged_gates n s ≡ Ok tt
 fair-accepted n s f =
     sym (drawn-gates n s (λ k l. fair-between n (get_or s k 0) (all-place (Fair n) s f k l))) ∙ drawn-accepted n s (λ k l. fair-neither n (get_or s k 0) (all-place (Fair n) s f k l))
 
@@ -68,7 +68,7 @@ no-hadamard n x (inl g) e = g
 no-hadamard n x (inr h) e = absurd (let z : ◌≡◌ {A = ℕ} 1 0 = ap (λ (b : Bool). pick b 1 0) (sym h ∙ e) in omega arith)
 
 module _ (n : ℕ) (gates : List ℕ) where
-  stretches-fair : judged_drawn n gates ≡ Accepted → All (All (Fair n)) (stretches_of n gates)
+  stretches-fair : judged_drawn n gates ≡ Ok tt → All (All (Fair n)) (stretches_of n gates)
   unfolding stretches_of
   stretches-fair e =
       cut_all (Fair n) (is_hadamard n) gates
@@ -85,7 +85,7 @@ module _ (n : ℕ) where
   unfolding judged_parities_at
   six-counted k s e = go (ltb (over_at (gates_of n s)) (length s)) refl e
     where
-      go : (b : Bool) → ltb (over_at (gates_of n s)) (length s) ≡ b → number_of (pick b (ManyParities (k + over_at (gates_of n s))) Accepted) ≡ 0 → Counted n s
+      go : (b : Bool) → ltb (over_at (gates_of n s)) (length s) ≡ b → number_of (pick b (Err (ManyParities (k + over_at (gates_of n s)))) (Ok tt)) ≡ 0 → Counted n s
       go true x e = absurd (let y : ◌≡◌ {A = ℕ} 6 0 = e in omega arith)
       go false x e = omega (arith, ltb-false (over_at (gates_of n s)) (length s) x, over-le (gates_of n s), length-map s (gate_of n))
 
@@ -104,7 +104,7 @@ module _ (n : ℕ) where
     unfolding judged_reach_at
     seven-reaches k s e = go (eqb (number_of (judged_reach n isls (gates_of n s))) 0) refl e
       where
-        go : (b : Bool) → eqb (number_of (judged_reach n isls (gates_of n s))) 0 ≡ b → number_of (pick b Accepted (Unreachable k)) ≡ 0 → Reaches s
+        go : (b : Bool) → eqb (number_of (judged_reach n isls (gates_of n s))) 0 ≡ b → number_of (pick b (Ok tt) (Err (Unreachable k))) ≡ 0 → Reaches s
         go true x e = eqb-true (number_of (judged_reach n isls (gates_of n s))) 0 x
         go false x e = absurd (let y : ◌≡◌ {A = ℕ} 7 0 = e in omega arith)
 
@@ -139,14 +139,14 @@ module _ (n : ℕ) where
 
 -- ---- a stretch as a job of its own
 
-count-passed : (s : List ℕ) → length s ≤ most_gates → judged_count s ≡ Accepted
+count-passed : (s : List ℕ) → length s ≤ most_gates → judged_count s ≡ Ok tt
 unfolding judged_count
-count-passed s l = ap (λ (b : Bool). pick b ManyGates Accepted) (le-ltb most_gates (length s) l)
+count-passed s l = ap (λ (b : Bool). pick b (Err ManyGates) (Ok tt)) (le-ltb most_gates (length s) l)
 
-room-passed : (n : ℕ) (s : List ℕ) → n ≤ 20 → Counted n s → judged_room n (gates_of n s) largest ≡ Accepted
+room-passed : (n : ℕ) (s : List ℕ) → n ≤ 20 → Counted n s → judged_room n (gates_of n s) largest ≡ Ok tt
 unfolding judged_room
 room-passed n s few c =
-    ap (λ (b : Bool). pick b Room Accepted)
+    ap (λ (b : Bool). pick b (Err Room) (Ok tt))
     (le-ltb largest (bound_of n (length (terms (gates_of n s)))) (bound-most n (length (terms (gates_of n s))) few (omega (arith, terms-few (gates_of n s), over-few (gates_of n s) c))))
 
 -- past tests 1 to 6
@@ -185,8 +185,8 @@ module _ (n : ℕ) (couplers : List ℕ) (qubits : number_of (judged_qubits n) �
 pub record Passed (n : ℕ) (couplers gates : List ℕ) : Type 0 where
   pub qubits : number_of (judged_qubits n) ≡ 0
   pub few : n ≤ 20
-  pub listed : judged_couplers n couplers ≡ Accepted
-  pub drawn : judged_drawn n gates ≡ Accepted
+  pub listed : judged_couplers n couplers ≡ Ok tt
+  pub drawn : judged_drawn n gates ≡ Ok tt
   pub short : length gates ≤ most_gates
   pub counted : All (Counted n) (stretches_of n gates)
   pub accepts : All (Accepts n couplers) (stretches_of n gates)
@@ -196,7 +196,7 @@ module _ (n : ℕ) (couplers gates : List ℕ) where
     qubits : number_of (judged_qubits n) ≡ 0
     couplers-listed : number_of (judged_couplers n couplers) ≡ 0
     short : length gates ≤ most_gates
-    drawn : judged_drawn n gates ≡ Accepted
+    drawn : judged_drawn n gates ≡ Ok tt
 
   drawing : number_of (judged_five n couplers gates) ≡ 0 → Drawing
   unfolding judged_five

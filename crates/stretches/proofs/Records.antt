@@ -1,13 +1,11 @@
 -- The records that a stretch gets: those of its circuit's gates, with no Hadamard among them, and faithful to the stretch. Assumes nothing.
 use mathlib.Core.Path.{◌≡◌, sym, ap, ◌∙◌, subst}
 use mathlib.Core.Logic.{◌↔◌}
-use mathlib.Core.Bool.{Bool, false}
+use mathlib.Core.Bool.{false}
 use mathlib.Core.List.{List, [], ◌∷◌, map}
 use Prim.Native.Nat.{ℕ, ◌≤◌, ◌<◌}
 use native.Mathlib.Omega.{arith}
 use lib.ListN.{length, replicate, length-replicate}
-use borrow.Author.Tests.{eq-eqb}
-use Rattle.sets.specs.Pick.{pick}
 use Rattle.gates.specs.declared.gate.Gate.{Gate}
 use Rattle.gates.specs.Layout.{gates_of, record_of, Good}
 use Rattle.gates.specs.Hadamards.{is_hadamard}
@@ -18,8 +16,8 @@ use Rattle.verdicts.specs.Verdicts.{number_of}
 use Rattle.circuit.specs.Phase.{phase_of}
 use Rattle.meaning.specs.Same.{Alike}
 use Rattle.tallies.specs.Tally.{largest}
-use Rattle.laying.specs.declared.lay.Answer.TheVariants.{Refused}
 use Rattle.judging.specs.Tests.{verdict_of}
+use Rattle.laying.proofs.Going.{going-accepted}
 use Rattle.laying.specs.Answers.{circuit_of, counts_of, answered, phase_in, laid_records}
 use Rattle.laying.specs.Demands.{Island, Faithful, FlipsLast, SameCouplers, Agree}
 use Rattle.laying.proofs.Accepting.{job-layable}
@@ -51,7 +49,7 @@ module _ (n : ℕ) (couplers s : List ℕ) (room : ℕ) (z : number_of (verdict_
   -- the phase returned for it is its own
   pub stretch-share : phase_in (answered n couplers s room) ≡ phase_of (gates_of n s)
   unfolding answered counts_of
-  stretch-share = ap (λ (b : Bool). phase_in (pick b (counts_of (circuit_of n couplers s) (phase_of (gates_of n s))) (Refused (verdict_of n couplers s room)))) (eq-eqb (number_of (verdict_of n couplers s room)) 0 z)
+  stretch-share = ap phase_in (going-accepted (verdict_of n couplers s room) (counts_of (circuit_of n couplers s) (phase_of (gates_of n s))) z)
 
   -- demand 2 of the gates of its records
   pub stretch-faithful : Faithful n couplers (phase_of (gates_of n s)) (gates_of n s) (gates_of n (stretch_records n couplers s))

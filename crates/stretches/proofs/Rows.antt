@@ -2,8 +2,7 @@
 use mathlib.Core.Path.{◌≡◌, sym, ap, ◌∙◌, subst}
 use mathlib.Core.List.{List}
 use Prim.Native.Nat.{ℕ}
-use Rattle.verdicts.specs.declared.verdict.Verdict.{Verdict}
-use Rattle.verdicts.specs.Verdicts.{number_of, judged_qubits, judged_couplers, judged_drawn}
+use Rattle.verdicts.specs.Verdicts.{Verdict, number_of, judged_qubits, judged_couplers, judged_drawn}
 use Rattle.verdicts.specs.InOrder.{and_then}
 use Rattle.verdicts.specs.Rows.{Passes1, Passes2, Passes3, PassesDrawn}
 use Rattle.verdicts.proofs.Judged.{then-on, then-assoc}

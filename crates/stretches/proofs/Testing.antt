@@ -8,12 +8,12 @@ use native.Mathlib.Omega.{arith}
 use lib.Dec.{eqb, ltb}
 use lib.ListN.{length, length-map}
 use borrow.Author.Tests.{ltb-true, ltb-false, eqb-true, eqb-false}
+use Rattle.std.specs.Prelude.{Ok, Err}
 use Rattle.sets.specs.Pick.{pick}
 use Rattle.gates.specs.declared.gate.Gate.{Gate}
 use Rattle.gates.specs.Layout.{gate_of, gates_of}
-use Rattle.verdicts.specs.declared.verdict.Verdict.{Verdict}
-use Rattle.verdicts.specs.declared.verdict.Verdict.TheVariants.{Accepted, ManyParities, Unreachable, Room}
-use Rattle.verdicts.specs.Verdicts.{number_of, place_of}
+use Rattle.verdicts.specs.declared.verdict.Refusal.TheVariants.{ManyParities, Unreachable, Room}
+use Rattle.verdicts.specs.Verdicts.{Verdict, number_of, place_of}
 use Rattle.verdicts.specs.InOrder.{and_then}
 use Rattle.verdicts.specs.Rows.{Nowhere}
 use Rattle.verdicts.proofs.Judged.{then-on, then-stop}
@@ -62,7 +62,7 @@ module _ {v : Verdict} {k : ℕ} {Pass Fail : Type 0} {At : ℕ → Type 0} (t :
           inr (sym (ap number_of s) ∙ e, λ b. t.apart b.0 f, inl (subst (λ (x : Verdict). Here (place_of x)) s (here (place_of v) f a)))
 
 -- where nothing is left to test
-tests-end : (k : ℕ) {At : ℕ → Type 0} → 0 < k → Tests Accepted k Unit (Unit → ⊥) At
+tests-end : (k : ℕ) {At : ℕ → Type 0} → 0 < k → Tests (Ok tt) k Unit (Unit → ⊥) At
 tests-end k h = record { decided = inl (refl, tt); apart = λ p f. f p; refuses = h }
 
 -- ---- 6
@@ -79,7 +79,7 @@ module _ (n : ℕ) where
       gs : List Gate
       gs = gates_of n s
 
-      go : (b : Bool) → ltb (over_at gs) (length s) ≡ b → let v = pick b (ManyParities (k + over_at gs)) Accepted in
+      go : (b : Bool) → ltb (over_at gs) (length s) ≡ b → let v = pick b (Err (ManyParities (k + over_at gs))) (Ok tt) in
           ((number_of v ≡ 0) × Passes6 gs) ⊎ ((number_of v ≡ 6) × (Passes6 gs → ⊥) × BringsAt k s (place_of v))
       go true e =
           let w = parities-fail gs (omega (arith, ltb-true (over_at gs) (length s) e, length-map s (gate_of n))) in
@@ -113,7 +113,7 @@ module _ (n : ℕ) (couplers : List ℕ) where
       reach : Verdict
       reach = judged_reach n isls (gates_of n s)
 
-      go : (b : Bool) → eqb (number_of reach) 0 ≡ b → let v = pick b Accepted (Unreachable k) in ((number_of v ≡ 0) × CanReach s) ⊎ ((number_of v ≡ 7) × (CanReach s → ⊥) × (place_of v ≡ k))
+      go : (b : Bool) → eqb (number_of reach) 0 ≡ b → let v = pick b (Ok tt) (Err (Unreachable k)) in ((number_of v ≡ 0) × CanReach s) ⊎ ((number_of v ≡ 7) × (CanReach s → ⊥) × (place_of v ≡ k))
       go true e = inl (refl, (row-passes (reach-tests n couplers s largest z)).exactly.0 (eqb-true (number_of reach) 0 e))
       go false e = inr (refl, λ r. eqb-false (number_of reach) 0 e ((row-passes (reach-tests n couplers s largest z)).exactly.1 r), refl)
 
@@ -149,4 +149,4 @@ module _ (n : ℕ) (couplers : List ℕ) where
 -- test 8 is passed where B is lent
 pub bound-tests : (n : ℕ) (gates : List ℕ) (room : ℕ) → Tests (judged_bound n gates room) 8 (job_bound n gates ≤ room) (room < job_bound n gates) Nowhere
 unfolding judged_bound
-bound-tests n gates room = limit-tests room (job_bound n gates) Room (omega arith) refl
+bound-tests n gates room = limit-tests room (job_bound n gates) (Err Room) (omega arith) refl

@@ -1,12 +1,11 @@
 -- What an accepted job gets, and what the entry point answers and leaves (request E12).
-use Rattle.std.specs.Prelude.{List, [], ◌∷◌, ◌++◌, map, ℕ, eqb, length, take, drop}
+use Rattle.std.specs.Prelude.{List, [], ◌∷◌, ◌++◌, map, ℕ, eqb, length, take, drop, Ok}
+use Rattle.std.specs.Result.{result_and}
 use Rattle.sets.specs.Pick.{pick}
 use Rattle.gates.specs.Layout.{gates_of, record_of}
 use Rattle.verdicts.specs.Verdicts.{number_of}
 use Rattle.circuit.specs.Phase.{phase_of, phases}
-use Rattle.laying.specs.declared.lay.Answer.{Answer}
-use Rattle.laying.specs.declared.lay.Answer.TheVariants.{Refused}
-use Rattle.laying.specs.Answers.{circuit_of, counts_of, records_in}
+use Rattle.laying.specs.Answers.{Answer, circuit_of, counts_of, records_in}
 use Rattle.stretches.specs.Cut.{weave}
 use Rattle.stretches.specs.Stretches.{stretches_of, hadamards_of}
 use Rattle.stretches.specs.Tests.{job_verdict}
@@ -30,9 +29,7 @@ job_phase n gates = phases_of n (stretches_of n gates)
 
 -- the counts are of the whole laid list, in which a Hadamard is no CNOT and no rotation and takes no layer
 unfoldable pub job_answered : ℕ → List ℕ → List ℕ → ℕ → Answer
-job_answered n couplers gates room =
-    pick (eqb (number_of (job_verdict n couplers gates room)) 0) (counts_of (gates_of n (job_records n couplers gates)) (job_phase n gates))
-    (Refused (job_verdict n couplers gates room))
+job_answered n couplers gates room = result_and (job_verdict n couplers gates room) (Ok (counts_of (gates_of n (job_records n couplers gates)) (job_phase n gates)))
 
 -- "the first records of the output are the circuit and all later ones stay"; a refusal leaves all as it was
 unfoldable pub job_output : ℕ → List ℕ → List ℕ → List ℕ → List ℕ

@@ -2,7 +2,7 @@
 use Rattle.std.specs.Prelude.{◌≡◌, ◌⊎◌, List, [], ◌∷◌, ℕ, ◌+◌, ◌≤◌, ◌<◌, length}
 use Rattle.gates.specs.Limits.{most_couplers, most_gates}
 use Rattle.gates.specs.Layout.{gates_of}
-use Rattle.verdicts.specs.declared.verdict.Verdict.{Verdict}
+use Rattle.verdicts.specs.Verdicts.{Verdict}
 use Rattle.verdicts.specs.Rows.{Row, Nowhere, Some, First, Passes1, Passes2, WrongRecord, Passes3, BadDrawn, PassesDrawn}
 use Rattle.meaning.specs.Same.{Reachable}
 use Rattle.laying.specs.Demands.{Strays}

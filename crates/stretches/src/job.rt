@@ -15,11 +15,10 @@ ghost use Rattle.stretches.specs.Laid.{stretch_records, job_records, job_phase, 
 use crate::{cut, judge};
 use circuit::wires;
 use laying::lay;
-use laying::lay::Answer;
+use laying::lay::Laid;
 use meaning::told;
 use tallies::tally;
-use verdicts::verdict;
-use verdicts::verdict::Verdict;
+use verdicts::verdict::{Refusal, Verdict};
 
 // B of a stretch.
 fn bound_of(n: usize, stretch: &[u32]) -> usize
@@ -45,17 +44,17 @@ fn judge_room(n: usize, gates: &[u32], room: usize) -> Verdict
         let stretch = cut::stretch_at(n, gates, from);
         let bound = bound_of(n, stretch);
         if left < bound {
-            return Verdict::Room;
+            return Err(Refusal::Room);
         }
         left -= bound;
         let hadamards = cut::hadamard_at(n, gates, from).len();
         if left < hadamards {
-            return Verdict::Room;
+            return Err(Refusal::Room);
         }
         left -= hadamards;
         from = from + stretch.len() + 1;
     }
-    Verdict::Accepted
+    Ok(())
 }
 
 // Where the records laid end, and the common phase of what they were laid for.
@@ -70,10 +69,9 @@ fn store_records(records: &[u32], out: &mut [u32], at: usize) -> usize
     requires { at + length records.now ≤ length out.old }
     ensures { (result ≡ at + length records.now) × (out.new ≡ sets out.old at records.now) }
 {
-    for i in 0..records.len() {
-        out[at + i] = records[i];
-    }
-    at + records.len()
+    let next = at + records.len();
+    out[at..next].copy_from_slice(records);
+    next
 }
 
 // A stretch laid as the job that it is by itself, its records from `at` on.
@@ -83,17 +81,11 @@ fn lay_stretch(n: usize, couplers: &[u32], stretch: &[u32], out: &mut [u32], at:
 {
     let mut laid = [0u32; tally::LARGEST];
     match lay::lay(n, couplers, stretch, &mut laid) {
-        Answer::Laid {
-            records,
-            cnots: _,
-            rotations: _,
-            depth: _,
-            phase,
-        } => Part {
-            next: store_records(&laid[..records], out, at),
-            phase,
+        Ok(counts) => Part {
+            next: store_records(&laid[..counts.records], out, at),
+            phase: counts.phase,
         },
-        Answer::Refused { verdict: _ } => Part { next: at, phase: 0 },
+        Err(_) => Part { next: at, phase: 0 },
     }
 }
 
@@ -116,18 +108,12 @@ fn lay_stretches(n: usize, couplers: &[u32], gates: &[u32], out: &mut [u32]) -> 
 }
 
 // Lays a job: tests 1 to 8 in order; the gates go to `out` only once all of them are passed.
-pub fn lay_job(n: usize, couplers: &[u32], gates: &[u32], out: &mut [u32]) -> Answer
+pub fn lay_job(n: usize, couplers: &[u32], gates: &[u32], out: &mut [u32]) -> Result<Laid, Refusal>
     ensures { (result ≡ job_answered n couplers.now gates.now (length out.old)) × (out.new ≡ job_output n couplers.now gates.now out.old) }
 {
-    let verdict = judge::judge(n, couplers, gates);
-    if verdict::number(verdict) != 0 {
-        return Answer::Refused { verdict };
-    }
-    let room = judge_room(n, gates, out.len());
-    if verdict::number(room) != 0 {
-        return Answer::Refused { verdict: room };
-    }
+    judge::judge(n, couplers, gates)?;
+    judge_room(n, gates, out.len())?;
     let part = lay_stretches(n, couplers, gates, out);
     let next = part.next;
-    lay::counted(&out[..next], n, part.phase)
+    Ok(lay::counted(&out[..next], n, part.phase))
 }

@@ -14,22 +14,16 @@ use isles::islands;
 use meaning::told;
 use tallies::tally;
 use verdicts::verdict;
-use verdicts::verdict::Verdict;
+use verdicts::verdict::{Refusal, Verdict};
 
 // Tests 1 to 5.
 fn judge_drawing(n: usize, couplers: &[u32], gates: &[u32]) -> Verdict
     ensures { result ≡ judged_five n couplers.now gates.now }
 {
-    let qubits = verdict::judge_qubits(n);
-    if verdict::number(qubits) != 0 {
-        return qubits;
-    }
-    let listed = verdict::judge_couplers(couplers, n);
-    if verdict::number(listed) != 0 {
-        return listed;
-    }
+    verdict::judge_qubits(n)?;
+    verdict::judge_couplers(couplers, n)?;
     if Job::GATES < gates.len() {
-        return Verdict::ManyGates;
+        return Err(Refusal::ManyGates);
     }
     verdict::judge_drawn(gates, n)
 }
@@ -38,11 +32,11 @@ fn judge_drawing(n: usize, couplers: &[u32], gates: &[u32]) -> Verdict
 fn over_at(n: usize, stretch: &[u32]) -> usize
     ensures { result ≡ over_at (gates_of n stretch.now) }
 {
-    let told = told::tell(stretch, n);
-    told.fed
+    told::tell(stretch, n).fed
 }
 
-// Test 6 of every stretch.
+// Test 6 of every stretch. The stretches are gone over by their places, and not by `split`: a
+// refusal returns a place, and where they are laid the Hadamard behind each is asked for too.
 fn judge_parities(n: usize, gates: &[u32]) -> Verdict
     ensures { result ≡ judged_parities_from n 0 (stretches_of n gates.now) }
 {
@@ -51,11 +45,11 @@ fn judge_parities(n: usize, gates: &[u32]) -> Verdict
         let stretch = cut::stretch_at(n, gates, from);
         let over = over_at(n, stretch);
         if over < stretch.len() {
-            return Verdict::ManyParities(from + over);
+            return Err(Refusal::ManyParities(from + over));
         }
         from = from + stretch.len() + 1;
     }
-    Verdict::Accepted
+    Ok(())
 }
 
 // Test 7 of every stretch, on islands that are found once for all of them. Where nothing else can
@@ -72,25 +66,19 @@ fn judge_reaches(n: usize, couplers: &[u32], gates: &[u32]) -> Verdict
     while from <= gates.len() {
         let stretch = cut::stretch_at(n, gates, from);
         let reach = judging::judge::judge_on(n, couplers, islands, stretch, tally::LARGEST);
-        if verdict::number(reach) != 0 {
-            return Verdict::Unreachable(from);
+        if reach.is_err() {
+            return Err(Refusal::Unreachable(from));
         }
         from = from + stretch.len() + 1;
     }
-    Verdict::Accepted
+    Ok(())
 }
 
 // Tests 1 to 7.
 pub fn judge(n: usize, couplers: &[u32], gates: &[u32]) -> Verdict
     ensures { result ≡ judged_stretches n couplers.now gates.now }
 {
-    let drawing = judge_drawing(n, couplers, gates);
-    if verdict::number(drawing) != 0 {
-        return drawing;
-    }
-    let parities = judge_parities(n, gates);
-    if verdict::number(parities) != 0 {
-        return parities;
-    }
+    judge_drawing(n, couplers, gates)?;
+    judge_parities(n, gates)?;
     judge_reaches(n, couplers, gates)
 }

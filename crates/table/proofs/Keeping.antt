@@ -1,9 +1,9 @@
 -- Keeping the entries whose sum is not 0. Assumes nothing.
-use mathlib.Core.Path.{◌≡◌, refl, sym, ap, ap₂, ◌∙◌}
+use mathlib.Core.Path.{◌≡◌, refl, sym, ap, ap₂, ◌∙◌, subst}
 use mathlib.Core.Logic.{◌≢◌}
 use mathlib.Core.Bool.{Bool, true, false, not}
 use mathlib.Core.List.{List, [], ◌∷◌, ◌++◌, map, append_assoc, append-nil}
-use Prim.Native.Nat.{ℕ, suc, ◌+◌, ◌-◌, ◌≤◌, ◌<◌}
+use Prim.Native.Nat.{ℕ, suc, ◌+◌, ◌-◌, ◌≤◌, ◌<◌, min}
 use native.Mathlib.Omega.{arith}
 use native.Mathlib.Numerals.{add-one}
 use lib.Dec.{eqb}
@@ -14,7 +14,7 @@ use Rattle.sets.specs.Pick.{pick}
 use Rattle.sets.specs.Lists.{those}
 use Rattle.sets.proofs.Finding.{sub-suc}
 use Rattle.table.specs.declared.sums.Sums.{Sums}
-use Rattle.table.specs.Table.{kept, padded, kept_table}
+use Rattle.table.specs.Table.{tabled, empty, kept, padded, kept_table}
 
 -- ---- one entry more
 
@@ -55,81 +55,90 @@ padded-snoc n xs v h =
 
 -- ---- the loop
 
--- of the first n entries, i are looked at
-pub record Keeping (parity sum : List ℕ) (n i : ℕ) (parities sums : List ℕ) (len : ℕ) : Type 0 where
-  pub within : i ≤ 256
-  pub first : parities ≡ padded 256 (kept (take i (take n parity)) (take i (take n sum)))
-  pub second : sums ≡ padded 256 (kept (take i (take n sum)) (take i (take n sum)))
-  pub count : len ≡ length (kept (take i (take n sum)) (take i (take n sum)))
-  pub few : len ≤ i
+-- of the first n entries, i are looked at, and t has those of them that are kept
+pub record Keeping (parity sum : List ℕ) (n i : ℕ) (t : Sums) : Type 0 where
+  pub first : t.parity ≡ padded 256 (kept (take i (take n parity)) (take i (take n sum)))
+  pub second : t.sum ≡ padded 256 (kept (take i (take n sum)) (take i (take n sum)))
+  pub count : t.len ≡ length (kept (take i (take n sum)) (take i (take n sum)))
+  pub few : t.len ≤ i
 
-pub keeping_none : (parity sum : List ℕ) (n : ℕ) → Keeping parity sum n 0 (replicate 256 0) (replicate 256 0) 0
-unfolding kept padded
-keeping_none parity sum n = record { within = omega arith; first = refl; second = refl; count = refl; few = omega arith }
+pub keeping_none : (parity sum : List ℕ) (n : ℕ) → Keeping parity sum n 0 empty
+unfolding kept empty
+keeping_none parity sum n = record { first = refl; second = refl; count = refl; few = omega arith }
 
-module _ (parity sum : List ℕ) (n i : ℕ) (parities sums : List ℕ) (len : ℕ) (lp : length parity ≡ 256) (ls : length sum ≡ 256)
-    (k : Keeping parity sum n i parities sums len) (h : i < 256) where
-  -- past the first n nothing is looked at
-  pub keeping-past : n ≤ i → Keeping parity sum n (i + 1) parities sums len
-  keeping-past b = record { within = omega arith; first = rw (same parity, same sum) k.first; second = rw (same sum) k.second; count = rw (same sum) k.count; few = omega (arith, k.few) }
+module _ (parity sum : List ℕ) (n i : ℕ) (t : Sums) (lp : length parity ≡ 256) (ls : length sum ≡ 256) (k : Keeping parity sum n i t) (h : i < 256) (b : i < n) where
+  more : (xs : List ℕ) → length xs ≡ 256 → take (i + 1) (take n xs) ≡ take i (take n xs) ++ get_or xs i 0 ∷ []
+  more xs e =
+      ap (λ (j : ℕ). take j (take n xs)) (add-one i) ∙ take-suc (take n xs) i 0 (omega (arith, length-take n xs))
+      ∙ ap (λ (v : ℕ). take i (take n xs) ++ v ∷ []) (get_or-take n xs i 0 b)
+
+  long : (xs : List ℕ) → length xs ≡ 256 → length (take i (take n xs)) ≡ i
+  long xs e = length-take-le i (take n xs) (omega (arith, length-take n xs))
+
+  one : (xs : List ℕ) → length xs ≡ 256
+      → kept (take (i + 1) (take n xs)) (take (i + 1) (take n sum)) ≡ kept (take i (take n xs)) (take i (take n sum)) ++ pick (eqb (get_or sum i 0) 0) [] (get_or xs i 0 ∷ [])
+  one xs e =
+      ap₂ kept (more xs e) (more sum ls) ∙ kept-snoc (take i (take n xs)) (take i (take n sum)) (get_or xs i 0) (get_or sum i 0) (long xs e ∙ sym (long sum ls))
+
+  pub keeping-drop : get_or sum i 0 ≡ 0 → Keeping parity sum n (i + 1) t
+  keeping-drop z = record { first = rw (same parity lp) k.first; second = rw (same sum ls) k.second; count = rw (same sum ls) k.count; few = omega (arith, k.few) }
     where
-      short : (xs : List ℕ) (j : ℕ) → n ≤ j → take j (take n xs) ≡ take n xs
-      short xs j l = take_all j (take n xs) (omega (arith, length-take n xs))
+      same : (xs : List ℕ) → length xs ≡ 256 → kept (take (i + 1) (take n xs)) (take (i + 1) (take n sum)) ≡ kept (take i (take n xs)) (take i (take n sum))
+      same xs e = one xs e ∙ ap (λ (c : Bool). kept (take i (take n xs)) (take i (take n sum)) ++ pick c [] (get_or xs i 0 ∷ [])) (eq-eqb (get_or sum i 0) 0 z) ∙ append-nil (kept (take i (take n xs)) (take i (take n sum)))
 
-      same : (xs : List ℕ) → take (i + 1) (take n xs) ≡ take i (take n xs)
-      same xs = short xs (i + 1) (omega arith) ∙ sym (short xs i b)
+  pub keeping-take : get_or sum i 0 ≢ 0 → Keeping parity sum n (i + 1) (tabled (set t.parity t.len (get_or parity i 0)) (set t.sum t.len (get_or sum i 0)) (t.len + 1))
+  keeping-take ne =
+      let cp : t.len ≡ length (kept (take i (take n parity)) (take i (take n sum))) =
+      k.count ∙ kept-length (take i (take n sum)) (take i (take n parity)) (take i (take n sum)) (long sum ls ∙ sym (long parity lp)) in
+      record {
+        first = put parity lp t.parity cp k.first;
+        second = put sum ls t.sum k.count k.second;
+        count = ap (λ (m : ℕ). m + 1) k.count ∙ sym (ap length (new sum ls) ∙ length-append (kept (take i (take n sum)) (take i (take n sum))) (get_or sum i 0 ∷ []));
+        few = omega (arith, k.few);
+      }
+    where
+      new : (xs : List ℕ) → length xs ≡ 256
+          → kept (take (i + 1) (take n xs)) (take (i + 1) (take n sum)) ≡ kept (take i (take n xs)) (take i (take n sum)) ++ get_or xs i 0 ∷ []
+      new xs e = one xs e ∙ ap (λ (c : Bool). kept (take i (take n xs)) (take i (take n sum)) ++ pick c [] (get_or xs i 0 ∷ [])) (ne_eqb (get_or sum i 0) 0 ne)
 
-  module _ (b : i < n) where
-    more : (xs : List ℕ) → length xs ≡ 256 → take (i + 1) (take n xs) ≡ take i (take n xs) ++ get_or xs i 0 ∷ []
-    more xs e =
-        ap (λ (j : ℕ). take j (take n xs)) (add-one i) ∙ take-suc (take n xs) i 0 (omega (arith, length-take n xs))
-        ∙ ap (λ (v : ℕ). take i (take n xs) ++ v ∷ []) (get_or-take n xs i 0 b)
+      put : (xs : List ℕ) → length xs ≡ 256 → (ys : List ℕ) → t.len ≡ length (kept (take i (take n xs)) (take i (take n sum)))
+          → ys ≡ padded 256 (kept (take i (take n xs)) (take i (take n sum)))
+          → set ys t.len (get_or xs i 0) ≡ padded 256 (kept (take (i + 1) (take n xs)) (take (i + 1) (take n sum)))
+      put xs e ys c w =
+          ap₂ (λ (l : List ℕ) (m : ℕ). set l m (get_or xs i 0)) w c
+          ∙ padded-snoc 256 (kept (take i (take n xs)) (take i (take n sum))) (get_or xs i 0) (omega (arith, k.few))
+          ∙ ap (padded 256) (sym (new xs e))
 
-    long : (xs : List ℕ) → length xs ≡ 256 → length (take i (take n xs)) ≡ i
-    long xs e = length-take-le i (take n xs) (omega (arith, length-take n xs))
+-- the entry at i, as a loop over both lists has it: p with the sum v
+module _ (parity sum : List ℕ) (n m : ℕ) (lp : length parity ≡ 256) (ls : length sum ≡ 256) (em : m ≡ min n 256) (i p v : ℕ) (t : Sums)
+    (h : i < length (take m parity)) (hp : p ≡ get_or (take m parity) i 0) (hv : v ≡ get_or (take m sum) i 0) (k : Keeping parity sum n i t) where
+  low : i < m
+  low = omega (arith, length-take m parity)
 
-    one : (xs : List ℕ) → length xs ≡ 256
-        → kept (take (i + 1) (take n xs)) (take (i + 1) (take n sum)) ≡ kept (take i (take n xs)) (take i (take n sum)) ++ pick (eqb (get_or sum i 0) 0) [] (get_or xs i 0 ∷ [])
-    one xs e =
-        ap₂ kept (more xs e) (more sum ls) ∙ kept-snoc (take i (take n xs)) (take i (take n sum)) (get_or xs i 0) (get_or sum i 0) (long xs e ∙ sym (long sum ls))
+  sum_is : v ≡ get_or sum i 0
+  sum_is = hv ∙ get_or-take m sum i 0 low
 
-    pub keeping-drop : get_or sum i 0 ≡ 0 → Keeping parity sum n (i + 1) parities sums len
-    keeping-drop z = record { within = omega arith; first = rw (same parity lp) k.first; second = rw (same sum ls) k.second; count = rw (same sum ls) k.count; few = omega (arith, k.few) }
-      where
-        same : (xs : List ℕ) → length xs ≡ 256 → kept (take (i + 1) (take n xs)) (take (i + 1) (take n sum)) ≡ kept (take i (take n xs)) (take i (take n sum))
-        same xs e = one xs e ∙ ap (λ (t : Bool). kept (take i (take n xs)) (take i (take n sum)) ++ pick t [] (get_or xs i 0 ∷ [])) (eq-eqb (get_or sum i 0) 0 z) ∙ append-nil (kept (take i (take n xs)) (take i (take n sum)))
+  parity_is : p ≡ get_or parity i 0
+  parity_is = hp ∙ get_or-take m parity i 0 low
 
-    pub keeping-take : get_or sum i 0 ≢ 0 → Keeping parity sum n (i + 1) (set parities len (get_or parity i 0)) (set sums len (get_or sum i 0)) (len + 1)
-    keeping-take ne =
-        let cp : len ≡ length (kept (take i (take n parity)) (take i (take n sum))) =
-        k.count ∙ kept-length (take i (take n sum)) (take i (take n parity)) (take i (take n sum)) (long sum ls ∙ sym (long parity lp)) in
-        record {
-          within = omega arith;
-          first = put parity lp parities cp k.first;
-          second = put sum ls sums k.count k.second;
-          count = ap (λ (m : ℕ). m + 1) k.count ∙ sym (ap length (new sum ls) ∙ length-append (kept (take i (take n sum)) (take i (take n sum))) (get_or sum i 0 ∷ []));
-          few = omega (arith, k.few);
-        }
-      where
-        new : (xs : List ℕ) → length xs ≡ 256
-            → kept (take (i + 1) (take n xs)) (take (i + 1) (take n sum)) ≡ kept (take i (take n xs)) (take i (take n sum)) ++ get_or xs i 0 ∷ []
-        new xs e = one xs e ∙ ap (λ (t : Bool). kept (take i (take n xs)) (take i (take n sum)) ++ pick t [] (get_or xs i 0 ∷ [])) (ne_eqb (get_or sum i 0) 0 ne)
+  pub entry-room : t.len < 256
+  entry-room = omega (arith, low, k.few)
 
-        put : (xs : List ℕ) → length xs ≡ 256 → (ys : List ℕ) → len ≡ length (kept (take i (take n xs)) (take i (take n sum)))
-            → ys ≡ padded 256 (kept (take i (take n xs)) (take i (take n sum)))
-            → set ys len (get_or xs i 0) ≡ padded 256 (kept (take (i + 1) (take n xs)) (take (i + 1) (take n sum)))
-        put xs e ys c w =
-            ap₂ (λ (l : List ℕ) (m : ℕ). set l m (get_or xs i 0)) w c
-            ∙ padded-snoc 256 (kept (take i (take n xs)) (take i (take n sum))) (get_or xs i 0) (omega (arith, k.few))
-            ∙ ap (padded 256) (sym (new xs e))
+  pub entry-dropped : v ≡ 0 → Keeping parity sum n (i + 1) t
+  entry-dropped z = keeping-drop parity sum n i t lp ls k (omega (arith, low)) (omega (arith, low)) (sym sum_is ∙ z)
 
-pub keeping_all : (parity sum : List ℕ) (n i : ℕ) (parities sums : List ℕ) (len : ℕ) → length parity ≡ 256 → length sum ≡ 256 → 256 ≤ i
-    → Keeping parity sum n i parities sums len → ◌≡◌ {A = Sums} (record { parity = parities; sum = sums; len = len }) (kept_table parity sum n)
+  pub entry-kept : v ≢ 0 → (u : Sums) → u ≡ tabled (set t.parity t.len p) (set t.sum t.len v) (t.len + 1) → Keeping parity sum n (i + 1) u
+  entry-kept ne u e =
+      subst (Keeping parity sum n (i + 1)) (sym (e ∙ ap₂ (λ (x y : ℕ). tabled (set t.parity t.len x) (set t.sum t.len y) (t.len + 1)) parity_is sum_is))
+      (keeping-take parity sum n i t lp ls k (omega (arith, low)) (omega (arith, low)) (λ z. ne (sum_is ∙ z)))
+
+pub keeping_all : (parity sum : List ℕ) (n i : ℕ) (t : Sums) → length parity ≡ 256 → length sum ≡ 256 → min n 256 ≤ i → Keeping parity sum n i t → t ≡ kept_table parity sum n
 unfolding kept_table
-keeping_all parity sum n i parities sums len lp ls h k =
+keeping_all parity sum n i t lp ls h k =
     let wp : take i (take n parity) ≡ take n parity = take_all i (take n parity) (omega (arith, length-take n parity)) in
     let ws : take i (take n sum) ≡ take n sum = take_all i (take n sum) (omega (arith, length-take n sum)) in
-    rw (k.first, k.second, k.count, wp, ws)
+    let e : t ≡ tabled t.parity t.sum t.len = refl in
+    e ∙ rw (k.first, k.second, k.count, wp, ws)
 
 -- ---- keeping by what a function gives
 

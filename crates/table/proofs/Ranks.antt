@@ -1,15 +1,20 @@
 -- Ranks in the table, and what adding an angle comes to in each case. Assumes nothing.
 use mathlib.Core.Path.{◌≡◌, refl, sym, ap, ◌∙◌}
 use mathlib.Core.Bool.{Bool, true, false}
+use Rattle.std.proofs.Common.{cond, Option, Some, None}
+use Rattle.std.specs.List.{position_or_len, position}
+use Rattle.std.specs.Option.{unwrap_or}
+use Rattle.std.proofs.lemmas.List.Sums.{position_or_len_is}
 use mathlib.Core.List.{List}
 use Prim.Native.Nat.{ℕ, ◌≤◌, ◌<◌, zero-le}
 use native.Mathlib.Omega.{arith}
 use native.Mathlib.Nat.{le_refl}
-use lib.Dec.{ltb}
-use lib.ListN.{get_or}
-use borrow.Author.Tests.{lt-ltb, le-ltb, le-leb, lt-leb, eq-eqb, ne_eqb, ltb-true, ltb-false}
-use Rattle.sets.specs.Pick.{pick}
-use Rattle.sets.proofs.Finding.{first-before}
+use lib.Dec.{leb, ltb}
+use lib.ListN.{length, get_or, take}
+use lib.Seq.{get_or-take, length-take-le}
+use borrow.Author.Tests.{lt-ltb, le-ltb, le-leb, lt-leb, eq-eqb, ne_eqb, leb-true, leb-false, ltb-true, ltb-false}
+use Rattle.sets.specs.Pick.{pick, either}
+use Rattle.sets.proofs.Finding.{first-before, first-true}
 use Rattle.table.specs.declared.sums.Sums.{Sums}
 use Rattle.table.specs.Table.{Added, stops_at, rank_of, held_at, grown_at, new_at, added_at, added_to}
 
@@ -18,14 +23,6 @@ use Rattle.table.specs.Table.{Added, stops_at, rank_of, held_at, grown_at, new_a
 pub stop-past : (xs : List ℕ) (n p i : ℕ) → n ≤ i → stops_at xs n p i ≡ true
 unfolding stops_at
 stop-past xs n p i h = simp (le-leb n i h)
-
-pub stop-found : (xs : List ℕ) (n p i : ℕ) → i < n → p ≤ get_or xs i 0 → stops_at xs n p i ≡ true
-unfolding stops_at
-stop-found xs n p i h g = simp (lt-leb n i h, le-leb p (get_or xs i 0) g)
-
-pub stop-not : (xs : List ℕ) (n p i : ℕ) → i < n → get_or xs i 0 < p → stops_at xs n p i ≡ false
-unfolding stops_at
-stop-not xs n p i h g = simp (lt-leb n i h, lt-leb p (get_or xs i 0) g)
 
 -- ---- the rank
 
@@ -39,6 +36,59 @@ rank-le xs n p = go (ltb n (rank_of xs n p)) refl
         ap (λ (t : Bool). pick t 0 1) (sym (stop-past xs n p n (le_refl n)) ∙ first-before (stops_at xs n p) 256 0 n zero-le (ltb-true n (rank_of xs n p) e)) in
         omega arith
     go false e = ltb-false n (rank_of xs n p) e
+
+-- ---- what the rank says
+
+module _ (xs : List ℕ) (n p : ℕ) where
+  pub rank_below : (i : ℕ) → i < rank_of xs n p → get_or xs i 0 < p
+  unfolding rank_of stops_at
+  rank_below i h = go (leb n i) (leb p (get_or xs i 0)) refl (first-before (stops_at xs n p) 256 0 i zero-le h)
+    where
+      never : true ≡ false → ⊥
+      never e = let z : ◌≡◌ {A = ℕ} 0 1 = ap (λ (t : Bool). pick t 0 1) e in omega arith
+
+      go : (a b : Bool) → leb p (get_or xs i 0) ≡ b → either a b ≡ false → get_or xs i 0 < p
+      go true b q e = absurd (never e)
+      go false true q e = absurd (never e)
+      go false false q e = leb-false p (get_or xs i 0) q
+
+  pub rank-above : n ≤ 256 → rank_of xs n p < n → p ≤ get_or xs (rank_of xs n p) 0
+  unfolding rank_of stops_at
+  rank-above few h = go (leb n k) (leb p (get_or xs k 0)) refl refl (first-true (stops_at xs n p) 256 0 (omega arith))
+    where
+      k : ℕ
+      k = rank_of xs n p
+
+      never : false ≡ true → ⊥
+      never e = let z : ◌≡◌ {A = ℕ} 0 1 = ap (λ (t : Bool). pick t 1 0) e in omega arith
+
+      go : (a b : Bool) → leb n k ≡ a → leb p (get_or xs k 0) ≡ b → either a b ≡ true → p ≤ get_or xs k 0
+      go true b q r e = absurd (omega (arith, leb-true n k q))
+      go false true q r e = leb-true p (get_or xs k 0) r
+      go false false q r e = absurd (never e)
+
+-- the first of the first n that is p or more; n where none is
+rank-found : (xs : List ℕ) (n p : ℕ) → n ≤ 256 → n ≤ length xs → unwrap_or (position (λ x. leb p x) (take n xs)) n ≡ rank_of xs n p
+rank-found xs n p few long = rw (found, short) (go (ltb (rank_of xs n p) n) refl)
+  where
+    short : length (take n xs) ≡ n
+    short = length-take-le n xs long
+
+    at : (k : ℕ) → k < n → get_or (take n xs) k 0 ≡ get_or xs k 0
+    at k h = get_or-take n xs k 0 h
+
+    found : position_or_len (λ x. leb p x) (take n xs) ≡ rank_of xs n p
+    found =
+        position_or_len_is (λ x. leb p x) (take n xs) (rank_of xs n p) 0 (omega (arith, short, rank-le xs n p))
+        (λ k h. ap (leb p) (at k (omega (arith, h, rank-le xs n p))) ∙ lt-leb p (get_or xs k 0) (rank_below xs n p k h))
+        (λ h. ap (leb p) (at (rank_of xs n p) (omega (arith, h, short))) ∙ le-leb p (get_or xs (rank_of xs n p) 0) (rank-above xs n p few (omega (arith, h, short))))
+
+    go : (b : Bool) → ltb (rank_of xs n p) n ≡ b → unwrap_or (cond b (Some (rank_of xs n p)) None) n ≡ rank_of xs n p
+    go true e = refl
+    go false e = omega (arith, rank-le xs n p, ltb-false (rank_of xs n p) n e)
+
+pub rank-at : (s : Sums) (p k : ℕ) (o : Option ℕ) → s.len ≤ 256 → s.len ≤ length s.parity → o ≡ position (λ x. leb p x) (take s.len s.parity) → k ≡ unwrap_or o s.len → k ≡ rank_of s.parity s.len p
+rank-at s p k o few long e d = d ∙ ap (λ (r : Option ℕ). unwrap_or r s.len) e ∙ rank-found s.parity s.len p few long
 
 -- ---- adding
 

@@ -12,6 +12,10 @@ padded n xs = xs ++ replicate (n - length xs) 0
 abbrev pub tabled : List ℕ → List ℕ → ℕ → Sums
 tabled parity sum len = record { parity = parity; sum = sum; len = len }
 
+-- no parity yet
+unfoldable pub empty : Sums
+empty = tabled (padded most_parities []) (padded most_parities []) 0
+
 -- ---- an angle comes in
 
 -- the table after an angle came in; `full` where its parity would be the 257th, and then nothing has changed
@@ -19,8 +23,8 @@ pub record Added : Type 0 where
   pub sums : Sums
   pub full : Bool
 
-abbrev pub added : List ℕ → List ℕ → ℕ → Bool → Added
-added parity sum len full = record { sums = tabled parity sum len; full = full }
+abbrev pub added : Sums → Bool → Added
+added sums full = record { sums = sums; full = full }
 
 -- place i is past the first n, or holds p or more
 unfoldable pub stops_at : List ℕ → ℕ → ℕ → ℕ → Bool

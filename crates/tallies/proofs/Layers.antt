@@ -6,6 +6,7 @@ use native.Mathlib.Omega.{arith}
 use native.Mathlib.Numerals.{add-one}
 use lib.ListN.{length, get_or, set, drop, replicate, drop_of_length-le}
 use lib.Seq.{drop-cons}
+use Rattle.std.specs.List.{fold}
 use Rattle.gates.specs.declared.gate.Gate.{Gate}
 use Rattle.gates.specs.declared.gate.Gate.TheVariants.{Cnot, Rotation, X, Bad}
 use Rattle.gates.specs.Layout.{gate_of, gates_of}
@@ -55,10 +56,8 @@ pub layers-end : (n : ℕ) (xs : List ℕ) (i : ℕ) (L : List ℕ) → length x
 unfolding layers_from
 layers-end n xs i L h = rw (drop_of_length-le xs h)
 
-pub highest-step : (L : List ℕ) (q : ℕ) → q < length L → highest (drop q L) ≡ max (get_or L q 0) (highest (drop (q + 1) L))
+-- a fold that keeps the later of two finds the highest
+pub highest-folded : (L : List ℕ) (m : ℕ) → fold (λ a k. max k a) m L ≡ max m (highest L)
 unfolding highest
-highest-step L q h = rw (add-one, drop-cons L q 0)
-
-pub highest-end : (L : List ℕ) (q : ℕ) → length L ≤ q → highest (drop q L) ≡ 0
-unfolding highest
-highest-end L q h = rw (drop_of_length-le L h)
+highest-folded [] m = omega arith
+highest-folded (x ∷ xs) m = omega (arith, highest-folded xs (max x m))

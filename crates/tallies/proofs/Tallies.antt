@@ -1,12 +1,13 @@
 -- Counts and depth of lists of gates. Assumes nothing.
 use mathlib.Core.Path.{◌≡◌, refl}
+use mathlib.Core.Bool.{Bool, true, false, cond}
+use Rattle.std.specs.List.{count_by}
+use Rattle.std.proofs.lemmas.List.Recursion.{is_count_by}
 use mathlib.Core.List.{List, [], ◌∷◌, ◌++◌}
-use Prim.Native.Nat.{ℕ, ◌+◌, ◌-◌, ◌*◌, ◌≤◌, ◌<◌}
+use Prim.Native.Nat.{ℕ, ◌+◌, ◌-◌, ◌*◌, ◌≤◌}
 use native.Mathlib.Nat.{mul-le-mul_left, mul-le-mul_right}
 use native.Mathlib.Omega.{arith}
-use native.Mathlib.Numerals.{add-one}
-use lib.ListN.{length, get_or, drop, length-map, drop_of_length-le}
-use lib.Seq.{drop-cons}
+use lib.ListN.{length}
 use Rattle.gates.specs.Limits.{most_qubits, most_parities}
 use Rattle.gates.specs.declared.gate.Gate.{Gate}
 use Rattle.gates.specs.declared.gate.Gate.TheVariants.{Cnot, Rotation, X, Bad}
@@ -57,6 +58,44 @@ unfolding tally
 tally-bounded f one [] = omega arith
 tally-bounded f one (g ∷ gs) = omega (arith, one g, tally-bounded f one gs)
 
+-- ---- counts by a test
+
+abbrev pub is_cnot : Gate → Bool
+is_cnot (Cnot c t) = true
+is_cnot (Rotation q a) = false
+is_cnot (X q) = false
+is_cnot Bad = false
+
+abbrev pub is_rotation : Gate → Bool
+is_rotation (Cnot c t) = false
+is_rotation (Rotation q a) = true
+is_rotation (X q) = false
+is_rotation Bad = false
+
+counted : (f : Gate → ℕ) (p : Gate → Bool) → ((g : Gate) (m : ℕ) → f g + m ≡ cond (p g) (1 + m) m) → (n : ℕ) (xs : List ℕ) → tally f (gates_of n xs) ≡ count_by (λ x. p (gate_of n x)) xs
+unfolding tally
+counted f p h n = is_count_by (λ xs. tally f (gates_of n xs)) (λ x. p (gate_of n x)) refl (λ x xs. h (gate_of n x) (tally f (gates_of n xs)))
+
+pub cnots-counted : (n : ℕ) (xs : List ℕ) → cnots_of (gates_of n xs) ≡ count_by (λ x. is_cnot (gate_of n x)) xs
+unfolding cnots_of
+cnots-counted = counted one_cnot is_cnot more
+  where
+    more : (g : Gate) (m : ℕ) → one_cnot g + m ≡ cond (is_cnot g) (1 + m) m
+    more (Cnot c t) m = refl
+    more (Rotation q a) m = omega arith
+    more (X q) m = omega arith
+    more Bad m = omega arith
+
+pub rotations-counted : (n : ℕ) (xs : List ℕ) → rotations_of (gates_of n xs) ≡ count_by (λ x. is_rotation (gate_of n x)) xs
+unfolding rotations_of
+rotations-counted = counted one_rotation is_rotation more
+  where
+    more : (g : Gate) (m : ℕ) → one_rotation g + m ≡ cond (is_rotation g) (1 + m) m
+    more (Cnot c t) m = omega arith
+    more (Rotation q a) m = refl
+    more (X q) m = omega arith
+    more Bad m = omega arith
+
 pub one-cnot : (g : Gate) → one_cnot g ≤ 1
 one-cnot (Cnot c t) = omega arith
 one-cnot (Rotation q a) = omega arith
@@ -79,27 +118,7 @@ pub rotations-most : (gs : List Gate) → rotations_of gs ≤ length gs
 unfolding rotations_of
 rotations-most gs = tally-bounded one_rotation one-rotation gs
 
--- ---- as a loop counts: what is counted, and what is left
-
-abbrev pub left : (Gate → ℕ) → ℕ → List ℕ → ℕ → ℕ
-left f n xs i = tally f (gates_of n (drop i xs))
-
-pub left_step : (f : Gate → ℕ) (n : ℕ) (xs : List ℕ) (i : ℕ) → i < length xs → left f n xs i ≡ f (gate_of n (get_or xs i 0)) + left f n xs (i + 1)
-unfolding tally
-left_step f n xs i h = rw (add-one, drop-cons xs i 0)
-
-pub left_end : (f : Gate → ℕ) (n : ℕ) (xs : List ℕ) (i : ℕ) → length xs ≤ i → left f n xs i ≡ 0
-unfolding tally
-left_end f n xs i h = rw (drop_of_length-le xs h)
-
-pub left-bounded : (f : Gate → ℕ) → ((g : Gate) → f g ≤ 1) → (n : ℕ) (xs : List ℕ) → tally f (gates_of n xs) ≤ length xs
-left-bounded f one n xs = omega (arith, tally-bounded f one (gates_of n xs), length-map xs (gate_of n))
-
 -- ---- the bound
-
-pub bound-none : (n t : ℕ) → n ≡ 0 → t ≡ bound_of n t
-unfolding bound_of
-bound-none n t e = rw e (omega arith)
 
 pub product_le : (a b c d : ℕ) → a ≤ c → b ≤ d → a * b ≤ c * d
 product_le a b c d h g = omega (arith, mul-le-mul_right b h, mul-le-mul_left c g)

@@ -4,7 +4,7 @@ use mathlib.Core.List.{List, [], ◌∷◌, ◌++◌}
 use Prim.Native.Nat.{ℕ}
 use Rattle.gates.specs.Layout.{packed, kind_in, a_in, b_in}
 use Rattle.lines.specs.Lines.{digits_in, digits, fields_text, line_text, letter, fields_in, record_text, records_text, text_of, refusal_text, counts_text}
-use Rattle.spots.specs.Numbers.{or_else, read_number, number_from, more_digits, digit_of, skipped}
+use Rattle.spots.specs.Numbers.{read_number, number_from, more_digits, digit_of, skipped}
 use Rattle.reading.specs.Parsing.{misfit, job, parsed, body_of, end_of, read_head, run_of, run_in, read_one, read_other, read_line, read_short}
 
 -- q 2, e 1 0, r 1 500, r 0 7, r 1 65036
@@ -24,7 +24,7 @@ unfolding text couplers gates packed kind_in a_in b_in text_of records_text reco
 its-text = refl
 
 its-job : parsed text ≡ job 2 couplers gates
-unfolding text couplers gates packed parsed body_of end_of read_head run_of run_in read_one read_other or_else read_line read_short read_number number_from more_digits digit_of skipped letter
+unfolding text couplers gates packed parsed body_of end_of read_head run_of run_in read_one read_other read_line read_short read_number number_from more_digits digit_of skipped letter
 its-job = refl
 
 -- "s 0 1 0" of request E2, and "x 7 2"
@@ -38,17 +38,17 @@ a-refusal = refl
 
 -- q 02
 leading-zero : parsed (113 ∷ 9 ∷ 48 ∷ 50 ∷ 10 ∷ []) ≡ misfit 1
-unfolding packed parsed body_of end_of read_head run_of run_in read_one read_other or_else read_line read_short read_number number_from more_digits digit_of skipped letter
+unfolding packed parsed body_of end_of read_head run_of run_in read_one read_other read_line read_short read_number number_from more_digits digit_of skipped letter
 leading-zero = refl
 
 -- q 2, c 0 1, e 0 1
 coupler-after-gate : parsed (113 ∷ 9 ∷ 50 ∷ 10 ∷ 99 ∷ 9 ∷ 48 ∷ 9 ∷ 49 ∷ 10 ∷ 101 ∷ 9 ∷ 48 ∷ 9 ∷ 49 ∷ 10 ∷ []) ≡ misfit 3
-unfolding packed parsed body_of end_of read_head run_of run_in read_one read_other or_else read_line read_short read_number number_from more_digits digit_of skipped letter
+unfolding packed parsed body_of end_of read_head run_of run_in read_one read_other read_line read_short read_number number_from more_digits digit_of skipped letter
 coupler-after-gate = refl
 
 -- q 2, c 256 0
 too_large : parsed (113 ∷ 9 ∷ 50 ∷ 10 ∷ 99 ∷ 9 ∷ 50 ∷ 53 ∷ 54 ∷ 9 ∷ 48 ∷ 10 ∷ []) ≡ misfit 2
-unfolding packed parsed body_of end_of read_head run_of run_in read_one read_other or_else read_line read_short read_number number_from more_digits digit_of skipped letter
+unfolding packed parsed body_of end_of read_head run_of run_in read_one read_other read_line read_short read_number number_from more_digits digit_of skipped letter
 too_large = refl
 
 -- q 1, n 0
@@ -60,12 +60,12 @@ unfolding x-text packed kind_in a_in b_in text_of records_text record_text lette
 x-written = refl
 
 x-read : parsed x-text ≡ job 1 [] (packed 3 0 0 ∷ [])
-unfolding x-text packed parsed body_of end_of read_head run_of run_in read_one read_other or_else read_line read_short read_number number_from more_digits digit_of skipped letter
+unfolding x-text packed parsed body_of end_of read_head run_of run_in read_one read_other read_line read_short read_number number_from more_digits digit_of skipped letter
 x-read = refl
 
 -- q 1, n 0 0
 x-with-angle : parsed (113 ∷ 9 ∷ 49 ∷ 10 ∷ 110 ∷ 9 ∷ 48 ∷ 9 ∷ 48 ∷ 10 ∷ []) ≡ misfit 2
-unfolding packed parsed body_of end_of read_head run_of run_in read_one read_other or_else read_line read_short read_number number_from more_digits digit_of skipped letter
+unfolding packed parsed body_of end_of read_head run_of run_in read_one read_other read_line read_short read_number number_from more_digits digit_of skipped letter
 x-with-angle = refl
 
 -- q 2, h 1
@@ -77,10 +77,10 @@ unfolding h-text kind_in a_in b_in text_of records_text record_text letter field
 h-written = refl
 
 h-read : parsed h-text ≡ job 2 [] (67174400 ∷ [])
-unfolding h-text packed parsed body_of end_of read_head run_of run_in read_one read_other or_else read_line read_short read_number number_from more_digits digit_of skipped letter
+unfolding h-text packed parsed body_of end_of read_head run_of run_in read_one read_other read_line read_short read_number number_from more_digits digit_of skipped letter
 h-read = refl
 
 -- q 2, h 1 0
 h-with-angle : parsed (113 ∷ 9 ∷ 50 ∷ 10 ∷ 104 ∷ 9 ∷ 49 ∷ 9 ∷ 48 ∷ 10 ∷ []) ≡ misfit 2
-unfolding packed parsed body_of end_of read_head run_of run_in read_one read_other or_else read_line read_short read_number number_from more_digits digit_of skipped letter
+unfolding packed parsed body_of end_of read_head run_of run_in read_one read_other read_line read_short read_number number_from more_digits digit_of skipped letter
 h-with-angle = refl

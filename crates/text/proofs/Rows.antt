@@ -8,10 +8,10 @@ use native.Mathlib.Omega.{arith}
 use lib.Dec.{leb}
 use lib.ListN.{length}
 use borrow.Author.Tests.{leb-true, leb-false}
+use Rattle.std.specs.Prelude.{Ok, Err}
 use Rattle.sets.specs.Pick.{pick, both}
-use Rattle.verdicts.specs.declared.verdict.Verdict.{Verdict}
-use Rattle.verdicts.specs.declared.verdict.Verdict.TheVariants.{Accepted, Room, LongText}
-use Rattle.verdicts.specs.Verdicts.{number_of, place_of, judged_qubits, judged_drawn}
+use Rattle.verdicts.specs.declared.verdict.Refusal.TheVariants.{Room, LongText}
+use Rattle.verdicts.specs.Verdicts.{Verdict, number_of, place_of, judged_qubits, judged_drawn}
 use Rattle.verdicts.specs.InOrder.{and_then}
 use Rattle.verdicts.specs.Rows.{Row, Nowhere, Passes1, Passes2, Passes3, PassesDrawn}
 use Rattle.verdicts.proofs.Judged.{then-assoc}
@@ -28,11 +28,11 @@ use Rattle.text.specs.Writings.{judged_text}
 use Rattle.text.specs.Rows.{Suffices, TooShort, ReadingRows, CouplersRows, WritingRows}
 
 -- what is needed is at most what is there
-pub room-tests : (need room : ℕ) (v : Verdict) → 0 < number_of v → place_of v ≡ 0 → Tests (pick (leb need room) Accepted v) (number_of v) (need ≤ room) (room < need) Nowhere
+pub room-tests : (need room : ℕ) (v : Verdict) → 0 < number_of v → place_of v ≡ 0 → Tests (pick (leb need room) (Ok tt) v) (number_of v) (need ≤ room) (room < need) Nowhere
 room-tests need room v h e = record { decided = go (leb need room) refl; apart = λ (l : need ≤ room) (g : room < need). omega arith; refuses = h }
   where
     go : (b : Bool) → leb need room ≡ b
-        → ((number_of (pick b Accepted v) ≡ 0) × (need ≤ room)) ⊎ ((number_of (pick b Accepted v) ≡ number_of v) × (room < need) × Nowhere (place_of (pick b Accepted v)))
+        → ((number_of (pick b (Ok tt) v) ≡ 0) × (need ≤ room)) ⊎ ((number_of (pick b (Ok tt) v) ≡ number_of v) × (room < need) × Nowhere (place_of (pick b (Ok tt) v)))
     go true q = inl (refl, leb-true need room q)
     go false q = inr (refl, leb-false need room q, e)
 
@@ -66,7 +66,7 @@ module _ {u v w : Verdict} {Short Long Good Bad Fits Over : Type 0} {At : ℕ �
 
 module _ (s : List ℕ) (a b : ℕ) where
   tests-11 : Tests (judged_bytes s) 11 (length s ≤ most_bytes) (most_bytes < length s) Nowhere
-  tests-11 = room-tests (length s) most_bytes LongText (omega arith) refl
+  tests-11 = room-tests (length s) most_bytes (Err LongText) (omega arith) refl
 
   tests-10 : Tests (judged_lines (parsed s)) 10 (JobText s) ((k : ℕ) × Misfit s k) (Misfit s)
   tests-10 = record { decided = go (parsed s) refl; apart = λ j m. two (sym (misfit-parsed s m.0 m.1) ∙ job-parsed s j); refuses = omega arith }
@@ -97,7 +97,7 @@ module _ (s : List ℕ) (a b : ℕ) where
       apart p (inl l) = omega (arith, p.0, l)
       apart p (inr l) = omega (arith, p.1, l)
 
-      go : (t u : Bool) → leb (length es) a ≡ t → leb (length gs) b ≡ u → let v = pick (both t u) Accepted Room in
+      go : (t u : Bool) → leb (length es) a ≡ t → leb (length gs) b ≡ u → let v = pick (both t u) (Ok tt) (Err Room) in
           ((number_of v ≡ 0) × Suffices s a b) ⊎ ((number_of v ≡ 8) × TooShort s a b × Nowhere (place_of v))
       go true true p q = inl (refl, λ i. (omega (arith, couplers-are i, leb-true (length es) a p), omega (arith, gates-are i, leb-true (length gs) b q)))
       go true false p q = inr (refl, λ i. inr (omega (arith, gates-are i, leb-false (length gs) b q)), refl)
@@ -116,7 +116,7 @@ module _ (s : List ℕ) (a b : ℕ) where
 
 module _ (s : List ℕ) (room : ℕ) where
   listing-11 : Tests (judged_bytes s) 11 (length s ≤ most_bytes) (most_bytes < length s) Nowhere
-  listing-11 = room-tests (length s) most_bytes LongText (omega arith) refl
+  listing-11 = room-tests (length s) most_bytes (Err LongText) (omega arith) refl
 
   listing-10 : Tests (judged_lines (parsed_couplers s)) 10 (CouplersText s) ((k : ℕ) × MisfitCoupler s k) (MisfitCoupler s)
   listing-10 = record { decided = go (parsed_couplers s) refl; apart = λ c m. two (sym (coupler-misfit-parsed s m.0 m.1) ∙ couplers-parsed s c); refuses = omega arith }
@@ -134,7 +134,7 @@ module _ (s : List ℕ) (room : ℕ) where
       listed = length (couplers_in (parsed_couplers s))
 
       tests : Tests (judged_places (length (couplers_in (parsed_couplers s))) room) 8 (listed ≤ room) (room < listed) Nowhere
-      tests = room-tests listed room Room (omega arith) refl
+      tests = room-tests listed room (Err Room) (omega arith) refl
 
       listed-are : (i : CouplersText s) → length i.couplers ≡ listed
       listed-are i = sym (ap (λ (p : Parsed). length (couplers_in p)) (couplers-parsed s i))
@@ -176,7 +176,7 @@ module _ (n : ℕ) (couplers gates : List ℕ) (room : ℕ) where
   all-judged = ap (and_then (judged_qubits n)) (sym (then-assoc (judged_many couplers) (judged_wrong n couplers) behind3) ∙ ap (λ (v : Verdict). and_then v behind3) (couplers-parted n couplers))
 
   tests-8 : Tests judged_fit 8 (length (text_of n couplers gates) ≤ room) (room < length (text_of n couplers gates)) Nowhere
-  tests-8 = room-tests (length (text_of n couplers gates)) room Room (omega arith) refl
+  tests-8 = room-tests (length (text_of n couplers gates)) room (Err Room) (omega arith) refl
 
   beyond5 : Beyond 5 judged_fit
   beyond5 = beyond-test tests-8 5 (omega arith)

@@ -1,7 +1,7 @@
 -- Document 01's table, "Records and refusals", of reading and of writing, and the same of reading a couplers' text (request E1): each row as one statement, "When, and exactly then", and the place.
 use Rattle.std.specs.Prelude.{◌⊎◌, List, ℕ, ◌≤◌, ◌<◌, length}
 use Rattle.gates.specs.Limits.{most_couplers}
-use Rattle.verdicts.specs.declared.verdict.Verdict.{Verdict}
+use Rattle.verdicts.specs.Verdicts.{Verdict}
 use Rattle.verdicts.specs.Rows.{Row, Nowhere, Some, First, Passes1, Passes2, WrongRecord, Passes3, BadDrawn, PassesDrawn}
 use Rattle.lines.specs.Lines.{text_of}
 use Rattle.reading.specs.Limits.{most_bytes}

@@ -1,3 +1,5 @@
+pub mod Answered
+pub mod First
 pub mod Judged
 pub mod Passing
 pub mod Rows

@@ -8,13 +8,14 @@ use native.Mathlib.Omega.{arith}
 use lib.Dec.{ltb}
 use lib.ListN.{length, get_or}
 use borrow.Author.Tests.{ltb-false, le-ltb, not-false}
+use Rattle.std.specs.Prelude.{Ok, Err}
 use Rattle.sets.specs.Pick.{pick, both}
 use Rattle.sets.proofs.Finding.{first-le, first-true, first-before, first-is}
 use Rattle.gates.specs.declared.gate.Gate.TheVariants.{Bad}
-use Rattle.verdicts.specs.declared.verdict.Verdict.TheVariants.{Accepted, BadGate}
+use Rattle.verdicts.specs.declared.verdict.Refusal.TheVariants.{BadGate}
 use Rattle.gates.specs.Layout.{gate_of, gates_of, is_bad, record_of, Good}
 use Rattle.gates.specs.Hadamards.{is_hadamard}
-use Rattle.verdicts.specs.Verdicts.{first_failing, bad_at, judged_gates, is_neither, neither_at, judged_drawn}
+use Rattle.verdicts.specs.Verdicts.{Verdict, first_failing, bad_at, judged_gates, is_neither, neither_at, judged_drawn}
 use Rattle.sets.specs.Lists.{All}
 use Rattle.gates.proofs.Records.{gate-back}
 use Rattle.gates.proofs.Alls.{all-at}
@@ -28,12 +29,16 @@ not-bad n x e = go (gate-back n x)
 
 -- ---- the first place that fails
 
+-- whether one is refused
+abbrev refused_where : (ℕ → Bool) → List ℕ → Bool → Verdict
+refused_where fails xs b = pick b (Err (BadGate (first_failing fails xs))) (Ok tt)
+
 -- where none is refused, no record fails
-none-fails : (fails : ℕ → Bool) (xs : List ℕ) → pick (ltb (first_failing fails xs) (length xs)) (BadGate (first_failing fails xs)) Accepted ≡ Accepted → (k : ℕ) → k < length xs → fails (get_or xs k 0) ≡ false
+none-fails : (fails : ℕ → Bool) (xs : List ℕ) → refused_where fails xs (ltb (first_failing fails xs) (length xs)) ≡ Ok tt → (k : ℕ) → k < length xs → fails (get_or xs k 0) ≡ false
 unfolding first_failing
 none-fails fails xs e k l = go (ltb (first_failing fails xs) (length xs)) refl e
   where
-    go : (b : Bool) → ltb (first_failing fails xs) (length xs) ≡ b → pick b (BadGate (first_failing fails xs)) Accepted ≡ Accepted → fails (get_or xs k 0) ≡ false
+    go : (b : Bool) → ltb (first_failing fails xs) (length xs) ≡ b → refused_where fails xs b ≡ Ok tt → fails (get_or xs k 0) ≡ false
     go true o d = absurd (let z : ◌≡◌ {A = ℕ} 0 1 = cc in omega arith)
     go false o d =
         let past : length xs ≤ first_failing fails xs = ltb-false (first_failing fails xs) (length xs) o in
@@ -50,13 +55,13 @@ failing-same f g xs h =
 
 -- ---- of a stretch
 
-pub accepted-good : (n : ℕ) (xs : List ℕ) → judged_gates n xs ≡ Accepted → All (Good n) (gates_of n xs)
+pub accepted-good : (n : ℕ) (xs : List ℕ) → judged_gates n xs ≡ Ok tt → All (Good n) (gates_of n xs)
 unfolding judged_gates bad_at
 accepted-good n xs e = all-at (Good n) n xs (λ k l. not-bad n (get_or xs k 0) (none-fails (λ x. is_bad (gate_of n x)) xs e k l))
 
 -- ---- of a job
 
-pub accepted-drawn : (n : ℕ) (xs : List ℕ) → judged_drawn n xs ≡ Accepted → (k : ℕ) → k < length xs → Good n (gate_of n (get_or xs k 0)) ⊎ (is_hadamard n (get_or xs k 0) ≡ true)
+pub accepted-drawn : (n : ℕ) (xs : List ℕ) → judged_drawn n xs ≡ Ok tt → (k : ℕ) → k < length xs → Good n (gate_of n (get_or xs k 0)) ⊎ (is_hadamard n (get_or xs k 0) ≡ true)
 unfolding judged_drawn neither_at is_neither
 accepted-drawn n xs e k l = go (is_bad (gate_of n (get_or xs k 0))) refl (none-fails (is_neither n) xs e k l)
   where
@@ -64,17 +69,17 @@ accepted-drawn n xs e k l = go (is_bad (gate_of n (get_or xs k 0))) refl (none-f
     go true o d = inr (not-false (is_hadamard n (get_or xs k 0)) d)
     go false o d = inl (not-bad n (get_or xs k 0) o)
 
-pub drawn-accepted : (n : ℕ) (xs : List ℕ) → ((k : ℕ) → k < length xs → is_neither n (get_or xs k 0) ≡ false) → judged_drawn n xs ≡ Accepted
+pub drawn-accepted : (n : ℕ) (xs : List ℕ) → ((k : ℕ) → k < length xs → is_neither n (get_or xs k 0) ≡ false) → judged_drawn n xs ≡ Ok tt
 unfolding judged_drawn neither_at first_failing
 drawn-accepted n xs h =
     let w : neither_at n xs ≡ length xs = first-is (λ k. is_neither n (get_or xs k 0)) (length xs) (length xs) (omega arith) (λ (z : length xs < length xs). absurd (omega arith)) h in
-    ap (λ (t : Bool). pick t (BadGate (neither_at n xs)) Accepted) (le-ltb (neither_at n xs) (length xs) (omega (arith, w)))
+    ap (λ (t : Bool). pick t (Err (BadGate (neither_at n xs))) (Ok tt)) (le-ltb (neither_at n xs) (length xs) (omega (arith, w)))
 
 -- without a Hadamard the two are one test
 pub drawn-gates : (n : ℕ) (xs : List ℕ) → ((k : ℕ) → k < length xs → is_hadamard n (get_or xs k 0) ≡ false) → judged_drawn n xs ≡ judged_gates n xs
 unfolding judged_drawn neither_at judged_gates bad_at is_neither
 drawn-gates n xs h =
-    ap (λ (k : ℕ). pick (ltb k (length xs)) (BadGate k) Accepted)
+    ap (λ (k : ℕ). pick (ltb k (length xs)) (Err (BadGate k)) (Ok tt))
     (failing-same (is_neither n) (λ x. is_bad (gate_of n x)) xs (λ k l. go (is_bad (gate_of n (get_or xs k 0))) (h k l)))
   where
     go : (b : Bool) {t : Bool} → t ≡ false → both b (not t) ≡ b

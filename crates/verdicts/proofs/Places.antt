@@ -6,8 +6,7 @@ use Prim.Native.Nat.{ℕ, ◌≤◌}
 use native.Mathlib.Omega.{arith}
 use native.Mathlib.Decide.{ℕ_discrete}
 use Rattle.gates.specs.Limits.{most_gates}
-use Rattle.verdicts.specs.declared.verdict.Verdict.{Verdict}
-use Rattle.verdicts.specs.Verdicts.{number_of, place_of, judged_couplers}
+use Rattle.verdicts.specs.Verdicts.{Verdict, number_of, place_of, judged_couplers}
 use Rattle.verdicts.specs.InOrder.{and_then}
 use Rattle.verdicts.specs.Rows.{Nowhere}
 use Rattle.verdicts.proofs.Judged.{zero-accepted, then-on, then-stop}

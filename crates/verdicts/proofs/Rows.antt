@@ -8,18 +8,17 @@ use native.Mathlib.Omega.{arith}
 use lib.Dec.{eqb, leb, ltb}
 use lib.ListN.{length, get_or}
 use borrow.Author.Tests.{ltb-true, ltb-false, leb-true, leb-false, eqb-true, eqb-false, not-true}
+use Rattle.std.specs.Prelude.{Ok, Err}
 use Rattle.sets.specs.Pick.{pick, both}
 use Rattle.sets.proofs.Finding.{first-true, first-before}
 use Rattle.sets.proofs.Deciding.{never, both_true}
 use Rattle.gates.specs.Limits.{most_qubits, most_couplers}
-use Rattle.gates.specs.Layout.{kind_in, a_in, b_in, gate_of, cnot_of, rotation_of, x_of, is_bad, coupler_of, is_wrong}
+use Rattle.gates.specs.Layout.{kind_in, a_in, b_in, gate_of, cnot_of, rotation_of, x_of, is_bad, with_ends, no_coupler, coupler_of, is_wrong}
 use Rattle.gates.specs.Hadamards.{is_hadamard}
 use Rattle.gates.specs.declared.gate.Gate.{Gate}
 use Rattle.gates.specs.declared.gate.Gate.TheVariants.{Cnot, Rotation, X, Bad}
-use Rattle.gates.specs.declared.coupler.Coupler.TheVariants.{Ends, Wrong}
-use Rattle.verdicts.specs.declared.verdict.Verdict.{Verdict}
-use Rattle.verdicts.specs.declared.verdict.Verdict.TheVariants.{Accepted, Qubits, ManyCouplers, WrongCoupler, BadGate}
-use Rattle.verdicts.specs.Verdicts.{number_of, place_of, first_failing, judged_qubits, wrong_at, judged_couplers, bad_at, judged_gates, is_neither, neither_at, judged_drawn}
+use Rattle.verdicts.specs.declared.verdict.Refusal.TheVariants.{Qubits, ManyCouplers, WrongCoupler, BadGate}
+use Rattle.verdicts.specs.Verdicts.{Verdict, number_of, place_of, first_failing, judged_qubits, wrong_at, judged_couplers, bad_at, judged_gates, is_neither, neither_at, judged_drawn}
 use Rattle.verdicts.specs.InOrder.{and_then}
 use Rattle.verdicts.specs.Rows.{Row, Nowhere, Some, None, First, Passes1, Passes2, WrongRecord, Passes3, BadRecord, Passes5, BadDrawn, PassesDrawn}
 use Rattle.verdicts.proofs.Judged.{zero-accepted, then-on, then-stop}
@@ -123,10 +122,10 @@ module _ {v : Verdict} {k : ℕ} {Pass Fail : Type 0} {At : ℕ → Type 0} (t :
 -- ---- two kinds of test
 
 -- "more than": m is the most
-pub limit-tests : (m c : ℕ) (v : Verdict) → 0 < number_of v → place_of v ≡ 0 → Tests (pick (ltb m c) v Accepted) (number_of v) (c ≤ m) (m < c) Nowhere
+pub limit-tests : (m c : ℕ) (v : Verdict) → 0 < number_of v → place_of v ≡ 0 → Tests (pick (ltb m c) v (Ok tt)) (number_of v) (c ≤ m) (m < c) Nowhere
 limit-tests m c v h e = record { decided = go (ltb m c) refl; apart = λ (l : c ≤ m) (g : m < c). omega arith; refuses = h }
   where
-    go : (b : Bool) → ltb m c ≡ b → ((number_of (pick b v Accepted) ≡ 0) × (c ≤ m)) ⊎ ((number_of (pick b v Accepted) ≡ number_of v) × (m < c) × Nowhere (place_of (pick b v Accepted)))
+    go : (b : Bool) → ltb m c ≡ b → ((number_of (pick b v (Ok tt)) ≡ 0) × (c ≤ m)) ⊎ ((number_of (pick b v (Ok tt)) ≡ number_of v) × (m < c) × Nowhere (place_of (pick b v (Ok tt))))
     go true q = inr (refl, ltb-true m c q, e)
     go false q = inl (refl, ltb-false m c q)
 
@@ -144,12 +143,12 @@ module _ (fails : ℕ → Bool) (Such : ℕ → Type 0) (such : (x : ℕ) → fa
   none_before i l = not-such (get_or xs i 0) (first-before (λ k. fails (get_or xs k 0)) (length xs) 0 i (omega arith) l)
 
   pub first-tests : (k : ℕ) (v : Verdict) → 0 < k → number_of v ≡ k → place_of v ≡ first_failing fails xs
-      → Tests (pick (ltb (first_failing fails xs) (length xs)) v Accepted) k (None Such xs) (Some Such xs) (First Such xs)
+      → Tests (pick (ltb (first_failing fails xs) (length xs)) v (Ok tt)) k (None Such xs) (Some Such xs) (First Such xs)
   unfolding at
   first-tests k v h n e = record { decided = go (ltb at (length xs)) refl; apart = λ none some. none some.0 some.1 some.2; refuses = h }
     where
       go : (b : Bool) → ltb at (length xs) ≡ b
-          → ((number_of (pick b v Accepted) ≡ 0) × None Such xs) ⊎ ((number_of (pick b v Accepted) ≡ k) × Some Such xs × First Such xs (place_of (pick b v Accepted)))
+          → ((number_of (pick b v (Ok tt)) ≡ 0) × None Such xs) ⊎ ((number_of (pick b v (Ok tt)) ≡ k) × Some Such xs × First Such xs (place_of (pick b v (Ok tt))))
       go true q =
           let l : at < length xs = ltb-true at (length xs) q in
           inr (n, (at, l, here l), subst (First Such xs) (sym e) (record { within = l; such = here l; before = none_before }))
@@ -162,7 +161,7 @@ unfolding judged_qubits
 tests-1 n = record { decided = go (leb 1 n) (leb n most_qubits) refl refl; apart = λ p f. f p; refuses = omega arith }
   where
     go : (a b : Bool) → leb 1 n ≡ a → leb n most_qubits ≡ b
-        → let v = pick (both a b) Accepted Qubits in ((number_of v ≡ 0) × Passes1 n) ⊎ ((number_of v ≡ 1) × (Passes1 n → ⊥) × Nowhere (place_of v))
+        → let v = pick (both a b) (Ok tt) (Err Qubits) in ((number_of v ≡ 0) × Passes1 n) ⊎ ((number_of v ≡ 1) × (Passes1 n → ⊥) × Nowhere (place_of v))
     go true true p q = inl (refl, (leb-true 1 n p, leb-true n most_qubits q))
     go true false p q = inr (refl, λ s. omega (arith, leb-false n most_qubits q, s.1), refl)
     go false b p q = inr (refl, λ s. omega (arith, leb-false 1 n p, s.0), refl)
@@ -175,7 +174,7 @@ module _ (n x : ℕ) where
   wrong-said = go (eqb (kind_in x) 0) (ltb (a_in x) n) (ltb (b_in x) n) (eqb (a_in x) (b_in x)) refl refl refl refl
     where
       go : (k a b s : Bool) → eqb (kind_in x) 0 ≡ k → ltb (a_in x) n ≡ a → ltb (b_in x) n ≡ b → eqb (a_in x) (b_in x) ≡ s
-          → is_wrong (pick k (pick a (pick b (pick s Wrong (Ends (a_in x) (b_in x))) Wrong) Wrong) Wrong) ≡ true → WrongRecord n x
+          → is_wrong (pick k (pick a (pick b (pick s no_coupler (with_ends (a_in x) (b_in x))) no_coupler) no_coupler) no_coupler) ≡ true → WrongRecord n x
       go false a b s p q r t e = inl (eqb-false (kind_in x) 0 p)
       go true false b s p q r t e = inr (inl (ltb-false (a_in x) n q))
       go true true false s p q r t e = inr (inr (inl (ltb-false (b_in x) n r)))
@@ -187,7 +186,7 @@ module _ (n x : ℕ) where
   right-said = go (eqb (kind_in x) 0) (ltb (a_in x) n) (ltb (b_in x) n) (eqb (a_in x) (b_in x)) refl refl refl refl
     where
       go : (k a b s : Bool) → eqb (kind_in x) 0 ≡ k → ltb (a_in x) n ≡ a → ltb (b_in x) n ≡ b → eqb (a_in x) (b_in x) ≡ s
-          → is_wrong (pick k (pick a (pick b (pick s Wrong (Ends (a_in x) (b_in x))) Wrong) Wrong) Wrong) ≡ false → WrongRecord n x → ⊥
+          → is_wrong (pick k (pick a (pick b (pick s no_coupler (with_ends (a_in x) (b_in x))) no_coupler) no_coupler) no_coupler) ≡ false → WrongRecord n x → ⊥
       go false a b s p q r t e w = never refl e
       go true false b s p q r t e w = never refl e
       go true true false s p q r t e w = never refl e
@@ -302,33 +301,33 @@ module _ (n x : ℕ) where
 -- 2 and 3 apart
 
 abbrev pub judged_many : List ℕ → Verdict
-judged_many xs = pick (ltb most_couplers (length xs)) ManyCouplers Accepted
+judged_many xs = pick (ltb most_couplers (length xs)) (Err ManyCouplers) (Ok tt)
 
 abbrev pub judged_wrong : ℕ → List ℕ → Verdict
-judged_wrong n xs = pick (ltb (wrong_at n xs) (length xs)) (WrongCoupler (wrong_at n xs)) Accepted
+judged_wrong n xs = pick (ltb (wrong_at n xs) (length xs)) (Err (WrongCoupler (wrong_at n xs))) (Ok tt)
 
 pub couplers-parted : (n : ℕ) (xs : List ℕ) → and_then (judged_many xs) (judged_wrong n xs) ≡ judged_couplers n xs
 unfolding judged_couplers
 couplers-parted n xs = go (ltb most_couplers (length xs))
   where
-    go : (b : Bool) → and_then (pick b ManyCouplers Accepted) (judged_wrong n xs) ≡ pick b ManyCouplers (judged_wrong n xs)
+    go : (b : Bool) → and_then (pick b (Err ManyCouplers) (Ok tt)) (judged_wrong n xs) ≡ pick b (Err ManyCouplers) (judged_wrong n xs)
     go true = refl
     go false = refl
 
 pub tests-2 : (xs : List ℕ) → Tests (judged_many xs) 2 (Passes2 xs) (most_couplers < length xs) Nowhere
-tests-2 xs = limit-tests most_couplers (length xs) ManyCouplers (omega arith) refl
+tests-2 xs = limit-tests most_couplers (length xs) (Err ManyCouplers) (omega arith) refl
 
 pub tests-3 : (n : ℕ) (xs : List ℕ) → Tests (judged_wrong n xs) 3 (Passes3 n xs) (Some (WrongRecord n) xs) (First (WrongRecord n) xs)
 unfolding wrong_at
-tests-3 n xs = first-tests (λ x. is_wrong (coupler_of n x)) (WrongRecord n) (wrong-said n) (right-said n) xs 3 (WrongCoupler (wrong_at n xs)) (omega arith) refl refl
+tests-3 n xs = first-tests (λ x. is_wrong (coupler_of n x)) (WrongRecord n) (wrong-said n) (right-said n) xs 3 (Err (WrongCoupler (wrong_at n xs))) (omega arith) refl refl
 
 pub couplers-passed : (n : ℕ) (xs : List ℕ) → Passes2 xs → Passes3 n xs → number_of (judged_couplers n xs) ≡ 0
 couplers-passed n xs p2 p3 = sym (ap number_of (then-on (judged_many xs) (judged_wrong n xs) (test-passed (tests-2 xs) p2) ∙ couplers-parted n xs)) ∙ test-passed (tests-3 n xs) p3
 
 pub tests-5 : (n : ℕ) (xs : List ℕ) → Tests (judged_gates n xs) 5 (Passes5 n xs) (Some (BadRecord n) xs) (First (BadRecord n) xs)
 unfolding judged_gates bad_at
-tests-5 n xs = first-tests (λ x. is_bad (gate_of n x)) (BadRecord n) (bad-said n) (good-said n) xs 5 (BadGate (bad_at n xs)) (omega arith) refl refl
+tests-5 n xs = first-tests (λ x. is_bad (gate_of n x)) (BadRecord n) (bad-said n) (good-said n) xs 5 (Err (BadGate (bad_at n xs))) (omega arith) refl refl
 
 pub tests-drawn : (n : ℕ) (xs : List ℕ) → Tests (judged_drawn n xs) 5 (PassesDrawn n xs) (Some (BadDrawn n) xs) (First (BadDrawn n) xs)
 unfolding judged_drawn neither_at
-tests-drawn n xs = first-tests (is_neither n) (BadDrawn n) (neither-said n) (either-said n) xs 5 (BadGate (neither_at n xs)) (omega arith) refl refl
+tests-drawn n xs = first-tests (is_neither n) (BadDrawn n) (neither-said n) (either-said n) xs 5 (Err (BadGate (neither_at n xs))) (omega arith) refl refl

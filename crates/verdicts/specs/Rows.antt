@@ -3,8 +3,7 @@
 use Rattle.std.specs.Prelude.{◌≡◌, ◌≢◌, ◌⊎◌, ◌↔◌, List, ℕ, ◌≤◌, ◌<◌, length, get_or}
 use Rattle.gates.specs.Limits.{most_qubits, most_couplers}
 use Rattle.gates.specs.Layout.{kind_in, a_in, b_in}
-use Rattle.verdicts.specs.declared.verdict.Verdict.{Verdict}
-use Rattle.verdicts.specs.Verdicts.{number_of, place_of}
+use Rattle.verdicts.specs.Verdicts.{Verdict, number_of, place_of}
 
 -- a verdict has the number k exactly when `When` holds, and then it has a place as `At` says
 pub record Row (v : Verdict) (k : ℕ) (When : Type 0) (At : ℕ → Type 0) : Type 0 where

@@ -1,13 +1,12 @@
-// What an entry point says of its input: document 01's table, a row a case.
+// What an entry point says of its input: nothing, or a row of document 01's table.
 ghost use Rattle.std.specs.Prelude.{◌≡◌};
-ghost use Rattle.verdicts.specs.Verdicts.{number_of, place_of, judged_qubits, wrong_at, judged_couplers, bad_at, judged_gates, is_neither, neither_at, judged_drawn};
+ghost use Rattle.verdicts.specs.Verdicts.{number_of, place_of, judged_qubits, judged_couplers, judged_gates, is_neither, judged_drawn};
 
 use gates::job::Job;
 use gates::{coupler, gate, hadamard};
 
-#[derive(Clone, Copy)]
-pub enum Verdict {
-    Accepted,
+#[derive(Clone, Copy, Debug, PartialEq, Eq)]
+pub enum Refusal {
     Qubits,
     ManyCouplers,
     WrongCoupler(usize),
@@ -23,24 +22,26 @@ pub enum Verdict {
     Unversioned,
 }
 
+pub type Verdict = Result<(), Refusal>;
+
 pub fn number(v: Verdict) -> u32
     ensures { result ≡ number_of v }
 {
     match v {
-        Verdict::Accepted => 0,
-        Verdict::Qubits => 1,
-        Verdict::ManyCouplers => 2,
-        Verdict::WrongCoupler(_) => 3,
-        Verdict::ManyGates => 4,
-        Verdict::BadGate(_) => 5,
-        Verdict::ManyParities(_) => 6,
-        Verdict::Unreachable(_) => 7,
-        Verdict::Room => 8,
-        Verdict::Line(_) => 10,
-        Verdict::LongText => 11,
-        Verdict::Angle(_) => 12,
-        Verdict::Statement(_) => 13,
-        Verdict::Unversioned => 14,
+        Ok(()) => 0,
+        Err(Refusal::Qubits) => 1,
+        Err(Refusal::ManyCouplers) => 2,
+        Err(Refusal::WrongCoupler(_)) => 3,
+        Err(Refusal::ManyGates) => 4,
+        Err(Refusal::BadGate(_)) => 5,
+        Err(Refusal::ManyParities(_)) => 6,
+        Err(Refusal::Unreachable(_)) => 7,
+        Err(Refusal::Room) => 8,
+        Err(Refusal::Line(_)) => 10,
+        Err(Refusal::LongText) => 11,
+        Err(Refusal::Angle(_)) => 12,
+        Err(Refusal::Statement(_)) => 13,
+        Err(Refusal::Unversioned) => 14,
     }
 }
 
@@ -48,20 +49,20 @@ pub fn place(v: Verdict) -> usize
     ensures { result ≡ place_of v }
 {
     match v {
-        Verdict::Accepted => 0,
-        Verdict::Qubits => 0,
-        Verdict::ManyCouplers => 0,
-        Verdict::WrongCoupler(k) => k,
-        Verdict::ManyGates => 0,
-        Verdict::BadGate(k) => k,
-        Verdict::ManyParities(k) => k,
-        Verdict::Unreachable(k) => k,
-        Verdict::Room => 0,
-        Verdict::Line(k) => k,
-        Verdict::LongText => 0,
-        Verdict::Angle(k) => k,
-        Verdict::Statement(k) => k,
-        Verdict::Unversioned => 1,
+        Ok(()) => 0,
+        Err(Refusal::Qubits) => 0,
+        Err(Refusal::ManyCouplers) => 0,
+        Err(Refusal::WrongCoupler(k)) => k,
+        Err(Refusal::ManyGates) => 0,
+        Err(Refusal::BadGate(k)) => k,
+        Err(Refusal::ManyParities(k)) => k,
+        Err(Refusal::Unreachable(k)) => k,
+        Err(Refusal::Room) => 0,
+        Err(Refusal::Line(k)) => k,
+        Err(Refusal::LongText) => 0,
+        Err(Refusal::Angle(k)) => k,
+        Err(Refusal::Statement(k)) => k,
+        Err(Refusal::Unversioned) => 1,
     }
 }
 
@@ -70,25 +71,10 @@ pub fn place(v: Verdict) -> usize
 pub fn judge_qubits(n: usize) -> Verdict
     ensures { result ≡ judged_qubits n }
 {
-    if n < 1 {
-        return Verdict::Qubits;
+    if n < 1 || Job::QUBITS < n {
+        return Err(Refusal::Qubits);
     }
-    if Job::QUBITS < n {
-        return Verdict::Qubits;
-    }
-    Verdict::Accepted
-}
-
-// The first coupler record that is wrong; their number where none is.
-fn wrong_at(couplers: &[u32], n: usize) -> usize
-    ensures { result ≡ wrong_at n couplers.now }
-{
-    for k in 0..couplers.len() {
-        if coupler::is_wrong(coupler::decode(couplers[k], n)) {
-            return k;
-        }
-    }
-    couplers.len()
+    Ok(())
 }
 
 // Tests 2 and 3.
@@ -96,67 +82,41 @@ pub fn judge_couplers(couplers: &[u32], n: usize) -> Verdict
     ensures { result ≡ judged_couplers n couplers.now }
 {
     if Job::COUPLERS < couplers.len() {
-        return Verdict::ManyCouplers;
+        return Err(Refusal::ManyCouplers);
     }
-    let k = wrong_at(couplers, n);
-    if k < couplers.len() {
-        return Verdict::WrongCoupler(k);
+    match couplers
+        .iter()
+        .position(|&x| coupler::decode(x, n).is_none())
+    {
+        Some(k) => Err(Refusal::WrongCoupler(k)),
+        None => Ok(()),
     }
-    Verdict::Accepted
-}
-
-// The first gate record that is bad; their number where none is.
-fn bad_at(gates: &[u32], n: usize) -> usize
-    ensures { result ≡ bad_at n gates.now }
-{
-    for k in 0..gates.len() {
-        if gate::is_bad(gate::decode(gates[k], n)) {
-            return k;
-        }
-    }
-    gates.len()
 }
 
 // Test 5 of one stretch. (Test 4 counts gates only where they are laid.)
 pub fn judge_gates(gates: &[u32], n: usize) -> Verdict
     ensures { result ≡ judged_gates n gates.now }
 {
-    let k = bad_at(gates, n);
-    if k < gates.len() {
-        return Verdict::BadGate(k);
+    match gates.iter().position(|&x| gate::is_bad(gate::decode(x, n))) {
+        Some(k) => Err(Refusal::BadGate(k)),
+        None => Ok(()),
     }
-    Verdict::Accepted
 }
 
 // Whether a record is neither a gate nor a Hadamard.
+#[tactic(auto, unfolding(crate::specs::Verdicts::is_neither))]
 fn is_neither(x: u32, n: usize) -> bool
     ensures { result ≡ is_neither n x }
 {
-    if gate::is_bad(gate::decode(x, n)) {
-        return !hadamard::is_hadamard(x, n);
-    }
-    false
-}
-
-// The first record that is neither; their number where none is.
-fn neither_at(gates: &[u32], n: usize) -> usize
-    ensures { result ≡ neither_at n gates.now }
-{
-    for k in 0..gates.len() {
-        if is_neither(gates[k], n) {
-            return k;
-        }
-    }
-    gates.len()
+    gate::is_bad(gate::decode(x, n)) && !hadamard::is_hadamard(x, n)
 }
 
 // Test 5 of a job, in which Hadamards may stand between the gates.
 pub fn judge_drawn(gates: &[u32], n: usize) -> Verdict
     ensures { result ≡ judged_drawn n gates.now }
 {
-    let first = neither_at(gates, n);
-    if first < gates.len() {
-        return Verdict::BadGate(first);
+    match gates.iter().position(|&x| is_neither(x, n)) {
+        Some(k) => Err(Refusal::BadGate(k)),
+        None => Ok(()),
     }
-    Verdict::Accepted
 }

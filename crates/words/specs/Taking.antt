@@ -1,34 +1,34 @@
 -- What is taken from the front of a list of words: a word, a number, a name. None is left where what was looked for did not stand there.
-use Rattle.std.specs.Prelude.{Bool, true, false, List, [], ◌∷◌, ℕ}
-use Rattle.std.proofs.Math.Option.{Option, none, some}
+use Rattle.std.specs.Prelude.{Bool, true, false, List, [], ◌∷◌, ℕ, Option, None, Some}
 use Rattle.sets.specs.Pick.{pick, both}
-use Rattle.spots.specs.Numbers.{Got, lost, read_number}
+use Rattle.spots.specs.Numbers.{Got, found, read_number, ◌>>=◌}
 use Rattle.words.specs.Bytes.{small, in_name, same}
 use Rattle.words.specs.Words.{Word}
 
 -- the word b
 unfoldable pub taken : List ℕ → Option (List Word) → Option (List Word)
-taken b none = none
-taken b (some []) = none
-taken b (some (w ∷ ws)) = pick (same w.bytes b) (some ws) none
+taken b None = None
+taken b (Some []) = None
+taken b (Some (w ∷ ws)) = pick (same w.bytes b) (Some ws) None
 
 -- ws where nothing is left of a word
-abbrev pub behind : Option (List ℕ) → List Word → Option (List Word)
-behind none ws = none
-behind (some []) ws = some ws
-behind (some (x ∷ s)) ws = none
+abbrev pub behind : List ℕ → List Word → Option (List Word)
+behind [] ws = Some ws
+behind (x ∷ s) ws = None
 
 -- a number of at most `most`, without a leading zero
-unfoldable pub numbered : ℕ → Option (List Word) → Got Word
-numbered most none = lost
-numbered most (some []) = lost
-numbered most (some (w ∷ ws)) = record { value = (read_number most (some w.bytes)).value; rest = behind (read_number most (some w.bytes)).rest ws }
+unfoldable pub numbered : ℕ → Option (List Word) → Option (Got Word)
+numbered most None = None
+numbered most (Some []) = None
+numbered most (Some (w ∷ ws)) = do
+  n ← read_number most (Some w.bytes)
+  found n.value (behind n.rest ws)
 
 -- the bytes of the word in front
 unfoldable pub front_word : Option (List Word) → List ℕ
-front_word none = []
-front_word (some []) = []
-front_word (some (w ∷ ws)) = w.bytes
+front_word None = []
+front_word (Some []) = []
+front_word (Some (w ∷ ws)) = w.bytes
 
 unfoldable pub all_in_name : List ℕ → Bool
 all_in_name [] = true
@@ -41,6 +41,6 @@ is_name (x ∷ xs) = both (small x) (all_in_name xs)
 
 -- a name
 unfoldable pub named : Option (List Word) → Option (List Word)
-named none = none
-named (some []) = none
-named (some (w ∷ ws)) = pick (is_name w.bytes) (some ws) none
+named None = None
+named (Some []) = None
+named (Some (w ∷ ws)) = pick (is_name w.bytes) (Some ws) None

@@ -1,119 +1,68 @@
 // Bytes, and runs of them.
 ghost use Rattle.std.specs.Prelude.{◌≡◌};
-ghost use Rattle.words.specs.Bytes.{between, blank, in_name, in_word, goes_on, same, line_behind};
-ghost use Rattle.words.specs.Taking.{is_name};
+ghost use Rattle.words.specs.Bytes.{between, blank, in_name, in_word, goes_on, line_behind};
+ghost use Rattle.words.specs.Taking.{all_in_name, is_name};
 
+#[tactic(auto, unfolding(crate::specs::Bytes::blank))]
 pub(crate) fn is_blank(x: u8) -> bool
     ensures { result ≡ blank x }
 {
-    if x == 32 {
-        return true;
-    }
-    if x == 9 {
-        return true;
-    }
-    if x == 13 {
-        return true;
-    }
-    x == 10
+    x == b' ' || x == b'\t' || x == b'\r' || x == b'\n'
 }
 
 fn is_between(a: u8, b: u8, x: u8) -> bool
     ensures { result ≡ between a b x }
 {
-    if a <= x {
-        return x <= b;
-    }
-    false
+    a <= x && x <= b
 }
 
+#[tactic(auto, unfolding(crate::specs::Bytes::in_name, crate::specs::Bytes::small))]
 fn in_name(x: u8) -> bool
     ensures { result ≡ in_name x }
 {
-    if is_between(97, 122, x) {
-        return true;
-    }
-    if is_between(65, 90, x) {
-        return true;
-    }
-    if is_between(48, 57, x) {
-        return true;
-    }
-    x == 95
+    is_between(b'a', b'z', x) || is_between(b'A', b'Z', x) || is_between(b'0', b'9', x) || x == b'_'
 }
 
+#[tactic(auto, unfolding(crate::specs::Bytes::in_word))]
 fn in_word(x: u8) -> bool
     ensures { result ≡ in_word x }
 {
-    if in_name(x) {
-        return true;
-    }
-    x == 46
+    in_name(x) || x == b'.'
 }
 
 // Whether x goes on a word that begins with f.
+#[tactic(auto, using(crate::proofs::Runs::goes_quote), unfolding(crate::specs::Bytes::goes_on))]
 pub(crate) fn goes_on(f: u8, x: u8) -> bool
     ensures { result ≡ goes_on f x }
 {
-    if f == 34 {
-        if in_word(x) {
-            return true;
-        }
-        return x == 34;
+    if f == b'"' {
+        in_word(x) || x == b'"'
+    } else {
+        in_word(f) && in_word(x)
     }
-    if in_word(f) {
-        return in_word(x);
-    }
-    false
 }
 
-pub(crate) fn is_same(a: &[u8], b: &[u8]) -> bool
-    ensures { result ≡ same a.now b.now }
+fn all_in_name(w: &[u8]) -> bool
+    ensures { result ≡ all_in_name w.now }
 {
-    if a.len() != b.len() {
-        return false;
-    }
-    let mut i: usize = 0;
-    while i < a.len() {
-        if a[i] != b[i] {
-            return false;
-        }
-        i += 1;
-    }
-    true
+    w.iter().all(|x| in_name(*x))
 }
 
+// A name begins with a small letter.
+#[tactic(auto, using(crate::proofs::Runs::name_first, crate::proofs::Runs::name_other, crate::proofs::Runs::name_empty), unfolding(crate::specs::Bytes::small))]
 pub(crate) fn is_name(w: &[u8]) -> bool
     ensures { result ≡ is_name w.now }
 {
-    if w.len() == 0 {
+    if w.is_empty() {
         return false;
     }
-    if is_between(97, 122, w[0]) {
-        let mut i: usize = 1;
-        while i < w.len() {
-            if in_name(w[i]) {
-                i += 1;
-            } else {
-                return false;
-            }
-        }
-        return true;
-    }
-    false
+    let is_small = is_between(b'a', b'z', w[0]);
+    is_small && all_in_name(&w[1..])
 }
 
 // The line behind these bytes, from 1.
 pub fn line_behind(text: &[u8]) -> usize
     ensures { result ≡ line_behind text.now }
 {
-    let mut line: usize = 1;
-    let mut i: usize = 0;
-    while i < text.len() {
-        if text[i] == 10 {
-            line += 1;
-        }
-        i += 1;
-    }
-    line
+    1 + text.iter().filter(|x| **x == b'\n').count()
 }

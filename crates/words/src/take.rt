@@ -1,114 +1,48 @@
 // Words taken one by one: a given one, a number, a name.
-ghost use Rattle.std.specs.Prelude.{◌≡◌};
+ghost use Rattle.std.specs.Prelude.{◌≡◌, ◌≤◌, IfSome};
 ghost use Rattle.words.specs.Taking.{taken, numbered};
 ghost use Rattle.words.specs.Places.{words_at, got_words, NameAt};
 
-use crate::{byte, word};
+use crate::byte;
+use crate::word::{self, Bounds};
 use spots::spot;
-use spots::spot::{Fetched, Spot};
+use spots::spot::Fetched;
 
-pub fn take(text: &[u8], from: Spot, word: &[u8]) -> Spot
+// The place behind the word, where it stands there.
+#[tactic(auto, using(crate::proofs::Runs::same_bytes), unfolding(crate::specs::Taking::taken))]
+pub fn take(text: &[u8], from: Option<usize>, word: &[u8]) -> Option<usize>
     ensures { words_at text.now result ≡ taken word.now (words_at text.now from) }
 {
-    match from {
-        Spot::Lost => Spot::Lost,
-        Spot::At(at) => {
-            let b = word::next(text, at);
-            let start = b.from;
-            let end = b.to;
-            if text.len() <= start {
-                return Spot::Lost;
-            }
-            if byte::is_same(&text[start..end], word) {
-                return Spot::At(end);
-            }
-            Spot::Lost
-        }
-    }
+    let b = word::next(text, from?)?;
+    let is_same = &text[b.from..b.to] == word;
+    if is_same { Some(b.to) } else { None }
 }
 
 // A number of at most `most`.
-pub fn number(text: &[u8], from: Spot, most: u32) -> Fetched
-    ensures { got_words text.now result ≡ numbered most (words_at text.now from) }
+#[tactic(auto, using(crate::proofs::Takes::left_over), unfolding(crate::specs::Taking::numbered))]
+pub fn number(text: &[u8], from: Option<usize>, most: u32) -> Option<Fetched>
+    ensures value { got_words text.now result ≡ numbered most (words_at text.now from) }
+    ensures bound { IfSome result (λ n. n.value ≤ most) }
 {
-    match from {
-        Spot::Lost => Fetched {
-            value: 0,
-            next: Spot::Lost,
-        },
-        Spot::At(at) => {
-            let b = word::next(text, at);
-            let start = b.from;
-            let end = b.to;
-            if text.len() <= start {
-                return Fetched {
-                    value: 0,
-                    next: Spot::Lost,
-                };
-            }
-            let w = &text[start..end];
-            let p = spot::number_at(w, 0, most);
-            let stop = p.next;
-            match stop {
-                Spot::Lost => p,
-                Spot::At(e) => {
-                    let is_longer = e < w.len();
-                    if is_longer {
-                        return Fetched {
-                            value: p.value,
-                            next: Spot::Lost,
-                        };
-                    }
-                    Fetched {
-                        value: p.value,
-                        next: Spot::At(end),
-                    }
-                }
-            }
-        }
+    let b = word::next(text, from?)?;
+    let w = &text[b.from..b.to];
+    let n = spot::number_at(w, 0, most)?;
+    let is_longer = n.next < w.len();
+    if is_longer {
+        return None;
     }
+    Some(Fetched {
+        value: n.value,
+        next: b.to,
+    })
 }
 
 // Where a name stands.
-#[derive(Clone, Copy)]
-pub struct NameSpan {
-    pub from: usize,
-    pub to: usize,
-    pub next: Spot,
-}
-
-pub fn name(text: &[u8], from: Spot) -> NameSpan
-    ensures { NameAt text.now from result.from result.to result.next }
+#[tactic(auto, unfolding(crate::specs::Taking::named, crate::specs::Taking::front_word))]
+pub fn name(text: &[u8], from: Option<usize>) -> Option<Bounds>
+    ensures { NameAt text.now from result }
 {
-    match from {
-        Spot::Lost => NameSpan {
-            from: 0,
-            to: 0,
-            next: Spot::Lost,
-        },
-        Spot::At(at) => {
-            let b = word::next(text, at);
-            let start = b.from;
-            let end = b.to;
-            if text.len() <= start {
-                return NameSpan {
-                    from: 0,
-                    to: 0,
-                    next: Spot::Lost,
-                };
-            }
-            if byte::is_name(&text[start..end]) {
-                return NameSpan {
-                    from: start,
-                    to: end,
-                    next: Spot::At(end),
-                };
-            }
-            NameSpan {
-                from: 0,
-                to: 0,
-                next: Spot::Lost,
-            }
-        }
-    }
+    let b = word::next(text, from?)?;
+    let is_name = byte::is_name(&text[b.from..b.to]);
+    if is_name { Some(b) } else { None }
 }

@@ -6,4 +6,4 @@ pub returns-then-holds : goal.returns-then-holds
 returns-then-holds c = asks-held _ _ _ _ (sym c.holds.ensures ∙ c.if-holds.true) c.borne_on.ensures
 
 pub returns-else-holds : goal.returns-else-holds
-returns-else-holds c = asks-not-held _ _ _ (sym c.holds.ensures ∙ c.if-holds.false)
+returns-else-holds c = c.if-holds.false ∙ asks-not-held _ _ _ (sym c.holds.ensures ∙ c.if-holds.false)

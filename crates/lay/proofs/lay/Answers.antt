@@ -1,53 +1,12 @@
--- The laying program is safe and ends: each part begins behind the one before. What it prints is the whole text. Assumes nothing.
-use Rattle.std.proofs.Common.{arith, subst}
-use Rattle.std.specs.Io.KnownBytes.{Appends}
-use Rattle.console.proofs.Fronts.{front-is, printed-fits, printed-long}
-use Rattle.console.proofs.Beginning.{couplers-lent, couplers-whole, gates-lent, gates-whole}
-use Rattle.console.proofs.Partly.{next-later}
-use Rattle.lay.proofs.Going.{going-begun, going-on, going-ended}
+-- What the laying program prints is the whole text. Assumes nothing.
+use Rattle.std.proofs.Common.{◌+◌, rules}
+use Rattle.streams.proofs.Known.{printed-for}
+use Rattle.reading.specs.Limits.{most_bytes}
+use Rattle.console.specs.Printed.{laid_text}
+use Rattle.console.proofs.Enough.{laid-enough}
 use Rattle.lay.proofs.lay.Goals as goal
 
-pub slice_bounds-out-end : goal.slice_bounds-out-end
-slice_bounds-out-end g c = printed-fits c.begin-begun.ensures.begins.prints
-
-pub slice_bounds-write_all-end : goal.slice_bounds-write_all-end
-slice_bounds-write_all-end g c = printed-long c.begin-begun.ensures.begins.prints
-
-pub slice_bounds-couplers-end : goal.slice_bounds-couplers-end
-slice_bounds-couplers-end g c = couplers-lent c.begin-begun.ensures.begins
-
-pub slice_bounds-lay_part-end : goal.slice_bounds-lay_part-end
-slice_bounds-lay_part-end g c = couplers-whole c.begin-begun.ensures.begins
-
-pub slice_bounds-gates-end : goal.slice_bounds-gates-end
-slice_bounds-gates-end g c = gates-lent c.begin-begun.ensures.begins
-
-pub slice_bounds-lay_part-end-in-loop-from : goal.slice_bounds-lay_part-end-in-loop-from
-slice_bounds-lay_part-end-in-loop-from g c = gates-whole c.begin-begun.ensures.begins
-
-pub slice_bounds-out-end-in-loop-from : goal.slice_bounds-out-end-in-loop-from
-slice_bounds-out-end-in-loop-from g c = printed-fits c.lay_part-part.ensures.0
-
-pub slice_bounds-write_all-end-in-loop-from : goal.slice_bounds-write_all-end-in-loop-from
-slice_bounds-write_all-end-in-loop-from g c = printed-long c.lay_part-part.ensures.0
-
-pub loop-from-smaller : goal.loop-from-smaller
-loop-from-smaller g c = let e = gates-whole c.begin-begun.ensures.begins in let m = next-later _ _ c.loop-from.from _ _ e c.loop-from-test.true c.lay_part-part.ensures.1 in omega (arith, m, c.loop-from-test.true)
-
-pub loop-from-init : goal.loop-from-init
-loop-from-init g c =
-    let b = c.begin-begun.ensures.begins in
-    going-begun (g.R.Read.remaining c.args.reader.now) (g.R.Read.remaining c.read_full.new.from) (g.W.Write.contents c.args.writer.now) (g.W.Write.contents c.write_all.new.self) c.in_ok-n.n c.read_full.new.buf _ _ _ _ _ _ c.begin-begun.result
-    c.begin-begun.ensures.input_len c.in_ok-n.ensures.bytes c.in_ok-n.ensures.bound.0 c.in_ok-n.ensures.end b
-    (subst (Appends (g.W.Write.contents c.args.writer.now) (g.W.Write.contents c.write_all.new.self)) (front-is _ _ _ _ b.prints.bytes b.prints.memory) c.in_ok-write_all.ensures.bytes)
-
-pub loop-from-preserved : goal.loop-from-preserved
-loop-from-preserved g c =
-    let p = c.lay_part-part.ensures.0 in
-    let now = g.W.Write.contents c.loop-from.writer in
-    let now' = g.W.Write.contents c.write_all-in-loop-from.new.self in
-    going-on (g.R.Read.remaining c.args.reader.now) (g.W.Write.contents c.args.writer.now) now now' _ _ _ _ c.loop-from.from (gates-whole c.begin-begun.ensures.begins) c.lay_part-part.result.next c.loop-from.invariant c.loop-from-test.true
-    (subst (Appends now now') (front-is _ _ _ _ p.bytes p.memory) c.in_ok-write_all-2.ensures.bytes) c.lay_part-part.ensures.1
-
 pub returns : goal.returns
-returns g c = going-ended (g.R.Read.remaining c.args.reader.now) (g.W.Write.contents c.args.writer.now) (g.W.Write.contents c.loop-from.writer) _ _ _ _ c.loop-from.from (gates-whole c.begin-begun.ensures.begins) c.loop-from.invariant c.loop-from-test.false
+returns g c =
+    let read = c.in_ok-n.ensures in
+    printed-for laid_text (most_bytes + 1) laid-enough (g.R.Read.remaining c.args.reader.now) _ _ _ c.in_ok-n.n c.read_full.new.buf (search rules) read.bytes read.bound.0 read.end c.in_ok-write_laid.ensures.bytes

@@ -1,20 +1,21 @@
 -- `nearest::all_rounds` meets its contract: the rounds left lead to the same memory. Assumes nothing.
-use mathlib.Core.Path.{refl, ◌∙◌}
+use mathlib.Core.Path.{refl, sym, ◌∙◌}
+use native.Mathlib.Omega.{arith}
+use Rattle.columns.proofs.Working.{same-still, same-then}
 use Rattle.nearest.proofs.Entry.{round-next, round-over, round-end}
-use borrow.Author.Rules.{rules}
 use Rattle.nearest.proofs.all_rounds.Goals as goal
 
-pub loop-left-init : goal.loop-left-init
-loop-left-init c = (refl, refl, refl)
+pub loop-init : goal.loop-init
+loop-init c = (same-still _, refl)
 
-pub choose-c-requires : goal.choose-c-requires
-choose-c-requires c = (c.requires.0, c.requires.1)
+pub returns-in-None : goal.returns-in-None
+returns-in-None c =
+    record { same = c.«loop».invariant.0; memory = round-over _ _ _ _ _ _ _ (rw c.columns.ensures at (sym c.in-None.is ∙ c.choose.ensures)) ∙ c.«loop».invariant.1 }
 
-pub returns-then-c-ge-FAR : goal.returns-then-c-ge-FAR
-returns-then-c-ge-FAR c = round-over _ _ _ _ _ _ _ _ c.choose-c.ensures c.if-c-ge-FAR.true ∙ c.loop-left.invariant.2
-
-pub loop-left-preserved : goal.loop-left-preserved
-loop-left-preserved c = (c.gather_next-a.auto.cols ∙ c.loop-left.invariant.0, c.gather_next-a.auto.out ∙ c.loop-left.invariant.1, round-next _ _ _ c.loop-left.left _ _ _ _ _ _ _ c.loop-left-test.true c.choose-c.ensures c.if-c-ge-FAR.false c.gather_next-a.ensures ∙ c.loop-left.invariant.2)
+pub loop-preserved : goal.loop-preserved
+loop-preserved c =
+    let w = c.gather_next.ensures in
+    (same-then c.«loop».invariant.0 w.same, rw w.same.angles (round-next _ _ _ _ _ _ _ _ _ _ _ _ (omega arith) (rw c.columns.ensures at (sym c.in-Some.is ∙ c.choose.ensures)) w.memory ∙ c.«loop».invariant.1))
 
 pub returns : goal.returns
-returns c = round-end _ _ _ c.loop-left.left _ _ _ (search rules) ∙ c.loop-left.invariant.2
+returns c = record { same = c.«loop».invariant.0; memory = round-end _ _ _ _ _ _ _ (omega arith) ∙ c.«loop».invariant.1 }

@@ -1,11 +1,11 @@
 use mathlib.Core.Path.{◌≡◌}
-use lib.ListN.{length}
+use Prim.Native.Nat.{◌-◌}
 use Rattle.columns.specs.Pieces.{wrote}
+use Rattle.columns.specs.Worked.{Same}
 use Rattle.nearest.specs.Nearest.{rounds}
 use Rattle.nearest.proofs.all_rounds.Given as goal
 
-abbrev pub invariant-loop-left : goal.invariant-loop-left
-invariant-loop-left l = (length l.cols ≡ length l.initial.cols) × (length l.out ≡ length l.initial.out) × (wrote l.out l.a (rounds l.left l.near l.angles l.set l.cols) ≡ wrote l.initial.out l.at (rounds 256 l.near l.angles l.set l.initial.cols))
-
-abbrev pub decreases-loop-left : goal.decreases-loop-left
-decreases-loop-left l = l.left
+abbrev pub invariant-loop : goal.invariant-loop
+invariant-loop l =
+    Same l.initial.work l.work
+    × (wrote l.work.out.now l.work.at (rounds (256 - l.counter) l.orders.near l.work.angles.now l.orders.set l.work.cols.now) ≡ wrote l.initial.work.out.now l.initial.work.at (rounds 256 l.orders.near l.initial.work.angles.now l.orders.set l.initial.work.cols.now))

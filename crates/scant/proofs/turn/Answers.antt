@@ -6,13 +6,13 @@ use Rattle.console.proofs.Reading.{couplers-within, couplers-long, gates-within,
 use Rattle.scant.proofs.turn.Goals as goal
 
 pub slice_bounds-couplers-end : goal.slice_bounds-couplers-end
-slice_bounds-couplers-end g c = couplers-within _ _ _ _ _ (length-replicate {A = ℕ} most_coupler_lines 0) (length-replicate {A = ℕ} most_gate_lines 0) _ _ c.read.ensures.0 c.in-Read.is c.read.ensures.1 c.read.ensures.2
+slice_bounds-couplers-end g c = couplers-within _ _ _ _ _ (length-replicate {A = ℕ} most_coupler_lines 0) (length-replicate {A = ℕ} most_gate_lines 0) _ _ c.read.ensures.0 c.in-Ok.is c.read.ensures.1 c.read.ensures.2
 
 pub slice_bounds-lay_and_write-end : goal.slice_bounds-lay_and_write-end
-slice_bounds-lay_and_write-end g c = couplers-long _ _ _ _ _ (length-replicate {A = ℕ} most_coupler_lines 0) (length-replicate {A = ℕ} most_gate_lines 0) _ _ c.read.ensures.0 c.in-Read.is c.read.ensures.1 c.read.ensures.2
+slice_bounds-lay_and_write-end g c = couplers-long _ _ _ _ _ (length-replicate {A = ℕ} most_coupler_lines 0) (length-replicate {A = ℕ} most_gate_lines 0) _ _ c.read.ensures.0 c.in-Ok.is c.read.ensures.1 c.read.ensures.2
 
 pub slice_bounds-gates-end : goal.slice_bounds-gates-end
-slice_bounds-gates-end g c = gates-within _ _ _ _ _ (length-replicate {A = ℕ} most_coupler_lines 0) (length-replicate {A = ℕ} most_gate_lines 0) _ _ c.read.ensures.0 c.in-Read.is c.read.ensures.1 c.read.ensures.2
+slice_bounds-gates-end g c = gates-within _ _ _ _ _ (length-replicate {A = ℕ} most_coupler_lines 0) (length-replicate {A = ℕ} most_gate_lines 0) _ _ c.read.ensures.0 c.in-Ok.is c.read.ensures.1 c.read.ensures.2
 
-pub slice_bounds-lay_and_write-end-in-Read : goal.slice_bounds-lay_and_write-end-in-Read
-slice_bounds-lay_and_write-end-in-Read g c = gates-long _ _ _ _ _ (length-replicate {A = ℕ} most_coupler_lines 0) (length-replicate {A = ℕ} most_gate_lines 0) _ _ c.read.ensures.0 c.in-Read.is c.read.ensures.1 c.read.ensures.2
+pub slice_bounds-lay_and_write-end-in-Ok : goal.slice_bounds-lay_and_write-end-in-Ok
+slice_bounds-lay_and_write-end-in-Ok g c = gates-long _ _ _ _ _ (length-replicate {A = ℕ} most_coupler_lines 0) (length-replicate {A = ℕ} most_gate_lines 0) _ _ c.read.ensures.0 c.in-Ok.is c.read.ensures.1 c.read.ensures.2

@@ -1,5 +1,6 @@
 -- `sets::holds` meets its contract. Assumes nothing.
-use mathlib.Core.Path.{refl, sym}
+use mathlib.Core.Path.{refl, sym, ◌∙◌}
+use borrow.Author.Tests.{le-ltb}
 use Rattle.sets.specs.Bit.{bit, has}
 use Rattle.sets.proofs.Words.{has-past}
 use borrow.Author.Rules.{rules}
@@ -10,4 +11,4 @@ unfolding bit has
 returns-then-q-lt32 c = refl
 
 pub returns-else-q-lt32 : goal.returns-else-q-lt32
-returns-else-q-lt32 c = sym (has-past _ _ (search rules) c.if-q-lt32.false)
+returns-else-q-lt32 c = le-ltb _ _ c.if-q-lt32.false ∙ sym (has-past _ _ (search rules) c.if-q-lt32.false)

@@ -1,11 +1,7 @@
 use mathlib.Core.Path.{◌≡◌}
-use Prim.Native.Nat.{◌≤◌, ◌-◌}
-use lib.ListN.{length, drop}
+use lib.ListN.{drop}
 use Rattle.chip.specs.Couplers.{add_all, near_of}
 use Rattle.chip.proofs.couplers.near.Given as goal
 
-abbrev pub invariant-loop-k : goal.invariant-loop-k
-invariant-loop-k l = (l.k ≤ length l.couplers) × (length l.all ≡ 20) × (add_all l.n (drop l.k l.couplers) l.all ≡ near_of l.n l.couplers)
-
-abbrev pub decreases-loop-k : goal.decreases-loop-k
-decreases-loop-k l = length l.couplers - l.k
+abbrev pub invariant-loop-x : goal.invariant-loop-x
+invariant-loop-x l = add_all l.n (drop l.x-index l.couplers) l.all ≡ near_of l.n l.couplers

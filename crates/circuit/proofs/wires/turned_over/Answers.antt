@@ -9,6 +9,6 @@ pub returns-then-q-lt-QUBITS : goal.returns-then-q-lt-QUBITS
 unfolding flip_step
 returns-then-q-lt-QUBITS c = refl
 
-pub returns : goal.returns
+pub returns-else-q-lt-QUBITS : goal.returns-else-q-lt-QUBITS
 unfolding flip_step
-returns c = sym (set_out _ _ _ (omega (arith, c.well_formed.0)))
+returns-else-q-lt-QUBITS c = sym (set_out _ _ _ (omega (arith, c.well_formed.0)))

@@ -1,4 +1,4 @@
--- `columns::striking::singles` meets its contract: what is gathered, with the columns from k on. Assumes nothing.
+-- `columns::striking::singles` meets its contract: what is gathered, with the columns from the index on. Assumes nothing.
 use mathlib.Core.Path.{sym, ap, ◌∙◌}
 use Prim.Native.Nat.{ℕ, ◌+◌}
 use lib.Bits.{bit_or, or_zero_l}
@@ -8,16 +8,14 @@ use Rattle.columns.proofs.Singles.{singles-next, singles-end}
 use borrow.Author.Rules.{rules}
 use Rattle.columns.proofs.striking.singles.Goals as goal
 
-pub loop-k-init : goal.loop-k-init
-loop-k-init c = (search rules, or_zero_l _)
+pub loop-x-init : goal.loop-x-init
+loop-x-init c = or_zero_l _
 
-pub loop-k-preserved : goal.loop-k-preserved
-loop-k-preserved c =
-    let at = c.loop-k in
-    let cols = c.args.cols.now in (
-      search rules,
-      ap (λ (x : ℕ). bit_or (bit_or at.s x) (singles_of (drop (at.k + 1) cols))) c.alone-s.ensures ∙ singles-next cols at.k at.s (search rules) ∙ at.invariant.1,
-    )
+pub loop-x-preserved : goal.loop-x-preserved
+loop-x-preserved c =
+    let at = c.loop-x in
+    let cols = c.args.cols.now in
+    ap (λ (x : ℕ). bit_or (bit_or at.s x) (singles_of (drop (at.x-index + 1) cols))) c.alone-s.ensures ∙ singles-next cols at.x-index at.s (search rules) ∙ at.invariant
 
 pub returns : goal.returns
-returns c = sym (singles-end _ c.loop-k.k _ (search rules)) ∙ c.loop-k.invariant.1
+returns c = sym (singles-end _ c.loop-x.x-index _ (search rules)) ∙ c.loop-x.invariant

@@ -6,4 +6,4 @@ use Rattle.emitting.proofs.emit.put_gate.Goals as goal
 pub returns : goal.returns
 returns c =
     let a = c.args in
-    (emit-put a.out.now _ a.at _ _ c.encode.ensures c.put.ensures.0, c.put.ensures.1 ∙ sym (emit-at-one _ _ _))
+    (emit-put a.out.now _ a.at _ _ c.encode.ensures c.put.ensures.stored, c.put.ensures.next ∙ sym (emit-at-one _ _ _))

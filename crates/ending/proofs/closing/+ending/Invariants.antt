@@ -3,4 +3,4 @@ use Rattle.sets.specs.Size.{size_of}
 use Rattle.ending.proofs.closing.+ending.Given as goal
 
 abbrev pub decreases-ending : goal.decreases-ending
-decreases-ending l = size_of l.set
+decreases-ending l = size_of l.island.now.set

@@ -1,10 +1,8 @@
 use mathlib.Core.Path.{◌≡◌}
-use Prim.Native.Nat.{◌≤◌, ◌-◌}
-use Rattle.gathering.specs.Gather.{cnots_from, turns}
+use lib.ListN.{drop}
+use Rattle.gathering.specs.Gather.{cnots_of, turns}
+use Rattle.ending.specs.Mirror.{seen}
 use Rattle.ending.proofs.rows.moved.Given as goal
 
-abbrev pub invariant-loop-i : goal.invariant-loop-i
-invariant-loop-i l = (l.i ≤ l.n) × (turns (cnots_from l.to l.by l.i (l.n - l.i)) l.y ≡ turns (cnots_from l.to l.by 0 l.n) l.x)
-
-abbrev pub decreases-loop-i : goal.decreases-loop-i
-decreases-loop-i l = l.n - l.i
+abbrev pub invariant-loop-m : goal.invariant-loop-m
+invariant-loop-m l = turns (seen l.mirror (cnots_of (drop l.m-index l.moves))) l.y ≡ turns (seen l.mirror (cnots_of l.moves)) l.x

@@ -1,13 +1,10 @@
--- `ending::rows::moved_all` meets its contract. Assumes nothing.
-use Rattle.ending.proofs.Loops.{rowed-start, rowed-next, rowed-end}
-use borrow.Author.Rules.{rules}
+-- `ending::rows::moved_all` meets its contract: the rows so far are done, the others stand as they were. Assumes nothing.
+use native.Mathlib.Omega.{arith}
+use Rattle.std.proofs.lemmas.Grind.{common_steps}
+use Rattle.std.proofs.lemmas.List.Edits.{map_over_more}
+use Rattle.gathering.specs.Gather.{cnots_of, turns}
+use Rattle.ending.specs.Mirror.{seen}
 use Rattle.ending.proofs.rows.moved_all.Goals as goal
 
-pub loop-i-init : goal.loop-i-init
-loop-i-init c = rowed-start _ _ _ (search rules)
-
-pub loop-i-preserved : goal.loop-i-preserved
-loop-i-preserved c = rowed-next _ _ _ _ _ (search rules) c.moved.ensures c.loop-i.invariant
-
-pub returns : goal.returns
-returns c = rowed-end _ _ _ c.loop-i.i (search rules) (search rules) c.loop-i.invariant
+pub loop-x-preserved : goal.loop-x-preserved
+loop-x-preserved c = grind (arith, common_steps, map_over_more (turns (seen c.args.mirror (cnots_of c.args.moves.now))))

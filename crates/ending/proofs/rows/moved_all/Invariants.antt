@@ -1,10 +1,9 @@
-use Prim.Native.Nat.{◌-◌}
-use Rattle.gathering.specs.Gather.{cnots_from}
-use Rattle.ending.proofs.Loops.{Rowed}
+use mathlib.Core.Path.{◌≡◌}
+use mathlib.Core.List.{◌++◌, map}
+use lib.ListN.{take, drop}
+use Rattle.gathering.specs.Gather.{cnots_of, turns}
+use Rattle.ending.specs.Mirror.{seen}
 use Rattle.ending.proofs.rows.moved_all.Given as goal
 
-abbrev pub invariant-loop-i : goal.invariant-loop-i
-invariant-loop-i l = Rowed (cnots_from l.to l.by 0 l.n) l.rows l.all l.i
-
-abbrev pub decreases-loop-i : goal.decreases-loop-i
-decreases-loop-i l = 20 - l.i
+abbrev pub invariant-loop-x : goal.invariant-loop-x
+invariant-loop-x l = l.rows ≡ map (turns (seen l.mirror (cnots_of l.moves))) (take l.x-index l.initial.rows) ++ drop l.x-index l.initial.rows

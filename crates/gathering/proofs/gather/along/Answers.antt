@@ -1,17 +1,31 @@
--- `gathering::gather::along` meets its contract. The loop's invariant is `Gathered`; the measure is the number of members still to be taken out.
--- Assumes nothing.
-use mathlib.Core.Path.{refl, ap, ◌∙◌}
-use Rattle.gathering.specs.Gather.{moves_in}
-use Rattle.gathering.proofs.GatherCode.{gathered-start, gathered_next, gathered-end, along-is}
-use borrow.Author.Rules.{rules}
+-- `gathering::gather::along` meets its contract. The loop's invariant is `Gathered`. Assumes nothing.
+use mathlib.Core.Path.{sym, ap, ◌∙◌}
+use Rattle.gathering.specs.Gather.{cnots_of}
+use Rattle.gathering.proofs.GatherCode.{gathered-start, gathered_next, gathered-end, along-none, behind-first, later-one, all-later}
+use Rattle.std.proofs.lemmas.List.{length_push}
+use Rattle.std.proofs.lemmas.Iterator.Adapters.{YieldsList-from_rev_slice}
+use Rattle.std.proofs.lemmas.Iterator.Consumers.{YieldsList-turn, YieldsList-end}
 use native.Mathlib.Omega.{arith}
+use lib.ListN.{length, drop}
 use Rattle.gathering.proofs.gather.along.Goals as goal
 
-pub loop-k-init : goal.loop-k-init
-loop-k-init c = gathered-start _ _ _ _ _ (search rules) (omega (arith, c.members-k.ensures))
+pub loop-u-init : goal.loop-u-init
+loop-u-init c = (tt, tt, gathered-start _ _ _ _ _ _ (omega (arith, ap length c.as_slice.ensures.value)) (omega arith) (ap cnots_of c.new-moves.ensures))
 
-pub loop-k-preserved : goal.loop-k-preserved
-loop-k-preserved c = gathered_next _ _ _ _ _ _ _ _ _ c.loop-k.invariant _ _ _ _ _ _ (search rules) refl c.only-earlier.ensures c.neighbours.ensures c.step-next.ensures
+pub loop-u-preserved : goal.loop-u-preserved
+loop-u-preserved c =
+    let first = behind-first _ _ c.as_slice.ensures.value in
+    let road = YieldsList-from_rev_slice {s = c.into_iter-u-iterator.result} (drop 1 c.args.order.now.items) (cc) in
+    let t = YieldsList-turn road c.loop-u.yielded _ c.loop-u.yielded_by _ _ c.in-Some.field-0 c.in-Some.is c.next.ensures.steps in
+    let u = later-one _ _ _ t in
+    (tt, tt, gathered_next _ _ _ _ _ _ _ c.loop-u.invariant.2 _ _ _ _ _ _ u.0 (omega (arith, length_push c.loop-u.yielded c.in-Some.field-0)) u.1 c.only-earlier.ensures c.neighbours.ensures c.step-left.ensures.moves c.step-left.ensures.left)
 
-pub returns : goal.returns
-returns c = gathered-end _ _ _ _ _ _ _ _ _ c.loop-k.invariant (search rules) ∙ ap moves_in (along-is _ _ _ _ _ c.members-k.ensures)
+pub returns-in_default : goal.returns-in_default
+returns-in_default c = ap cnots_of c.new-moves.ensures ∙ sym (along-none _ _ _ _ (omega (arith, ap length c.as_slice.ensures.value)))
+
+pub returns-in-None : goal.returns-in-None
+returns-in-None c =
+    let first = behind-first _ _ c.as_slice.ensures.value in
+    let road = YieldsList-from_rev_slice {s = c.into_iter-u-iterator.result} (drop 1 c.args.order.now.items) (cc) in
+    let t = YieldsList-end road c.loop-u.yielded _ c.loop-u.yielded_by _ _ c.in-None.is c.next.ensures.steps in
+    gathered-end _ _ _ _ _ _ _ c.loop-u.invariant.2 (all-later _ _ t.1)

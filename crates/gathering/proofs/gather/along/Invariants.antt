@@ -1,10 +1,10 @@
 use Prim.Native.Nat.{◌-◌}
-use Rattle.gathering.specs.Gather.{gather_from}
+use lib.ListN.{length}
+use Rattle.gathering.specs.Gather.{cnots_of, along_of}
 use Rattle.gathering.proofs.GatherCode.{Gathered}
 use Rattle.gathering.proofs.gather.along.Given as goal
 
-abbrev pub invariant-loop-k : goal.invariant-loop-k
-invariant-loop-k l = Gathered l.near l.qubit l.to l.by l.len (l.k - 1) l.earlier l.left (gather_from l.near l.qubit (l.initial.k - 1) l.set l.x)
-
-abbrev pub decreases-loop-k : goal.decreases-loop-k
-decreases-loop-k l = l.k
+abbrev pub invariant-loop-u : goal.invariant-loop-u
+invariant-loop-u l =
+    (goal.iterator-loop-u).can_next l.u-iterator × (goal.iterator-loop-u).is_finite l.u-iterator
+    × Gathered l.near l.order.items (cnots_of l.moves.items) (length l.order.items - 1 - length l.yielded) l.earlier l.left (along_of l.near l.set l.order.items l.x)

@@ -1,19 +1,12 @@
--- `isles::islands::islands` meets its contract: the islands of the qubits passed are found. Assumes nothing.
-use Rattle.isles.proofs.Isles.{found_none, found-next, found_all}
+-- `isles::islands::islands` meets its contract. Assumes nothing.
+use Prim.Native.Nat.{ℕ}
+use Rattle.sets.specs.Size.{only_of}
+use Rattle.sets.proofs.Making.{tab-made}
+use Rattle.chip.specs.Graph.{closure}
+use Rattle.isles.specs.Islands.{every_qubit}
+use Rattle.isles.proofs.Isles.{islands-made}
 use borrow.Author.Rules.{rules}
-use native.Mathlib.Omega.{arith}
 use Rattle.isles.proofs.islands.islands.Goals as goal
 
-pub loop-q-init : goal.loop-q-init
-loop-q-init c = (search rules, found_none _ _ (search rules))
-
-pub bounds-all-q : goal.bounds-all-q
-bounds-all-q c = omega (arith, c.loop-q.invariant.1.long)
-
-pub loop-q-preserved : goal.loop-q-preserved
-loop-q-preserved c =
-    let at = c.loop-q in
-    (search rules, found-next _ at.q at.all _ _ (search rules) at.invariant.1 c.only.ensures c.reached.ensures)
-
 pub returns : goal.returns
-returns c = found_all _ c.loop-q.q _ (search rules) c.loop-q.invariant.1
+returns c = islands-made _ _ (tab-made _ (λ (q : ℕ). closure c.args.near every_qubit 20 (only_of q)) _ (λ k x f r. search rules) _ 20 0 c.from_fn.ensures.items)

@@ -1,25 +1,13 @@
--- `judging::reach::some_scattered` meets its contract: no parity passed is scattered. Assumes nothing.
-use Rattle.judging.proofs.Scattering.{looking-none, looking-hit, looking-next, looking-end}
-use borrow.Author.Rules.{rules}
+-- `judging::reach::some_scattered` meets its contract. Assumes nothing.
+use Rattle.std.proofs.Common.{rules, tests, ◌∙◌}
+use Rattle.std.proofs.lemmas.Iterator.{YieldsList-from_slice}
+use Rattle.std.proofs.lemmas.Iterator.Search.{any_from_yields_List}
+use Rattle.sets.proofs.Searching.{any-some}
+use Rattle.judging.specs.Tests.{scatters, scattered}
 use Rattle.judging.proofs.reach.some_scattered.Goals as goal
 
-pub loop-k-init : goal.loop-k-init
-loop-k-init c = looking-none _ _ _
-
-pub returns-then-is_scattered : goal.returns-then-is_scattered
-returns-then-is_scattered c =
-    let at = c.loop-k in
-    let a = c.args in
-    looking-hit a.islands a.parity a.len (search rules) c.requires at.k at.invariant (search rules) _ c.is_scattered.ensures c.if-is_scattered.true
-
-pub loop-k-preserved : goal.loop-k-preserved
-loop-k-preserved c =
-    let at = c.loop-k in
-    let a = c.args in
-    looking-next a.islands a.parity a.len (search rules) c.requires at.k at.invariant (search rules) _ c.is_scattered.ensures c.if-is_scattered.false
-
 pub returns : goal.returns
+unfolding scattered
 returns c =
-    let at = c.loop-k in
-    let a = c.args in
-    looking-end a.islands a.parity a.len (search rules) c.requires at.k at.invariant (search rules)
+    any_from_yields_List (scatters c.args.islands) _ _ _ c.any.ensures.ran (YieldsList-from_slice c.args.parities.now cc) (λ x b q k. search (rules, tests))
+    ∙ any-some (scatters c.args.islands) c.args.parities.now 0

@@ -1,76 +1,68 @@
 -- `lines::put::put_fitting` meets its contract: the letter, the fields so far, LF. Assumes nothing.
-use mathlib.Core.Path.{refl, sym, ap, ◌∙◌, subst}
-use mathlib.Core.List.{[], ◌∷◌, ◌++◌}
-use Prim.Native.Nat.{◌+◌}
-use lib.ListN.{length, get_or, take, length-append}
+use Rattle.std.proofs.Common.{[], ◌∷◌, ◌++◌, ◌+◌, length, get_or, take, length-append, refl, sym, ap, subst, arith}
+use lib.Seq.{length-sets}
 use Rattle.lines.specs.Lines.{digits, fields_text, line_text}
-use Rattle.lines.proofs.Writes.{Wrote, wrote_then, wrote_nothing, fields-next, fields-part, fields-all, line-length}
-use native.Mathlib.Omega.{arith}
+use Rattle.lines.specs.Page.{Puts}
+use Rattle.lines.proofs.Writes.{wrote_nothing, fields-next, fields-part, fields-all, line-length}
+use Rattle.lines.proofs.Pages.{room_front, room_behind, puts_then}
 use Rattle.lines.proofs.put.put_fitting.Goals as goal
 
-pub put-p-requires : goal.put-p-requires
-put-p-requires c = omega (arith, line-length c.args.letter c.args.numbers.now)
-
-pub loop-k-init : goal.loop-k-init
-unfolding fields_text
-loop-k-init c = (omega arith, refl, wrote_nothing c.put-p.new.text c.put-p.result)
-
-pub put_field-p-requires : goal.put_field-p-requires
-put_field-p-requires c =
-    let l = c.loop-k in
-    let a = c.args in
-    let vs = a.numbers.now in
-    omega (
-      arith,
-      l.invariant.1,
-      l.invariant.2.0,
-      c.requires,
-      c.put-p.ensures.0,
-      c.put-p.auto.text,
-      line-length a.letter vs,
-      fields-part vs (l.k + 1),
-      ap length (fields-next vs l.k c.loop-k-test.true),
-      length-append (fields_text (take l.k vs)) (9 ∷ digits (get_or vs l.k 0)),
-    )
-
-pub loop-k-preserved : goal.loop-k-preserved
-loop-k-preserved c =
-    let p = c.put_field-p in
-    let l = c.loop-k in
-    let q = c.put-p in
-    let vs = c.args.numbers.now in (
-      omega arith,
-      p.auto.text ∙ l.invariant.1,
-      subst (λ bs. Wrote q.new.text q.result bs p.new.text p.result) (sym (fields-next vs l.k c.loop-k-test.true))
-          (wrote_then q.new.text q.result (fields_text (take l.k vs)) (9 ∷ digits (get_or vs l.k 0)) l.invariant.2 p.ensures),
-    )
-
 pub put-requires : goal.put-requires
-put-requires c =
-    let l = c.loop-k in
+unfolding line_text
+put-requires c = room_front c.args.page.now (c.args.letter ∷ []) (fields_text c.args.numbers.now ++ (10 ∷ [])) c.requires
+
+pub loop-v-init : goal.loop-v-init
+unfolding fields_text
+loop-v-init c = let q = c.put.new.self in (wrote_nothing q.text.now q.at, refl)
+
+pub put_field-requires : goal.put_field-requires
+put_field-requires c =
+    let l = c.loop-v in
     let a = c.args in
+    let p = c.put in
     let vs = a.numbers.now in
+    let i = l.v-index in
     omega (
       arith,
-      l.invariant.1,
-      l.invariant.2.0,
+      l.invariant.0.0,
+      ap length l.invariant.0.1,
+      length-sets p.new.self.text.now p.new.self.at (fields_text (take i vs)),
       c.requires,
-      c.put-p.ensures.0,
-      c.put-p.auto.text,
+      p.ensures.0.0,
+      ap length p.ensures.0.1,
+      length-sets a.page.now.text.now a.page.now.at (a.letter ∷ []),
       line-length a.letter vs,
-      ap length (fields-all vs l.k c.loop-k-test.false),
+      fields-part vs (i + 1),
+      ap length (fields-next vs i c.loop-v-test.true),
+      length-append (fields_text (take i vs)) (9 ∷ digits (get_or vs i 0)),
     )
 
-pub shape_of-text : goal.shape_of-text
-shape_of-text c = c.put.auto.text ∙ c.loop-k.invariant.1 ∙ c.put-p.auto.text
+pub loop-v-preserved : goal.loop-v-preserved
+loop-v-preserved c =
+    let l = c.loop-v in
+    let p = c.put_field in
+    let q = c.put.new.self in
+    let vs = c.args.numbers.now in
+    subst (λ bs. Puts q bs p.new.self) (sym (fields-next vs l.v-index c.loop-v-test.true))
+    (puts_then q (fields_text (take l.v-index vs)) (9 ∷ digits (get_or vs l.v-index 0)) l.page l.invariant p.new.self p.ensures)
+
+pub put-requires-2 : goal.put-requires-2
+unfolding line_text
+put-requires-2 c =
+    let l = c.loop-v in
+    let a = c.args in
+    let q = c.put.new.self in
+    let vs = a.numbers.now in
+    let all = subst (λ bs. Puts q bs l.page) (fields-all vs l.v-index c.loop-v-test.false) l.invariant in
+    room_behind q (fields_text vs) (10 ∷ []) l.page all (room_behind a.page.now (a.letter ∷ []) (fields_text vs ++ (10 ∷ [])) q c.put.ensures c.requires)
 
 pub returns : goal.returns
 unfolding line_text
 returns c =
+    let l = c.loop-v in
     let a = c.args in
-    let l = c.loop-k in
-    let q = c.put-p in
+    let q = c.put.new.self in
+    let last = c.put-2 in
     let vs = a.numbers.now in
-    wrote_then a.text.now a.at (a.letter ∷ []) (fields_text vs ++ (10 ∷ [])) q.ensures
-    (wrote_then q.new.text q.result (fields_text vs) (10 ∷ [])
-    (subst (λ bs. Wrote q.new.text q.result bs l.text l.p) (fields-all vs l.k c.loop-k-test.false) l.invariant.2) c.put.ensures)
+    let all = subst (λ bs. Puts q bs l.page) (fields-all vs l.v-index c.loop-v-test.false) l.invariant in
+    puts_then a.page.now (a.letter ∷ []) (fields_text vs ++ (10 ∷ [])) q c.put.ensures last.new.self (puts_then q (fields_text vs) (10 ∷ []) l.page all last.new.self last.ensures)

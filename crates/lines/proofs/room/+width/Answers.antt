@@ -1,12 +1,9 @@
 -- `lines::room::width` meets its contract, digit by digit. Assumes nothing.
 use mathlib.Core.Path.{ap, ◌∙◌}
 use native.Mathlib.Omega.{arith}
-use Rattle.lines.proofs.Writes.{width-le, width_small, width-big}
+use Rattle.lines.proofs.Writes.{width-le, width-big}
 use Prim.Native.Nat.{◌+◌, ◌/◌}
 use Rattle.lines.proofs.room.+width.Goals as goal
-
-pub returns-then-v-lt10 : goal.returns-then-v-lt10
-returns-then-v-lt10 t c = width_small c.args.v c.if-v-lt10.true
 
 pub overflow_add-result : goal.overflow_add-result
 overflow_add-result t c = omega (arith, c.width.ensures, width-le (c.args.v / 10))

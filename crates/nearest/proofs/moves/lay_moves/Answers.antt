@@ -1,15 +1,17 @@
 -- `nearest::moves::lay_moves` meets its contract: the moves still to come lead to the same memory. Assumes nothing.
 use mathlib.Core.Path.{refl, ◌∙◌}
-use native.Mathlib.Nat.{sub-zero}
+use Rattle.columns.proofs.Working.{same-still, same-then}
 use Rattle.nearest.proofs.Moving.{move-next, move-end}
 use borrow.Author.Rules.{rules}
 use Rattle.nearest.proofs.moves.lay_moves.Goals as goal
 
-pub loop-i-init : goal.loop-i-init
-loop-i-init c = (search rules, refl, refl, rw sub-zero)
+pub loop-m-init : goal.loop-m-init
+loop-m-init c = (same-still _, refl)
 
-pub loop-i-preserved : goal.loop-i-preserved
-loop-i-preserved c = (search rules, c.lay_move-a.auto.cols ∙ c.loop-i.invariant.1, c.lay_move-a.auto.out ∙ c.loop-i.invariant.2, move-next _ _ _ _ c.loop-i.i _ _ _ _ _ _ (search rules) c.lay_move-a.ensures ∙ c.loop-i.invariant.3)
+pub loop-m-preserved : goal.loop-m-preserved
+loop-m-preserved c =
+    let w = c.lay_move.ensures in
+    (same-then c.loop-m.invariant.0 w.same, rw w.same.angles (move-next _ _ c.loop-m.m-index _ _ _ _ _ _ _ (search rules) w.memory ∙ c.loop-m.invariant.1))
 
 pub returns : goal.returns
-returns c = move-end _ _ _ _ c.loop-i.i _ _ _ (search rules) ∙ c.loop-i.invariant.3
+returns c = record { same = c.loop-m.invariant.0; memory = move-end _ _ c.loop-m.m-index _ _ _ (search rules) ∙ c.loop-m.invariant.1 }

@@ -3,8 +3,8 @@ use mathlib.Core.Path.{sym, ◌∙◌}
 use Rattle.nearest.proofs.Sureness.{answered-has, answered-not}
 use Rattle.nearest.proofs.sure.answered.Goals as goal
 
-pub returns-then-holds : goal.returns-then-holds
-returns-then-holds c = answered-has _ _ _ _ c.holds-then-holds.ensures
+pub returns-then-not-holds : goal.returns-then-not-holds
+returns-then-not-holds c = answered-not _ _ _ _ (sym c.holds.ensures ∙ c.if-not-holds.true)
 
-pub returns : goal.returns
-returns c = answered-not _ _ _ _ (sym c.holds.ensures ∙ c.if-holds.false)
+pub returns-else-not-holds : goal.returns-else-not-holds
+returns-else-not-holds c = answered-has _ _ _ _ c.holds-else-not-holds.ensures

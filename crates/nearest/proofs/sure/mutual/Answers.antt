@@ -1,16 +1,14 @@
 -- `nearest::sure::mutual` meets its contract. Assumes nothing.
-use Rattle.nearest.proofs.Sureness.{told-not, symm-start, symm-next, symm-all}
+use mathlib.Core.Path.{refl}
 use borrow.Author.Rules.{rules}
+use Rattle.std.proofs.Common.{tests}
+use Rattle.std.proofs.lemmas.Bool.{MatchBool-at_true}
+use Rattle.std.proofs.lemmas.Iterator.{cases_from_all, YieldsList-from_range}
+use Rattle.nearest.specs.Sure.{Mutual}
+use Rattle.nearest.proofs.Sureness.{symm-all}
 use Rattle.nearest.proofs.sure.mutual.Goals as goal
 
-pub loop-u-init : goal.loop-u-init
-loop-u-init c = (search rules, search rules, symm-start _)
-
-pub returns-then-not-mutual_at : goal.returns-then-not-mutual_at
-returns-then-not-mutual_at c = told-not _
-
-pub loop-u-preserved : goal.loop-u-preserved
-loop-u-preserved c = (search rules, c.loop-u.invariant.1, symm-next _ c.loop-u.u (c.mutual_at.ensures c.if-not-mutual_at.false) c.loop-u.invariant.2)
-
 pub returns : goal.returns
-returns c = λ t. symm-all _ c.loop-u.u c.loop-u.invariant.1 (search rules) c.loop-u.invariant.2
+returns c =
+    let cases = cases_from_all _ _ _ (Mutual c.args.near) (λ _. Unit {0}) c.all.ensures.ran (YieldsList-from_range 0 20 20 refl refl) (λ x q k. search (rules, tests)) (λ x q k. tt) in
+    λ t. symm-all _ (search rules) (MatchBool-at_true _ _ t cases)

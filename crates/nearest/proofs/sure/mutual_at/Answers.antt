@@ -1,19 +1,14 @@
 -- `nearest::sure::mutual_at` meets its contract. Assumes nothing.
-use Rattle.nearest.proofs.Sureness.{told-not, mutual-start, mutual-next, mutual-all}
+use mathlib.Core.Path.{refl}
 use borrow.Author.Rules.{rules}
+use Rattle.std.proofs.Common.{tests}
+use Rattle.std.proofs.lemmas.Bool.{MatchBool-at_true}
+use Rattle.std.proofs.lemmas.Iterator.{cases_from_all, YieldsList-from_range}
+use Rattle.nearest.specs.Sure.{Answered}
+use Rattle.nearest.proofs.Sureness.{mutual-all}
 use Rattle.nearest.proofs.sure.mutual_at.Goals as goal
 
-pub returns-then-near-u-ge-ABOVE : goal.returns-then-near-u-ge-ABOVE
-returns-then-near-u-ge-ABOVE c = told-not _
-
-pub loop-v-init : goal.loop-v-init
-loop-v-init c = (search rules, search rules, mutual-start _ _ c.if-near-u-ge-ABOVE.false)
-
-pub returns-then-not-answered : goal.returns-then-not-answered
-returns-then-not-answered c = told-not _
-
-pub loop-v-preserved : goal.loop-v-preserved
-loop-v-preserved c = (search rules, search rules, mutual-next _ _ c.loop-v.v (c.answered.ensures c.if-not-answered.false) c.loop-v.invariant.2)
-
-pub returns : goal.returns
-returns c = λ t. mutual-all _ _ c.loop-v.v (search rules) c.loop-v.invariant.2
+pub returns-then-near-u-lt-ABOVE : goal.returns-then-near-u-lt-ABOVE
+returns-then-near-u-lt-ABOVE c =
+    let cases = cases_from_all _ _ _ (Answered c.args.near c.args.u) (λ _. Unit {0}) c.all.ensures.ran (YieldsList-from_range 0 20 20 refl refl) (λ x q k. search (rules, tests)) (λ x q k. tt) in
+    λ t. mutual-all _ _ c.if-near-u-lt-ABOVE.true (MatchBool-at_true _ _ t cases)

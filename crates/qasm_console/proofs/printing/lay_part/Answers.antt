@@ -1,33 +1,13 @@
 -- `qasm_console::printing::lay_part` meets its contract. Assumes nothing.
-use mathlib.Core.Path.{◌∙◌, sym, subst}
-use mathlib.Core.List.{List}
-use Prim.Native.Nat.{ℕ, ◌≤◌}
-use lib.ListN.{length}
+use native.Mathlib.Omega.{arith}
 use Rattle.tallies.specs.Tally.{bound_of}
-use Rattle.stretches.proofs.Judging.{lent-within}
-use Rattle.qasm_lines.specs.Spelling.{gates_text}
-use Rattle.console.proofs.Partly.{past-text, past_next, past-share, part-text, part-next, part-share, prints-none}
-use Rattle.console.proofs.Choosing.{prints-same}
-use Rattle.qasm_console.proofs.Sizes.{hadamard-most}
-use borrow.Author.Rules.{rules}
+use Rattle.qasm_console.proofs.Partly.{statements-fit}
 use Rattle.qasm_console.proofs.printing.lay_part.Goals as goal
 
-pub returns-then-gates-from : goal.returns-then-gates-from
+pub print_part-requires : goal.print_part-requires
 unfolding bound_of
-returns-then-gates-from c = (prints-same (past-text (gates_text _) _ _ _ c.args.from c.if-gates-from.true) (prints-none _ _ _ (search rules) c.put_gates.ensures), past_next _ c.args.couplers.now _ c.args.from c.if-gates-from.true, past-share _ _ _ c.args.from c.if-gates-from.true)
-
-pub print_part-printed-requires : goal.print_part-printed-requires
-print_part-printed-requires c = subst (λ (h : List ℕ). length (gates_text c.args.version h) ≤ 26) (sym c.hadamard_at.ensures) (hadamard-most c.args.version c.args.n c.args.gates.now c.args.from)
-
-pub overflow_add-result : goal.overflow_add-result
-overflow_add-result c = search (rules, lent-within _ _ c.args.from _ c.stretch_at-stretch.ensures c.if-gates-from.false)
-
-pub overflow_add-result-2 : goal.overflow_add-result-2
-overflow_add-result-2 c = search (rules, lent-within _ _ c.args.from _ c.stretch_at-stretch.ensures c.if-gates-from.false)
+print_part-requires c = (omega arith, statements-fit c.args.version)
 
 pub returns : goal.returns
-returns c = (
-  prints-same (part-text (gates_text _) _ _ _ c.args.from c.if-gates-from.false _ _ c.stretch_at-stretch.ensures c.hadamard_at.ensures) c.print_part-printed.ensures.0,
-  part-next _ c.args.couplers.now _ c.args.from c.if-gates-from.false _ _ c.stretch_at-stretch.ensures c.hadamard_at.ensures,
-  c.print_part-printed.ensures.1 ∙ part-share _ _ _ c.args.from c.if-gates-from.false _ _ c.stretch_at-stretch.ensures c.hadamard_at.ensures,
-)
+unfolding bound_of
+returns c = (c.print_part.ensures.prints, c.print_part.ensures.next, c.print_part.ensures.share)

@@ -3,8 +3,8 @@ use Rattle.words.specs.Words.{words}
 use Rattle.qasm_reading.proofs.Loops.{CountingGates}
 use Rattle.qasm_reading.proofs.run.count.Given as goal
 
-abbrev pub invariant-loop-q : goal.invariant-loop-q
-invariant-loop-q l = CountingGates l.version l.name (words (drop l.from l.text)) l.n l.phase (words (drop l.at l.text))
+abbrev pub invariant-loop-p : goal.invariant-loop-p
+invariant-loop-p l = CountingGates l.version l.name (words (drop l.from l.text)) l.n l.phase (words (drop l.at l.text))
 
-abbrev pub decreases-loop-q : goal.decreases-loop-q
-decreases-loop-q l = length (words (drop l.at l.text))
+abbrev pub decreases-loop-p : goal.decreases-loop-p
+decreases-loop-p l = length (words (drop l.at l.text))

@@ -10,4 +10,4 @@ pub returns : goal.returns
 unfolding own_table
 returns c =
     let s = c.args.s in
-    c.terms.ensures ∙ ap (λ (l : List ℕ). terms_in (record { parity = s.parity; sum = l; len = s.len })) c.own_sums.ensures
+    c.terms.ensures ∙ ap (λ (l : List ℕ). terms_in (record { parity = s.parity; sum = l; len = s.len })) c.own_sums-sum.ensures

@@ -9,21 +9,19 @@ use Rattle.spares.proofs.spare.beside.Goals.{then-holds, else-holds}
 use Rattle.spares.proofs.spare.beside.Goals as goal
 
 pub loop-u-init : goal.loop-u-init
-loop-u-init c = (search rules, nbrs-start _ _)
+loop-u-init c = nbrs-start _ _
 
 pub loop-u-preserved : goal.loop-u-preserved
 loop-u-preserved c =
     let at = c.loop-u in
-    let a = c.args in (
-      search rules,
-      elim c.if-holds.branch [
-        | then-holds w ↦ ap (λ (n : ℕ). bit_or n (from_on a.near a.set (at.u + 1))) w.all-is ∙ sym (nbrs-with a.near a.set at.u at.all (search rules) (sym c.holds.ensures ∙ w.if-holds.true)) ∙ at.invariant.1
-        | else-holds w ↦ ap (λ (n : ℕ). bit_or n (from_on a.near a.set (at.u + 1))) w.all-is ∙ sym (nbrs-without a.near a.set at.u at.all (search rules) (sym c.holds.ensures ∙ w.if-holds.false)) ∙ at.invariant.1
-      ],
-    )
+    let a = c.args in
+    elim c.if-holds.branch [
+      | then-holds w ↦ ap (λ (n : ℕ). bit_or n (from_on a.near a.set (at.u + 1))) w.all-is ∙ sym (nbrs-with a.near a.set at.u at.all (search rules) (sym c.holds.ensures ∙ w.if-holds.true)) ∙ at.invariant
+      | else-holds w ↦ ap (λ (n : ℕ). bit_or n (from_on a.near a.set (at.u + 1))) w.all-is ∙ sym (nbrs-without a.near a.set at.u at.all (search rules) (sym c.holds.ensures ∙ w.if-holds.false)) ∙ at.invariant
+    ]
 
 pub returns : goal.returns
 returns c =
     let at = c.loop-u in
     let a = c.args in
-    sym (nbrs-end a.near a.set at.u at.all (omega (arith, c.well_formed.0))) ∙ at.invariant.1
+    sym (nbrs-end a.near a.set at.u at.all (omega (arith, c.well_formed.0))) ∙ at.invariant

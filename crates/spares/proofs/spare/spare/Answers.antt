@@ -15,8 +15,8 @@ returns-then-holds c =
     let h = sym c.holds.ensures ∙ c.if-holds.true in
     c.connected.ensures ∙ ap (λ (n : ℕ). connected_of a.near (bit_xor a.set n)) (c.only.ensures ∙ only_of_lem a.set a.q (search rules) h) ∙ sym (ap (λ b. both b (connected_of a.near (bit_xor a.set (2 ^ a.q)))) h)
 
-pub returns : goal.returns
+pub returns-else-holds : goal.returns-else-holds
 unfolding spare_of
-returns c =
+returns-else-holds c =
     let a = c.args in
-    sym (ap (λ b. both b (connected_of a.near (bit_xor a.set (2 ^ a.q)))) (sym c.holds.ensures ∙ c.if-holds.false))
+    c.if-holds.false ∙ sym (ap (λ b. both b (connected_of a.near (bit_xor a.set (2 ^ a.q)))) (sym c.holds.ensures ∙ c.if-holds.false))

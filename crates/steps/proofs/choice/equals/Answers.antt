@@ -1,21 +1,9 @@
--- `steps::choice::equals` meets its contract: the places passed are filled. Assumes nothing.
-use mathlib.Core.Path.{◌∙◌}
-use Prim.Native.Nat.{◌<◌}
-use native.Mathlib.Omega.{arith}
-use lib.ListN.{length-set}
-use Rattle.sets.proofs.Tabling.{filled_next, filled-all}
-use Rattle.sets.specs.Tables.{tab}
-use borrow.Author.Rules.{rules}
+-- `steps::choice::equals` meets its contract. Assumes nothing.
+use Rattle.std.proofs.Common.{rules}
+use Rattle.sets.proofs.Making.{tab-mapped}
+use Rattle.steps.specs.Choice.{more_of}
 use Rattle.steps.proofs.choice.equals.Goals as goal
 
-pub loop-q-init : goal.loop-q-init
-loop-q-init c = (search rules, search rules, λ j (l : j < 0). absurd (omega arith))
-
-pub loop-q-preserved : goal.loop-q-preserved
-loop-q-preserved c =
-    let at = c.loop-q in
-    (search rules, length-set at.z _ _ ∙ at.invariant.1, filled_next 0 _ at.q at.z _ (search rules) c.more.ensures at.invariant.2)
-
 pub returns : goal.returns
-unfolding tab
-returns c = filled-all 0 _ 20 c.loop-q.q _ c.loop-q.invariant.1 (search rules) c.loop-q.invariant.2
+unfolding more_of
+returns c = tab-mapped _ (more_of c.args.n) _ (λ o e f r. search rules) _ _ 20 0 0 c.map.ensures.items

@@ -2,13 +2,13 @@
 use mathlib.Core.Path.{refl, sym, ◌∙◌}
 use mathlib.Core.Bool.{true, false}
 use native.Mathlib.Omega.{arith}
-use Rattle.steps.proofs.Selecting.{row-none, row_next, row_small, row-all}
+use Rattle.steps.proofs.Selecting.{row-none, row_next, row_small, row-front}
 use borrow.Author.Rules.{rules}
 use Rattle.steps.proofs.selection.row.Goals.{then-is_one, else-is_one}
 use Rattle.steps.proofs.selection.row.Goals as goal
 
 pub loop-k-init : goal.loop-k-init
-loop-k-init c = (search rules, c.at_most-n.ensures, row-none _ _ _)
+loop-k-init c = (search rules, c.min-n.ensures, row-none _ _ _)
 
 pub overflow_add-ones : goal.overflow_add-ones
 overflow_add-ones c = omega (arith, c.loop-k.invariant.1, row_small _ _ _ _ _ c.loop-k.invariant.2)
@@ -25,4 +25,4 @@ loop-k-preserved c =
     )
 
 pub returns : goal.returns
-returns c = row-all _ _ _ _ c.loop-k.k _ c.loop-k.invariant.1 (search rules) (search rules) c.loop-k.invariant.2
+returns c = row-front _ _ _ _ c.loop-k.k _ c.loop-k.invariant.1 (search rules) (search rules) c.loop-k.invariant.2

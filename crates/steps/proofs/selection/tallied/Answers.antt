@@ -1,25 +1,18 @@
--- `steps::selection::tallied` meets its contract: the places passed are filled. Assumes nothing.
-use mathlib.Core.Path.{◌∙◌}
-use Prim.Native.Nat.{◌<◌}
-use native.Mathlib.Omega.{arith}
-use lib.ListN.{length-set}
-use Rattle.sets.proofs.Tabling.{filled_next, filled-all}
+-- `steps::selection::tallied` meets its contract. Assumes nothing.
+use Rattle.std.proofs.Common.{◌≡◌, refl, ℕ, ◌+◌, Bool, true, false, get_or, rules}
+use Rattle.std.specs.Int.{from_bool}
+use Rattle.sets.specs.Bit.{has}
+use Rattle.sets.specs.Tables.{one}
+use Rattle.sets.proofs.Making.{tab-made}
 use Rattle.steps.specs.Selection.{tallied_of}
-use Rattle.sets.specs.Tables.{tab}
-use borrow.Author.Rules.{rules}
 use Rattle.steps.proofs.selection.tallied.Goals as goal
 
-pub loop-q-init : goal.loop-q-init
-loop-q-init c = (search rules, search rules, λ j (l : j < 0). absurd (omega arith))
-
-pub plus-requires : goal.plus-requires
-plus-requires c = c.requires c.loop-q.q
-
-pub loop-q-preserved : goal.loop-q-preserved
-loop-q-preserved c =
-    let at = c.loop-q in
-    (search rules, length-set at.next _ _ ∙ at.invariant.1, filled_next 0 _ at.q at.next _ (search rules) c.plus.ensures at.invariant.2)
+from-one : (b : Bool) → from_bool b ≡ one b
+from-one true = refl
+from-one false = refl
 
 pub returns : goal.returns
-unfolding tab tallied_of
-returns c = filled-all 0 _ 20 c.loop-q.q _ c.loop-q.invariant.1 (search rules) c.loop-q.invariant.2
+unfolding tallied_of
+returns c =
+    let a = c.args in
+    tab-made _ (λ (q : ℕ). get_or a.z q 0 + one (has a.x q)) _ (λ q n f r. search (rules, from-one)) _ 20 0 c.from_fn.ensures.items

@@ -2,12 +2,13 @@
 use mathlib.Core.Path.{◌∙◌}
 use lib.ListN.{length-set}
 use Rattle.sets.proofs.Tabling.{marked-none, marked_next}
-use Rattle.steps.proofs.Selecting.{zeros-all}
+use Rattle.steps.specs.Selection.{zeros_of, zero_at}
+use Rattle.steps.proofs.Selecting.{zero-struck, marked-all}
 use borrow.Author.Rules.{rules}
 use Rattle.steps.proofs.selection.zeros.Goals as goal
 
 pub loop-k-init : goal.loop-k-init
-loop-k-init c = (search rules, c.at_most-n.ensures, search rules, marked-none _ 256)
+loop-k-init c = (search rules, c.min-n.ensures, search rules, marked-none _ 256)
 
 pub loop-k-preserved : goal.loop-k-preserved
 loop-k-preserved c =
@@ -15,4 +16,5 @@ loop-k-preserved c =
     (search rules, at.invariant.1, length-set at.z _ _ ∙ at.invariant.2, marked_next _ at.k at.z _ (search rules) c.is_zero.ensures at.invariant.3)
 
 pub returns : goal.returns
-returns c = let at = c.loop-k in zeros-all _ _ at.k at.invariant.1 (search rules) _ at.invariant.2 _ _ at.invariant.3
+unfolding zeros_of
+returns c = let at = c.loop-k in marked-all (zero_at c.args.r) (zero-struck c.args.r) c.args.sel c.args.cols.now _ at.k at.invariant.1 (search rules) _ at.invariant.2 at.invariant.3

@@ -1,9 +1,15 @@
 -- `steps::steps::cross` meets its contract. Assumes nothing.
-use Rattle.steps.proofs.Unfolding.{crossed-twice, crossed-once}
+use mathlib.Core.Path.{sym, subst}
+use Rattle.columns.specs.Turning.{lay_cnot}
+use Rattle.columns.specs.Worked.{Worked}
+use Rattle.steps.proofs.Unfolding.{crossed-both, crossed-straight}
+use Rattle.steps.proofs.steps.cross.Goals.{then-ones-eq0, else-ones-eq0}
 use Rattle.steps.proofs.steps.cross.Goals as goal
 
-pub returns-then-ones-eq0 : goal.returns-then-ones-eq0
-returns-then-ones-eq0 c = crossed-twice _ _ _ _ _ _ c.if-ones-eq0.true c.lay_cnot-a.ensures c.lay_cnot.ensures
-
 pub returns : goal.returns
-returns c = crossed-once _ _ _ _ _ _ c.if-ones-eq0.false c.lay_cnot-2.ensures
+returns c =
+    let w = c.args.work.now in
+    elim c.if-ones-eq0.branch [
+      | then-ones-eq0 b ↦ crossed-both _ _ _ b.if-ones-eq0.true (subst (λ v. Worked w v (lay_cnot c.args.m c.args.r w.cols.now)) (sym b.work-is) b.lay_cnot.ensures) c.lay_cnot-2.ensures
+      | else-ones-eq0 b ↦ crossed-straight _ _ _ b.if-ones-eq0.false b.work-is c.lay_cnot-2.ensures
+    ]

@@ -1,12 +1,14 @@
 -- `stretches::cut::hadamard_at` meets its contract. Assumes nothing.
-use mathlib.Core.Path.{◌≡◌, sym, ap, ◌∙◌}
-use Prim.Native.Nat.{ℕ, ◌-◌, ◌+◌}
-use lib.ListN.{take, drop, drop_of_length-le}
-use native.Mathlib.Omega.{arith}
+use Rattle.std.proofs.Common.{◌≡◌, ℕ, List, rules, ap, ap₂, ◌∙◌, take, drop}
+use Rattle.gates.specs.Hadamards.{is_hadamard}
+use Rattle.stretches.specs.Cut.{first_at}
+use Rattle.stretches.proofs.Going.{end-drop}
 use Rattle.stretches.proofs.cut.hadamard_at.Goals as goal
 
-pub returns-then-gates-end : goal.returns-then-gates-end
-returns-then-gates-end c = sym (ap (λ (m : ℕ). take 1 (drop m c.args.gates.now)) (sym c.end_of-end.ensures) ∙ ap (take 1) (drop_of_length-le c.args.gates.now c.if-gates-end.true))
-
 pub returns : goal.returns
-returns c = let k = c.end_of-end.result in let z : k + 1 - k ≡ 1 = omega arith in ap (λ (m : ℕ). take m (drop k c.args.gates.now)) z ∙ ap (λ (m : ℕ). take 1 (drop m c.args.gates.now)) c.end_of-end.ensures
+returns c =
+    let one : c.unwrap_or.result.now ≡ take 1 c.gates_from-behind.result.now = search rules in
+    one
+    ∙ ap (take 1)
+    (c.gates_from-behind.ensures ∙ ap₂ (λ (m : ℕ) (l : List ℕ). drop m l) (c.len_of-end.ensures ∙ ap (first_at (is_hadamard c.args.n)) c.gates_from-rest.ensures) c.gates_from-rest.ensures
+    ∙ end-drop c.args.n c.args.gates.now c.args.from)

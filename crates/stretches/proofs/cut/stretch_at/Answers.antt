@@ -1,22 +1,16 @@
 -- `stretches::cut::stretch_at` meets its contract. Assumes nothing.
-use mathlib.Core.Path.{sym, ap, subst}
-use Prim.Native.Nat.{ℕ, ◌-◌, ◌≤◌, ◌<◌}
-use lib.ListN.{length, take, drop}
-use Rattle.stretches.proofs.Going.{end_ge, stretch-none}
-use borrow.Author.Rules.{rules}
+use Rattle.std.proofs.Common.{ℕ, List, sym, ap, ap₂, ◌∙◌, length, take, subst, ◌≤◌}
+use Rattle.gates.specs.Hadamards.{is_hadamard}
+use Rattle.stretches.specs.Cut.{first_at}
+use Rattle.stretches.proofs.Cutting.{first-le}
+use Rattle.stretches.proofs.Going.{end-size}
+use lib.Seq.{length-take-le}
 use Rattle.stretches.proofs.cut.stretch_at.Goals as goal
 
-pub returns-then-gates-end : goal.returns-then-gates-end
-returns-then-gates-end c = sym (stretch-none _ _ c.args.from (subst (λ (m : ℕ). length c.args.gates.now < m) c.end_of-end.ensures c.if-gates-end.true))
-
-pub offset_bounds-gates-from : goal.offset_bounds-gates-from
-offset_bounds-gates-from c = search (rules, subst (λ (m : ℕ). c.args.from ≤ m) (sym c.end_of-end.ensures) (end_ge _ _ c.args.from))
-
-pub slice_bounds-result-count : goal.slice_bounds-result-count
-slice_bounds-result-count c = subst (λ (m : ℕ). c.args.from ≤ m) (sym c.end_of-end.ensures) (end_ge _ _ c.args.from)
-
-pub slice_bounds-result-start : goal.slice_bounds-result-start
-slice_bounds-result-start c = subst (λ (m : ℕ). c.args.from ≤ m) (sym c.end_of-end.ensures) (end_ge _ _ c.args.from)
+pub slice_bounds-result-end : goal.slice_bounds-result-end
+slice_bounds-result-end c = let rest = c.gates_from-rest.result.now in
+    sym (length-take-le _ rest (subst (λ (m : ℕ). m ≤ length rest) (sym c.len_of-end.ensures) (first-le (is_hadamard c.args.n) rest)))
 
 pub returns : goal.returns
-returns c = ap (λ (m : ℕ). take (m - c.args.from) (drop c.args.from c.args.gates.now)) c.end_of-end.ensures
+returns c =
+    ap₂ (λ (m : ℕ) (l : List ℕ). take m l) (c.len_of-end.ensures ∙ ap (first_at (is_hadamard c.args.n)) c.gates_from-rest.ensures ∙ end-size c.args.n c.args.gates.now c.args.from) c.gates_from-rest.ensures

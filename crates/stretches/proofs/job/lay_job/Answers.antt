@@ -1,27 +1,28 @@
 -- `stretches::job::lay_job` meets its contract: the tests in order, then the stretches. Assumes nothing.
-use mathlib.Core.Path.{◌∙◌}
-use Rattle.verdicts.proofs.Judged.{passed}
+use mathlib.Core.Path.{sym, ◌∙◌}
+use Rattle.std.proofs.Common.{rules}
+use Rattle.verdicts.proofs.Judged.{went}
 use Rattle.stretches.proofs.Passing.{job-passed}
 use Rattle.stretches.proofs.Answering.{refused, refused-8, fits, part-fits, part-long, counted}
 use Rattle.stretches.proofs.job.lay_job.Goals as goal
 
-pub returns-then-number-ne0 : goal.returns-then-number-ne0
-returns-then-number-ne0 c = refused c.args.n c.args.couplers.now c.args.gates.now c.args.out.now c.judge-verdict.result c.judge-verdict.ensures (λ z. c.if-number-ne0.true (c.number.ensures ∙ z))
+pub returns-in_err-judge : goal.returns-in_err-judge
+returns-in_err-judge c = refused c.args.n c.args.couplers.now c.args.gates.now c.args.out.now c.from_residual.result (search rules) (sym c.judge.ensures ∙ c.in_err-judge.was)
 
-pub judge_room-room-requires : goal.judge_room-room-requires
-judge_room-room-requires c = let p = job-passed _ _ _ (passed c.judge-verdict.ensures c.number.ensures c.if-number-ne0.false) in (p.few, p.counted)
+pub judge_room-requires : goal.judge_room-requires
+judge_room-requires c = let p = job-passed _ _ _ (went c.judge.ensures c.in_ok-judge.was) in (p.few, p.counted)
 
-pub returns-then-number-ne0-2 : goal.returns-then-number-ne0-2
-returns-then-number-ne0-2 c = refused-8 c.args.n c.args.couplers.now c.args.gates.now c.args.out.now (passed c.judge-verdict.ensures c.number.ensures c.if-number-ne0.false) c.judge_room-room.result c.judge_room-room.ensures (λ z. c.if-number-ne0-2.true (c.number-2.ensures ∙ z))
+pub returns-in_err-judge_room : goal.returns-in_err-judge_room
+returns-in_err-judge_room c = refused-8 c.args.n c.args.couplers.now c.args.gates.now c.args.out.now c.from_residual-in_err-judge_room.result (search rules) (went c.judge.ensures c.in_ok-judge.was) (sym c.judge_room.ensures ∙ c.in_err-judge_room.was)
 
 pub lay_stretches-part-requires : goal.lay_stretches-part-requires
-lay_stretches-part-requires c = ((job-passed _ _ _ (passed c.judge-verdict.ensures c.number.ensures c.if-number-ne0.false)).accepts, fits c.args.n c.args.couplers.now c.args.gates.now c.args.out.now (passed c.judge-verdict.ensures c.number.ensures c.if-number-ne0.false) (passed c.judge_room-room.ensures c.number-2.ensures c.if-number-ne0-2.false))
+lay_stretches-part-requires c = ((job-passed _ _ _ (went c.judge.ensures c.in_ok-judge.was)).accepts, fits c.args.n c.args.couplers.now c.args.gates.now c.args.out.now (went c.judge.ensures c.in_ok-judge.was) (went c.judge_room.ensures c.in_ok-judge_room.was))
 
 pub slice_bounds-counted-end : goal.slice_bounds-counted-end
-slice_bounds-counted-end c = part-fits c.args.n c.args.couplers.now c.args.gates.now c.args.out.now (passed c.judge-verdict.ensures c.number.ensures c.if-number-ne0.false) (passed c.judge_room-room.ensures c.number-2.ensures c.if-number-ne0-2.false) _ _ c.lay_stretches-part.ensures.2 c.lay_stretches-part.ensures.0
+slice_bounds-counted-end c = part-fits c.args.n c.args.couplers.now c.args.gates.now c.args.out.now (went c.judge.ensures c.in_ok-judge.was) (went c.judge_room.ensures c.in_ok-judge_room.was) _ _ c.lay_stretches-part.ensures.2 c.lay_stretches-part.ensures.0
 
 pub slice_bounds-counted-end-2 : goal.slice_bounds-counted-end-2
-slice_bounds-counted-end-2 c = part-long c.args.n c.args.couplers.now c.args.gates.now c.args.out.now (passed c.judge-verdict.ensures c.number.ensures c.if-number-ne0.false) (passed c.judge_room-room.ensures c.number-2.ensures c.if-number-ne0-2.false) _ _ c.lay_stretches-part.ensures.2 c.lay_stretches-part.ensures.0
+slice_bounds-counted-end-2 c = part-long c.args.n c.args.couplers.now c.args.gates.now c.args.out.now (went c.judge.ensures c.in_ok-judge.was) (went c.judge_room.ensures c.in_ok-judge_room.was) _ _ c.lay_stretches-part.ensures.2 c.lay_stretches-part.ensures.0
 
 pub returns : goal.returns
-returns c = counted c.args.n c.args.couplers.now c.args.gates.now c.args.out.now (passed c.judge-verdict.ensures c.number.ensures c.if-number-ne0.false) (passed c.judge_room-room.ensures c.number-2.ensures c.if-number-ne0-2.false) _ _ c.lay_stretches-part.ensures.2 c.lay_stretches-part.ensures.0 _ _ c.lay_stretches-part.ensures.1 c.counted.ensures
+returns c = counted c.args.n c.args.couplers.now c.args.gates.now c.args.out.now (went c.judge.ensures c.in_ok-judge.was) (went c.judge_room.ensures c.in_ok-judge_room.was) _ _ c.lay_stretches-part.ensures.2 c.lay_stretches-part.ensures.0 _ _ c.lay_stretches-part.ensures.1 c.counted.ensures

@@ -1,30 +1,13 @@
--- `tallies::tally::cnots` meets its contract: what is counted and what is left make the whole. Assumes nothing.
-use mathlib.Core.Path.{ap}
-use native.Mathlib.Omega.{arith}
-use Rattle.tallies.specs.Tally.{one_cnot, cnots_of}
-use Rattle.tallies.proofs.Tallies.{left_step, left_end, left-bounded, one-cnot}
+-- `tallies::tally::cnots` meets its contract. Assumes nothing.
+use mathlib.Core.Path.{◌≡◌, sym, ◌∙◌}
+use Rattle.std.specs.List.{count_by}
+use Rattle.gates.specs.Layout.{gate_of}
+use Rattle.tallies.proofs.Tallies.{is_cnot, cnots-counted}
 use borrow.Author.Rules.{rules}
 use Rattle.tallies.proofs.tally.cnots.Goals as goal
 
-pub loop-i-init : goal.loop-i-init
-loop-i-init c = (search rules, omega arith)
-
-pub overflow_add-count : goal.overflow_add-count
-overflow_add-count c =
-    let at = c.loop-i in
-    let r = c.args.records.now in
-    let n = c.args.n in
-    omega (arith, at.invariant.1, left_step one_cnot n r at.i (search rules), left-bounded one_cnot one-cnot n r, c.one_cnot-count.ensures, ap one_cnot c.decode.ensures)
-
-pub loop-i-preserved : goal.loop-i-preserved
-loop-i-preserved c =
-    let at = c.loop-i in
-    let r = c.args.records.now in
-    let n = c.args.n in
-    (search rules, omega (arith, at.invariant.1, left_step one_cnot n r at.i (search rules), c.one_cnot-count.ensures, ap one_cnot c.decode.ensures))
-
 pub returns : goal.returns
-unfolding cnots_of
 returns c =
-    let at = c.loop-i in
-    omega (arith, at.invariant.1, left_end one_cnot c.args.n c.args.records.now at.i (search rules))
+    let a = c.args in
+    let e : c.count.result ≡ count_by (λ x. is_cnot (gate_of a.n x)) a.records.now = search rules in
+    e ∙ sym (cnots-counted a.n a.records.now)

@@ -4,8 +4,8 @@ use mathlib.Core.List.{List, [], ◌∷◌, ◌++◌}
 use Prim.Native.Nat.{ℕ, ◌+◌, ◌≤◌}
 use lib.ListN.{length}
 use Rattle.lines.specs.Lines.{line_text, record_text, records_text, text_of}
-use Rattle.lines.specs.Lent.{lines_end, lines_at}
-use Rattle.lines.proofs.Writes.{Wrote, wrote_then, fitted-wrote, text-length}
+use Rattle.lines.specs.Lent.{lines_end, lines_at, Wrote}
+use Rattle.lines.proofs.Writes.{wrote_then, fitted-wrote, text-length}
 use Rattle.lines.proofs.Recorded.{records-fit}
 use native.Mathlib.Omega.{arith}
 use Rattle.text.proofs.write.put_text.Goals as goal
@@ -28,4 +28,5 @@ returns c =
     let first = fitted-wrote a.text.now 0 (line_text 113 (a.n ∷ [])) (omega (arith, h, all)) p.ensures in
     let second = fitting es p.result p.new.text (omega (arith, h, all, first.0, p.auto.text)) q.ensures in
     let third = fitting gs q.result q.new.text (omega (arith, h, all, first.0, second.0, p.auto.text, q.auto.text)) r.ensures in
-    wrote_then a.text.now 0 (line_text 113 (a.n ∷ [])) (records_text es ++ records_text gs) first (wrote_then p.new.text p.result (records_text es) (records_text gs) second third)
+    let w = wrote_then a.text.now 0 (line_text 113 (a.n ∷ [])) (records_text es ++ records_text gs) first (wrote_then p.new.text p.result (records_text es) (records_text gs) second third) in
+    record { bytes = omega (arith, w.0); written = w.1 }

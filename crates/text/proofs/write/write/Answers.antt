@@ -1,37 +1,57 @@
--- `text::write::write` meets its contract: it writes what it judged to fit. Assumes nothing.
-use mathlib.Core.Path.{◌≡◌, ap, ◌∙◌}
-use lib.ListN.{length}
-use borrow.Author.Tests.{ne_eqb}
-use Rattle.verdicts.specs.Verdicts.{number_of}
-use Rattle.lines.specs.Lines.{text_of}
-use Rattle.text.specs.declared.write.Writing.TheVariants.{Written, Refused}
-use Rattle.verdicts.proofs.Judged.{passed}
-use Rattle.text.proofs.Judging.{accepts, writing-yes, writing-no}
+-- `text::write::write` meets its contract: the first refusal decides, and what fits is written. Assumes nothing.
+use mathlib.Core.Path.{refl, sym, ap, ◌∙◌}
+use borrow.Author.Tests.{leb-true}
+use Rattle.std.specs.Prelude.{Ok, Err}
+use Rattle.std.proofs.lemmas.Result.{err_from_is_err_and}
 use Rattle.lines.proofs.Writes.{sets-onto}
-use native.Mathlib.Omega.{arith}
+use Rattle.sets.specs.Pick.{pick}
+use Rattle.verdicts.specs.declared.verdict.Refusal.TheVariants.{Room}
+use Rattle.verdicts.proofs.Answered.{then-ok, then-err, gives-value, gives-refusal}
+use Rattle.lines.specs.Lines.{text_of}
+use Rattle.text.specs.Writings.{judged_text, writing_of}
 use Rattle.text.proofs.write.write.Goals as goal
 
-pub put_text-bytes-requires : goal.put_text-bytes-requires
-put_text-bytes-requires c =
-    let a = c.args in
-    (accepts a.n a.couplers.now a.gates.now (length a.text.now) (passed c.judge-v.ensures c.number.ensures c.if-number-eq0.true)).fits
+pub returns-in_err-judge_qubits : goal.returns-in_err-judge_qubits
+unfolding judged_text writing_of
+returns-in_err-judge_qubits c =
+    let p = err_from_is_err_and c.from_residual.result c.from_residual.ensures.1 in
+    rw (p.1, p.2) (gives-refusal _ (then-err _ (sym c.judge_qubits.ensures ∙ c.in_err-judge_qubits.was)), refl)
 
-pub returns-then-number-eq0 : goal.returns-then-number-eq0
-returns-then-number-eq0 c =
-    let a = c.args in
-    let es = a.couplers.now in
-    let gs = a.gates.now in
-    let room = length a.text.now in
-    let yes' = passed c.judge-v.ensures c.number.ensures c.if-number-eq0.true in
-    let p = c.put_text-bytes in
-    let z : p.result ≡ length (text_of a.n es gs) = omega (arith, p.ensures.0) in
-    (ap Written z ∙ writing-yes a.n es gs room yes', p.ensures.1 ∙ sets-onto (text_of a.n es gs) a.text.now (accepts a.n es gs room yes').fits)
+pub returns-in_err-judge_couplers : goal.returns-in_err-judge_couplers
+unfolding judged_text writing_of
+returns-in_err-judge_couplers c =
+    let p = err_from_is_err_and c.from_residual-in_err-judge_couplers.result c.from_residual-in_err-judge_couplers.ensures.1 in
+    let one = sym c.judge_qubits.ensures ∙ c.in_ok-judge_qubits.was in
+    rw (p.1, p.2) (gives-refusal _ (then-ok one ∙ then-err _ (sym c.judge_couplers.ensures ∙ c.in_err-judge_couplers.was)), refl)
+
+pub returns-in_err-judge_drawn : goal.returns-in_err-judge_drawn
+unfolding judged_text writing_of
+returns-in_err-judge_drawn c =
+    let p = err_from_is_err_and c.from_residual-in_err-judge_drawn.result c.from_residual-in_err-judge_drawn.ensures.1 in
+    let one = sym c.judge_qubits.ensures ∙ c.in_ok-judge_qubits.was in
+    let two = sym c.judge_couplers.ensures ∙ c.in_ok-judge_couplers.was in
+    rw (p.1, p.2) (gives-refusal _ (then-ok one ∙ then-ok two ∙ then-err _ (sym c.judge_drawn.ensures ∙ c.in_err-judge_drawn.was)), refl)
+
+pub returns-then-not-fits : goal.returns-then-not-fits
+unfolding judged_text writing_of
+returns-then-not-fits c =
+    let one = sym c.judge_qubits.ensures ∙ c.in_ok-judge_qubits.was in
+    let two = sym c.judge_couplers.ensures ∙ c.in_ok-judge_couplers.was in
+    let three = sym c.judge_drawn.ensures ∙ c.in_ok-judge_drawn.was in
+    (gives-refusal _ (then-ok one ∙ then-ok two ∙ then-ok three ∙ ap (λ t. pick t (Ok tt) (Err Room)) (sym c.fits.ensures ∙ c.if-not-fits.true)), refl)
+
+pub put_text-requires : goal.put_text-requires
+put_text-requires c = leb-true _ _ (sym c.fits.ensures ∙ c.if-not-fits.false)
 
 pub returns : goal.returns
+unfolding judged_text writing_of
 returns c =
     let a = c.args in
-    let v = c.judge-v in
-    let no' : number_of v.result ≡ 0 → ⊥ = λ z. c.if-number-eq0.false (c.number.ensures ∙ z) in (
-      ap Refused v.ensures ∙ writing-no a.n a.couplers.now a.gates.now (length a.text.now) (λ z. no' (ap number_of v.ensures ∙ z)),
-      rw (ne_eqb (number_of v.result) 0 no'),
+    let p = c.put_text in
+    let one = sym c.judge_qubits.ensures ∙ c.in_ok-judge_qubits.was in
+    let two = sym c.judge_couplers.ensures ∙ c.in_ok-judge_couplers.was in
+    let three = sym c.judge_drawn.ensures ∙ c.in_ok-judge_drawn.was in
+    let fit = sym c.fits.ensures ∙ c.if-not-fits.false in (
+      ap Ok p.ensures.bytes ∙ gives-value _ (then-ok one ∙ then-ok two ∙ then-ok three ∙ ap (λ t. pick t (Ok tt) (Err Room)) fit),
+      p.ensures.written ∙ sets-onto (text_of a.n a.couplers.now a.gates.now) a.text.now (leb-true _ _ fit),
     )

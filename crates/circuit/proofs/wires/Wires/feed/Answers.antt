@@ -1,15 +1,12 @@
 -- `circuit::wires::Wires::feed` meets its contract, gate by gate. Assumes nothing.
-use Rattle.circuit.proofs.Feeding.{wires-cnot, wires-rotation, wires-x, wires-bad}
+use Rattle.circuit.proofs.Feeding.{wires-cnot, wires-x, wires-same}
 use Rattle.circuit.proofs.wires.Wires.feed.Goals as goal
 
 pub returns-in-Cnot : goal.returns-in-Cnot
 returns-in-Cnot c = wires-cnot c.args.self _ _ _ _ _ c.in-Cnot.is c.joined.ensures c.joined-in-Cnot.ensures
 
 pub returns-in-Rotation : goal.returns-in-Rotation
-returns-in-Rotation c = wires-rotation _ _ _ _ c.in-Rotation.is
+returns-in-Rotation c = wires-same _ _ c.in-Rotation.is
 
 pub returns-in-X : goal.returns-in-X
 returns-in-X c = wires-x c.args.self _ _ _ c.in-X.is c.turned_over.ensures
-
-pub returns-in-Bad : goal.returns-in-Bad
-returns-in-Bad c = wires-bad _ _ c.in-Bad.is

@@ -1,21 +1,22 @@
--- `tallies::depth::Layers::feed` meets its contract, gate by gate. Assumes nothing.
-use mathlib.Core.Path.{sym, ap, ◌∙◌}
+-- `tallies::depth::Layers::feed` meets its contract: only a CNOT takes a layer. Assumes nothing.
+use mathlib.Core.Path.{◌≡◌, refl, sym, ap, ◌∙◌}
+use mathlib.Core.List.{List}
+use Prim.Native.Nat.{ℕ}
 use Rattle.gates.specs.declared.gate.Gate.{Gate}
+use Rattle.gates.specs.declared.gate.Gate.TheVariants.{Cnot, Rotation, X, Bad}
 use Rattle.tallies.specs.Tally.{layered}
 use Rattle.tallies.proofs.depth.Layers.feed.Goals as goal
 
+no-layer : (g : Gate) (L : List ℕ) → ((c t : ℕ) → g ≡ Cnot c t → ⊥) → L ≡ layered g L
+unfolding layered
+no-layer (Cnot c t) L h = absurd (h c t refl)
+no-layer (Rotation q a) L h = refl
+no-layer (X q) L h = refl
+no-layer Bad L h = refl
+
 pub returns-in-Cnot : goal.returns-in-Cnot
 unfolding layered
-returns-in-Cnot c = c.raise.ensures ∙ ap (λ (g : Gate). layered g c.args.self.last) (sym c.in-Cnot.is)
+returns-in-Cnot c = c.raise.ensures ∙ ap (λ (g : Gate). layered g c.args.self.now.last) (sym c.in-Cnot.is)
 
-pub returns-in-Rotation : goal.returns-in-Rotation
-unfolding layered
-returns-in-Rotation c = ap (λ (g : Gate). layered g c.args.self.last) (sym c.in-Rotation.is)
-
-pub returns-in-X : goal.returns-in-X
-unfolding layered
-returns-in-X c = ap (λ (g : Gate). layered g c.args.self.last) (sym c.in-X.is)
-
-pub returns-in-Bad : goal.returns-in-Bad
-unfolding layered
-returns-in-Bad c = ap (λ (g : Gate). layered g c.args.self.last) (sym c.in-Bad.is)
+pub returns-in_default : goal.returns-in_default
+returns-in_default c = no-layer c.args.g c.args.self.now.last c.in_default.not-Cnot

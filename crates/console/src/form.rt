@@ -1,0 +1,31 @@
+// How gates are printed. The lines of a job are one form of it; `qasm_console` has another, the statements of a circuit.
+ghost use Rattle.std.specs.Prelude.{ℕ, List};
+ghost use Rattle.lines.specs.Lines.{record_text, records_text};
+ghost use Rattle.lines.specs.Lent.{FittedLines};
+
+use lines::records;
+
+pub trait Form: Copy {
+    // What is printed for a gate.
+    ghost line: { Self → ℕ → List ℕ };
+
+    // What is printed for a list of gates.
+    ghost text: { Self → List ℕ → List ℕ };
+
+    // The place behind the last gate that fits.
+    fn put(self, out: &mut [u8], from: usize, gates: &[u32]) -> usize
+        ensures { FittedLines (line self) out.old from gates.now out.new result };
+}
+
+#[derive(Clone, Copy)]
+pub struct Lines;
+
+impl Form for Lines {
+    ghost line = { λ _. record_text };
+
+    ghost text = { λ _. records_text };
+
+    fn put(self, out: &mut [u8], from: usize, gates: &[u32]) -> usize {
+        records::put_records(out, from, gates)
+    }
+}

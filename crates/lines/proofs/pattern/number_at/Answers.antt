@@ -1,7 +1,0 @@
--- `lines::pattern::number_at` meets its contract. Assumes nothing.
-use mathlib.Core.Path.{sym}
-use lib.ListN.{get_or-eq_default}
-use Rattle.lines.proofs.pattern.number_at.Goals as goal
-
-pub returns : goal.returns
-returns c = sym (get_or-eq_default c.args.numbers.now 0 c.if-k-numbers.false)
