@@ -100,11 +100,14 @@ module _ (a b : ℕ) (near : List ℕ) where
   unfolding link_of
   link-past-2 ha hb = simp (lt-ltb a 20 ha, le-ltb b 20 hb)
 
+  pub link-is : a < 20 → b < 20 → (x y : ℕ) → x ≡ 2 ^ b → y ≡ 2 ^ a → set (set near a (bit_or (get_or near a 0) x)) b (bit_or (get_or near b 0) y) ≡ link_of a b near
+  link-is ha hb x y ex ey = rw (ex, ey) (sym (link-in ha hb))
+
   -- one end is written after the other: what the second write finds, where the ends are one qubit, changes nothing
-  pub link-is : length near ≡ 20 → a < 20 → b < 20 → (x y : ℕ) → x ≡ 2 ^ b → y ≡ 2 ^ a
+  pub link-twice : length near ≡ 20 → a < 20 → b < 20 → (x y : ℕ) → x ≡ 2 ^ b → y ≡ 2 ^ a
       → set (set near a (bit_or (get_or near a 0) x)) b (bit_or (get_or (set near a (bit_or (get_or near a 0) x)) b 0) y) ≡ link_of a b near
-  link-is len ha hb x y ex ey =
-      rw (ex, ey) (ap (λ (w : ℕ). set (set near a (bit_or (get_or near a 0) (2 ^ b))) b w) (second (ℕ_discrete a b)) ∙ sym (link-in ha hb))
+  link-twice len ha hb x y ex ey =
+      rw (ex, ey) (ap (λ (w : ℕ). set (set near a (bit_or (get_or near a 0) (2 ^ b))) b w) (second (ℕ_discrete a b)) ∙ link-is ha hb (2 ^ b) (2 ^ a) refl refl)
     where
       second : Dec (a ≡ b) → bit_or (get_or (set near a (bit_or (get_or near a 0) (2 ^ b))) b 0) (2 ^ a) ≡ bit_or (get_or near b 0) (2 ^ a)
       second (yes e) =

@@ -1,20 +1,22 @@
 -- The couplers in order: each is one of the chip with the lower end first, all are there, ascending, and 190 places suffice. Assumes nothing.
 use mathlib.Core.Path.{◌≡◌, refl, sym, ap, ap₂, ◌∙◌, subst}
 use mathlib.Core.Bool.{Bool, true, false}
-use mathlib.Core.List.{List, [], ◌∷◌, ◌++◌, append_assoc, append-nil}
+use mathlib.Core.List.{List, [], ◌∷◌, ◌++◌}
 use Prim.Native.Nat.{ℕ, zero, suc, ◌+◌, ◌-◌, ◌*◌, ◌/◌, ◌%◌, ◌≤◌, ◌<◌}
-use native.Mathlib.Nat.{add-suc}
+use native.Mathlib.Nat.{add-suc, zero-add}
 use native.Mathlib.Omega.{arith}
 use native.Mathlib.Numerals.{add-one}
 use lib.Dec.{ltb}
-use lib.ListN.{length, get_or, length-append}
+use lib.ListN.{length, get_or, set, take, drop, replicate, length-set, length-replicate}
+use lib.Seq.{sets, sets-eq, take-append_seam}
 use borrow.Author.Tests.{lt-ltb, ltb-true, ltb-false}
 use Rattle.sets.specs.Pick.{pick, both}
 use Rattle.sets.specs.Bit.{bit, has}
 use Rattle.sets.proofs.Words.{has-true, in-has}
 use Rattle.gates.specs.Layout.{packed}
+use Rattle.chip.specs.declared.couplers.Ordered.{Ordered}
 use Rattle.chip.specs.Graph.{Near}
-use Rattle.chip.specs.Ordered.{pair_of, pair_at, ordered_from, ordered_list}
+use Rattle.chip.specs.Ordered.{pair_of, pair_at, ordered_from, ordered_list, ordered_of}
 use Rattle.sets.proofs.Deciding.{both_true, never}
 use Rattle.sets.proofs.Finding.{sub-suc}
 
@@ -183,7 +185,25 @@ pub ordered-few : (near : List ℕ) → length (ordered_list near) ≤ 190
 unfolding ordered_list
 ordered-few near = omega (arith, from-count near 400 0, pairs-all)
 
+-- the first records of the array are the list
+pub ordered-take : (near : List ℕ) → take (ordered_of near).len (ordered_of near).records ≡ ordered_list near
+unfolding ordered_of
+ordered-take near = take-append_seam (ordered_list near) (replicate (190 - length (ordered_list near)) 0)
+
+pub ordered-len : (near : List ℕ) → (ordered_of near).len ≡ length (ordered_list near)
+unfolding ordered_of
+ordered-len near = refl
+
 -- ---- the loop that writes them
+
+drop-replicate : (i n : ℕ) → drop i (replicate {A = ℕ} n 0) ≡ replicate (n - i) 0
+drop-replicate zero n = let e : n ≡ n - 0 = omega arith in ap (λ (k : ℕ). replicate {A = ℕ} k 0) e
+drop-replicate (suc i) zero = let e : 0 ≡ 0 - suc i = omega arith in ap (λ (k : ℕ). replicate {A = ℕ} k 0) e
+drop-replicate (suc i) (suc n) = let e : n - i ≡ suc n - suc i = omega arith in drop-replicate i n ∙ ap (λ (k : ℕ). replicate {A = ℕ} k 0) e
+
+-- the array and its count, as one value
+abbrev pub ordered : List ℕ → ℕ → Ordered
+ordered r l = record { records = r; len = l }
 
 -- the record as the code makes it
 pub record_is : (near : List ℕ) (k : ℕ) → k / 20 * 65536 + k % 20 ≡ record_at near k
@@ -191,32 +211,47 @@ unfolding packed
 record_is near k = omega arith
 
 -- at pair k: what is written, and then what the pairs from k on still write, is the whole
-pub record Listing (near : List ℕ) (k : ℕ) (records : List ℕ) : Type 0 where
-  pub few : length records ≤ pairs_below k
-  pub rest : records ++ ordered_from near (400 - k) k ≡ ordered_list near
+pub record Listing (near : List ℕ) (k : ℕ) (records : List ℕ) (len : ℕ) : Type 0 where
+  pub long : length records ≡ 190
+  pub few : len ≤ pairs_below k
+  pub rest : sets records len (ordered_from near (400 - k) k) ≡ (ordered_of near).records
+  pub count : len + length (ordered_from near (400 - k) k) ≡ (ordered_of near).len
 
-pub writing-none : (near : List ℕ) → Listing near 0 []
-unfolding ordered_list
-writing-none near = record { few = omega arith; rest = refl }
+pub writing-none : (near : List ℕ) → Listing near 0 (replicate 190 0) 0
+unfolding ordered_of ordered_list
+writing-none near = record {
+  long = length-replicate {A = ℕ} 190 0;
+  few = unfold pairs_below in omega arith;
+  rest = sets-eq (ordered_from near 400 0) (replicate 190 0) 0 (omega (arith, length-replicate {A = ℕ} 190 0, from-count near 400 0, pairs-all))
+      ∙ ap (λ (l : List ℕ). ordered_from near 400 0 ++ l) (drop-replicate (0 + length (ordered_from near 400 0)) 190 ∙ ap (λ (k : ℕ). replicate (190 - k) 0) (zero-add (length (ordered_from near 400 0))));
+  count = omega arith;
+}
 
-module _ (near : List ℕ) (k : ℕ) (records : List ℕ) (h : k < 400) (w : Listing near k records) where
-  pub writing-with : (x : ℕ) → x ≡ record_at near k → Here near k ≡ true → Listing near (k + 1) (records ++ x ∷ [])
+module _ (near : List ℕ) (k : ℕ) (records : List ℕ) (len : ℕ) (h : k < 400) (w : Listing near k records len) where
+  pub writing-with : (x : ℕ) → x ≡ record_at near k → Here near k ≡ true → Listing near (k + 1) (set records len x) (len + 1)
   writing-with x q e =
       let f : ordered_from near (400 - k) k ≡ x ∷ ordered_from near (400 - (k + 1)) (k + 1) =
       ap (λ (d : ℕ). ordered_from near d k) (sub-suc 400 k h) ∙ from-with near (400 - (k + 1)) k e ∙ ap (λ (y : ℕ). y ∷ ordered_from near (400 - (k + 1)) (k + 1)) (sym q) in
       record {
-        few = omega (arith, w.few, pairs-more near k e, length-append records (x ∷ []));
-        rest = append_assoc records (x ∷ []) (ordered_from near (400 - (k + 1)) (k + 1)) ∙ sym (ap (λ (l : List ℕ). records ++ l) f) ∙ w.rest;
+        long = length-set records len x ∙ w.long;
+        few = omega (arith, w.few, pairs-more near k e);
+        rest = ap (λ (n : ℕ). sets (set records len x) n (ordered_from near (400 - (k + 1)) (k + 1))) (add-one len) ∙ sym (ap (sets records len) f) ∙ w.rest;
+        count = omega (arith, w.count, ap length f);
       }
 
-  pub writing-without : Here near k ≡ false → Listing near (k + 1) records
+  pub writing-without : Here near k ≡ false → Listing near (k + 1) records len
   writing-without e =
       let f : ordered_from near (400 - k) k ≡ ordered_from near (400 - (k + 1)) (k + 1) =
       ap (λ (d : ℕ). ordered_from near d k) (sub-suc 400 k h) ∙ from-without near (400 - (k + 1)) k e in
-      record { few = omega (arith, w.few, pairs-mono k 1); rest = sym (ap (λ (l : List ℕ). records ++ l) f) ∙ w.rest }
+      record {
+        long = w.long;
+        few = omega (arith, w.few, pairs-mono k 1);
+        rest = sym (ap (sets records len) f) ∙ w.rest;
+        count = omega (arith, w.count, ap length f);
+      }
 
-pub writing-all : (near : List ℕ) (k : ℕ) (records : List ℕ) → 400 ≤ k → Listing near k records → records ≡ ordered_list near
-writing-all near k records h w =
+pub writing-all : (near : List ℕ) (k : ℕ) (records : List ℕ) (len : ℕ) → 400 ≤ k → Listing near k records len → (records ≡ (ordered_of near).records) × (len ≡ (ordered_of near).len)
+writing-all near k records len h w =
     let z : 400 - k ≡ 0 = omega arith in
     let f : ordered_from near (400 - k) k ≡ [] = ap (λ (d : ℕ). ordered_from near d k) z ∙ from-none near k in
-    sym (append-nil records) ∙ sym (ap (λ (l : List ℕ). records ++ l) f) ∙ w.rest
+    (sym (ap (sets records len) f) ∙ w.rest, omega (arith, w.count, ap length f))

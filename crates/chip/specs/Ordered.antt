@@ -1,9 +1,10 @@
 -- The couplers of a chip in order: "couplers lower end first, ascending, each once" (document 01, "The job text").
-use Rattle.std.specs.Prelude.{Bool, List, [], ◌∷◌, ◌++◌, ℕ, zero, suc, ◌+◌, ◌*◌, ◌/◌, ◌%◌, ltb, get_or}
+use Rattle.std.specs.Prelude.{Bool, List, [], ◌∷◌, ◌++◌, ℕ, zero, suc, ◌+◌, ◌-◌, ◌*◌, ◌/◌, ◌%◌, ltb, get_or, length, replicate}
 use Rattle.sets.specs.Pick.{pick, both}
 use Rattle.sets.specs.Bit.{has}
 use Rattle.gates.specs.Layout.{packed}
-use Rattle.gates.specs.Limits.{most_qubits}
+use Rattle.gates.specs.Limits.{most_qubits, most_couplers}
+use Rattle.chip.specs.declared.couplers.Ordered.{Ordered}
 
 -- "lower end first": a is the lower end, and b is among its neighbours
 unfoldable pub pair_of : ℕ → ℕ → ℕ → Bool
@@ -21,3 +22,7 @@ ordered_from near (suc d) k = pair_at near k ++ ordered_from near d (k + 1)
 -- the records of all 400 pairs
 unfoldable pub ordered_list : List ℕ → List ℕ
 ordered_list near = ordered_from near (most_qubits * most_qubits) 0
+
+-- the same in an array of 190, which is enough: the records behind them are 0
+unfoldable pub ordered_of : List ℕ → Ordered
+ordered_of near = record { records = ordered_list near ++ replicate (most_couplers - length (ordered_list near)) 0; len = length (ordered_list near) }

@@ -1,9 +1,8 @@
 // The neighbours that coupler records give to each qubit, and the couplers in order.
 ghost use Rattle.std.specs.Prelude.{◌≡◌};
 ghost use Rattle.chip.specs.Couplers.{link_of, near_of};
-ghost use Rattle.chip.specs.Ordered.{pair_of, ordered_list};
+ghost use Rattle.chip.specs.Ordered.{pair_of, ordered_of};
 
-use arrayvec::ArrayVec;
 use gates::coupler;
 use gates::coupler::Coupler;
 use gates::job::Job;
@@ -31,6 +30,13 @@ pub fn near(couplers: &[u32], n: usize) -> [u32; Job::QUBITS]
     all
 }
 
+// The first `len` records, the others are 0.
+#[derive(Clone, Copy)]
+pub struct Ordered {
+    pub records: [u32; Job::COUPLERS],
+    pub len: usize,
+}
+
 // The lower end is a, and b is a neighbour of it.
 #[tactic(auto, using(std::proofs::lemmas::Bool::Decides::nat_tests), unfolding(crate::specs::Ordered::pair_of))]
 fn is_pair(neighbours: u32, a: usize, b: usize) -> bool
@@ -40,16 +46,18 @@ fn is_pair(neighbours: u32, a: usize, b: usize) -> bool
 }
 
 // The couplers lower end first, ascending, each once. Pair number k is k / 20, k % 20.
-pub fn in_order(near: [u32; Job::QUBITS]) -> ArrayVec<u32, { Job::COUPLERS }>
-    ensures { result.items ≡ ordered_list near }
+pub fn in_order(near: [u32; Job::QUBITS]) -> Ordered
+    ensures { result ≡ ordered_of near }
 {
-    let mut records = ArrayVec::new();
+    let mut records = [0; Job::COUPLERS];
+    let mut len = 0;
     for k in 0..Job::QUBITS * Job::QUBITS {
         let a = k / Job::QUBITS;
         let b = k % Job::QUBITS;
         if is_pair(near[a], a, b) {
-            records.push((a * 65536 + b) as u32);
+            records[len] = (a * 65536 + b) as u32;
+            len += 1;
         }
     }
-    records
+    Ordered { records, len }
 }

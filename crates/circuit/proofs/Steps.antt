@@ -1,11 +1,11 @@
 -- One gate: what it does to the wires, to their number and to the angles. Assumes nothing.
-use mathlib.Core.Path.{◌≡◌, refl}
+use mathlib.Core.Path.{◌≡◌, refl, ap, ◌∙◌}
 use mathlib.Core.Logic.{◌≢◌}
 use mathlib.Core.List.{List}
 use Prim.Native.Nat.{ℕ, ◌≤◌, ◌<◌}
-use lib.ListN.{length, get_or, length-set}
-use lib.Seq.{set_out, get_or-set_same, get_or-set_other}
-use lib.Bits.{bit_xor}
+use lib.ListN.{length, get_or, set, length-set, get_or-eq_default}
+use lib.Seq.{set_out, set-get_or, get_or-set_same, get_or-set_other}
+use lib.Bits.{bit_xor, xor_zero_l}
 use borrow.Author.Tests.{eq-eqb, ne_eqb}
 use Rattle.sets.specs.Columns.{cnot}
 use Rattle.gates.specs.declared.gate.Gate.{Gate}
@@ -17,6 +17,11 @@ use Rattle.circuit.specs.Circuit.{step, gives}
 pub cnot-past-target : (c t : ℕ) (W : List ℕ) → length W ≤ t → cnot c t W ≡ W
 unfolding cnot
 cnot-past-target c t W h = set_out W t _ h
+
+pub cnot-past-control : (c t : ℕ) (W : List ℕ) → length W ≤ c → cnot c t W ≡ W
+unfolding cnot
+cnot-past-control c t W h =
+    ap (λ (v : ℕ). set W t (bit_xor v (get_or W t 0))) (get_or-eq_default W 0 h) ∙ ap (set W t) (xor_zero_l (get_or W t 0)) ∙ set-get_or W t 0
 
 -- "makes its target's parity the exclusive or of the two"
 pub cnot-target : (c t : ℕ) (W : List ℕ) → t < length W → get_or (cnot c t W) t 0 ≡ bit_xor (get_or W c 0) (get_or W t 0)

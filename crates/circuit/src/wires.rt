@@ -24,14 +24,31 @@ pub fn borne_on(parity: [u32; Job::QUBITS], q: usize) -> u32
     parity.get(q).copied().unwrap_or(0)
 }
 
-// The parities, or the flips, after a CNOT; nothing changes where a wire is past the end.
+// A CNOT changes the parities, or the flips, in place: to copy them for each gate would cost more
+// than all the rest. Nothing changes where a wire is past the end.
+fn join(next: &mut [u32; Job::QUBITS], control: usize, target: usize)
+    ensures { next.new ≡ cnot control target next.old }
+{
+    if target < Job::QUBITS {
+        next[target] = borne_on(*next, control) ^ next[target];
+    }
+}
+
+// An X changes the flips in place.
+fn turn_over(next: &mut [u32; Job::QUBITS], q: usize)
+    ensures { next.new ≡ flip_step (X q) next.old }
+{
+    if q < Job::QUBITS {
+        next[q] = 1 ^ next[q];
+    }
+}
+
+// The parities, or the flips, after a CNOT.
 pub fn joined(parity: [u32; Job::QUBITS], control: usize, target: usize) -> [u32; Job::QUBITS]
     ensures { result ≡ cnot control target parity }
 {
     let mut next = parity;
-    if target < Job::QUBITS {
-        next[target] = borne_on(parity, control) ^ parity[target];
-    }
+    join(&mut next, control, target);
     next
 }
 
@@ -40,9 +57,7 @@ pub fn turned_over(flip: [u32; Job::QUBITS], q: usize) -> [u32; Job::QUBITS]
     ensures { result ≡ flip_step (X q) flip }
 {
     let mut next = flip;
-    if q < Job::QUBITS {
-        next[q] = 1 ^ flip[q];
-    }
+    turn_over(&mut next, q);
     next
 }
 
@@ -88,20 +103,25 @@ impl Wires {
         }
     }
 
+    // One gate more, in place: it changes one wire at most.
+    fn step(&mut self, g: Gate)
+        ensures { self.new ≡ fed_wires self.old g }
+    {
+        match g {
+            Gate::Cnot { control, target } => {
+                join(&mut self.parity, control, target);
+                join(&mut self.flip, control, target);
+            }
+            Gate::X { qubit } => turn_over(&mut self.flip, qubit),
+            Gate::Rotation { .. } | Gate::Bad => {}
+        }
+    }
+
     pub fn feed(self, g: Gate) -> Self
         ensures { result ≡ fed_wires self g }
     {
-        let Wires { parity, flip } = self;
-        match g {
-            Gate::Cnot { control, target } => Wires {
-                parity: joined(parity, control, target),
-                flip: joined(flip, control, target),
-            },
-            Gate::X { qubit } => Wires {
-                parity,
-                flip: turned_over(flip, qubit),
-            },
-            Gate::Rotation { .. } | Gate::Bad => self,
-        }
+        let mut next = self;
+        next.step(g);
+        next
     }
 }

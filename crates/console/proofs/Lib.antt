@@ -4,7 +4,6 @@ pub mod Passing
 pub mod Whole
 pub mod Reading
 pub mod Writing
-pub mod Forms
 pub mod Partly
 pub mod Going
 pub mod Tallying

@@ -63,6 +63,11 @@ counts-fit c r d hc hr hd =
 pub phase-fits : (g : ℕ) → g < 2 ^ 64 → length (line_text 112 (g ∷ [])) ≤ 44
 phase-fits g h = omega (arith, line-one 112 g, width-most 19 g (word g h))
 
+-- a refusal is written where it fits
+pub refusal-fitted : (out out' : List ℕ) (n : ℕ) (v : Verdict) (k p : ℕ) → k ≡ number_of v → p ≡ place_of v → Fitted out 0 (refusal_text k p) out' n → Fitted out 0 (refusal_of v) out' n
+unfolding refusal_of
+refusal-fitted out out' n v k p e d = subst (λ (s : List ℕ). Fitted out 0 s out' n) (ap₂ refusal_text e d)
+
 -- a text for which there is room is printed whole
 module _ (room : ℕ) (out out' : List ℕ) (n : ℕ) (lent : length out ≡ room) where
   pub text-whole : (s : List ℕ) → length s ≤ room → Fitted out 0 s out' n → Prints room s out n out'
@@ -71,9 +76,7 @@ module _ (room : ℕ) (out out' : List ℕ) (n : ℕ) (lent : length out ≡ roo
       record { lent = lent; bytes = w.0; memory = w.1 }
 
   pub refusal-whole : (v : Verdict) (k p : ℕ) → most_refused ≤ room → k ≡ number_of v → p ≡ place_of v → p < 2 ^ 64 → Fitted out 0 (refusal_text k p) out' n → Prints room (refusal_of v) out n out'
-  unfolding refusal_of
-  refusal-whole v k p m e d h q =
-      text-whole (refusal_of v) (omega (arith, m, refusal-fits v (omega (arith, d, h)))) (subst (λ (s : List ℕ). Fitted out 0 s out' n) (ap₂ refusal_text e d) q)
+  refusal-whole v k p m e d h q = text-whole (refusal_of v) (omega (arith, m, refusal-fits v (omega (arith, d, h)))) (refusal-fitted out out' n v k p e d q)
 
 -- ---- a job that passed tests 1 to 7
 

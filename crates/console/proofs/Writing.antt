@@ -1,16 +1,35 @@
 -- What the laying program knows of a text that was written. Assumes nothing.
 use mathlib.Core.Path.{◌≡◌, sym, ap, ◌∙◌}
 use mathlib.Core.List.{List}
-use Prim.Native.Nat.{ℕ}
-use lib.ListN.{length}
+use Prim.Native.Nat.{ℕ, ◌≤◌}
+use native.Mathlib.Omega.{arith}
+use lib.ListN.{length, take}
 use Rattle.std.specs.Prelude.{Result, Ok, Err}
 use Rattle.verdicts.specs.declared.verdict.Refusal.{Refusal}
 use Rattle.verdicts.specs.Verdicts.{number_of}
+use Rattle.chip.specs.declared.couplers.Ordered.{Ordered}
+use Rattle.chip.specs.Ordered.{ordered_of, ordered_list}
+use Rattle.chip.proofs.Order.{ordered-take, ordered-len, ordered-few}
 use Rattle.lines.specs.Lines.{text_of}
 use Rattle.reading.specs.Readings.{lent_after}
 use Rattle.text.specs.Writings.{judged_text, writing_of}
 use Rattle.text.proofs.Judging.{writing-yes}
 use Rattle.console.specs.Printed.{most_printed, Prints}
+
+-- ---- the couplers in order
+
+module _ (near : List ℕ) (o : Ordered) (e : o ≡ ordered_of near) where
+  pub order_is : take o.len o.records ≡ ordered_list near
+  order_is = ap (λ (x : Ordered). take x.len x.records) e ∙ ordered-take near
+
+  order-count : o.len ≡ length (ordered_list near)
+  order-count = ap (λ (x : Ordered). x.len) e ∙ ordered-len near
+
+  pub order-long : o.len ≡ length (take o.len o.records)
+  order-long = order-count ∙ sym (ap length order_is)
+
+  pub order_fits : o.len ≤ 190
+  order_fits = omega (arith, order-count, ordered-few near)
 
 -- ---- the writer accepts the couplers es and the gates gs; as fs the couplers were handed to it
 

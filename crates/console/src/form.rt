@@ -1,11 +1,14 @@
-// How gates are printed. The lines of a job are one form of it; `qasm_console` has another, the statements of a circuit.
+// How gates are printed, into so many bytes of memory as are enough. The lines of a job are one form of it; `qasm_console` has another, the statements of a circuit.
 ghost use Rattle.std.specs.Prelude.{ℕ, List};
 ghost use Rattle.lines.specs.Lines.{record_text, records_text};
 ghost use Rattle.lines.specs.Lent.{FittedLines};
+ghost use Rattle.console.specs.Forms.{PartsFit};
+ghost use Rattle.console.specs.Fitting.{lines-form};
 
+use crate::OUTPUT;
 use lines::records;
 
-pub trait Form: Copy {
+pub trait Form<const ROOM: usize>: Copy {
     // What is printed for a gate.
     ghost line: { Self → ℕ → List ℕ };
 
@@ -15,12 +18,15 @@ pub trait Form: Copy {
     // The place behind the last gate that fits.
     fn put(self, out: &mut [u8], from: usize, gates: &[u32]) -> usize
         ensures { FittedLines (line self) out.old from gates.now out.new result };
+
+    // There is room for each part.
+    ghost fits: { (form : Self) → PartsFit (line form) (text form) ROOM };
 }
 
 #[derive(Clone, Copy)]
 pub struct Lines;
 
-impl Form for Lines {
+impl Form<{ OUTPUT }> for Lines {
     ghost line = { λ _. record_text };
 
     ghost text = { λ _. records_text };
@@ -28,4 +34,6 @@ impl Form for Lines {
     fn put(self, out: &mut [u8], from: usize, gates: &[u32]) -> usize {
         records::put_records(out, from, gates)
     }
+
+    ghost fits = { λ _. lines-form };
 }

@@ -6,7 +6,6 @@ ghost use Rattle.laying.specs.Answers.{answered, phase_in};
 ghost use Rattle.stretches.specs.Laid.{stretch_records};
 ghost use Rattle.stretches.specs.Parts.{hadamard_at};
 ghost use Rattle.console.specs.Printed.{Prints, unless};
-ghost use Rattle.console.specs.Forms.{PartsFit};
 ghost use Rattle.console.specs.Parts.{part_text, next_part, share_part};
 
 use crate::form::Form;
@@ -25,13 +24,13 @@ pub struct LaidPart {
 
 // What is printed for a stretch, and its common phase.
 #[derive(Clone, Copy)]
-struct Printed {
-    bytes: usize,
-    phase: u32,
+pub struct Printed {
+    pub bytes: usize,
+    pub phase: u32,
 }
 
 // A stretch laid, and the Hadamard behind it.
-fn print_stretch<F: Form, const ROOM: usize>(
+fn print_stretch<F: Form<ROOM>, const ROOM: usize>(
     form: F,
     n: usize,
     couplers: &[u32],
@@ -39,8 +38,7 @@ fn print_stretch<F: Form, const ROOM: usize>(
     hadamard: &[u32],
     out: &mut [u8; ROOM],
 ) -> Printed
-    requires form { PartsFit (F.line form) (F.text form) ROOM }
-    requires hadamard { (gates : List ℕ) × (k : ℕ) × (hadamard.now ≡ hadamard_at n gates k) }
+    requires { (gates : List ℕ) × (k : ℕ) × (hadamard.now ≡ hadamard_at n gates k) }
     ensures prints { Prints ROOM (unless (verdict_of n couplers.now stretch.now largest) (F.text form (stretch_records n couplers.now stretch.now ++ hadamard.now))) out.old result.bytes out.new }
     ensures phase { result.phase ≡ phase_in (answered n couplers.now stretch.now largest) }
 {
@@ -60,7 +58,7 @@ fn print_stretch<F: Form, const ROOM: usize>(
 }
 
 // Prints the part of the stretch that begins at `from`; nothing above the number of gates.
-pub fn print_part<F: Form, const ROOM: usize>(
+pub fn print_part<F: Form<ROOM>, const ROOM: usize>(
     form: F,
     n: usize,
     couplers: &[u32],
@@ -68,7 +66,6 @@ pub fn print_part<F: Form, const ROOM: usize>(
     from: usize,
     out: &mut [u8; ROOM],
 ) -> LaidPart
-    requires { PartsFit (F.line form) (F.text form) ROOM }
     ensures prints { Prints ROOM (part_text (F.text form) n couplers.now gates.now from) out.old result.bytes out.new }
     ensures next { result.next ≡ next_part n gates.now from }
     ensures share { result.phase ≡ share_part n couplers.now gates.now from }
@@ -88,4 +85,19 @@ pub fn print_part<F: Form, const ROOM: usize>(
         next: from + stretch.len() + 1,
         phase: printed.phase,
     }
+}
+
+// A form whose parts an entry point of its own prints.
+pub trait Parts<const ROOM: usize>: Form<ROOM> {
+    fn lay_part(
+        self,
+        n: usize,
+        couplers: &[u32],
+        gates: &[u32],
+        from: usize,
+        out: &mut [u8; ROOM],
+    ) -> LaidPart
+        ensures prints { Prints ROOM (part_text (Self.text self) n couplers.now gates.now from) out.old result.bytes out.new }
+        ensures next { result.next ≡ next_part n gates.now from }
+        ensures share { result.phase ≡ share_part n couplers.now gates.now from };
 }

@@ -10,7 +10,8 @@ ghost use Rattle.console.specs.Printed.{most_gate_lines, most_printed, Prints};
 ghost use Rattle.console.specs.Parts.{front_job, first_part, Begins, part_text, next_part, share_part};
 
 use crate::form::Lines;
-use crate::parts::LaidPart;
+use crate::parts::Parts;
+pub use crate::parts::{LaidPart, Printed};
 use crate::{COUPLER_LINES, GATE_LINES, INPUT, OUTPUT, front, parts, refusing};
 use chip::couplers;
 use gates::job::Job;
@@ -34,12 +35,13 @@ struct Front {
 }
 
 // The `q` line and the couplers in order. It asks that the writer accepts them, as it does those of every job that passes its tests.
+#[tactic(auto, using(crate::proofs::Writing::order_fits))]
 fn print_head(n: usize, couplers: &[u32], out: &mut [u8; OUTPUT]) -> usize
     requires { number_of (judged_text n (ordered_list (near_of n couplers.now)) [] most_printed) ≡ 0 }
     ensures { Prints most_printed (text_of n (ordered_list (near_of n couplers.now)) []) out.old result out.new }
 {
     let ordered = couplers::in_order(couplers::near(couplers, n));
-    match write::write(n, &ordered, &[], out) {
+    match write::write(n, &ordered.records[..ordered.len], &[], out) {
         Ok(bytes) => bytes,
         Err(refusal) => refusing::print_refusal(Err(refusal), out),
     }
@@ -121,4 +123,17 @@ pub fn lay_part(
     ensures { Prints most_printed (part_text records_text n couplers.now gates.now from) out.old result.bytes out.new × (result.next ≡ next_part n gates.now from) × (result.phase ≡ share_part n couplers.now gates.now from) }
 {
     parts::print_part(Lines, n, couplers, gates, from, out)
+}
+
+impl Parts<{ OUTPUT }> for Lines {
+    fn lay_part(
+        self,
+        n: usize,
+        couplers: &[u32],
+        gates: &[u32],
+        from: usize,
+        out: &mut [u8; OUTPUT],
+    ) -> LaidPart {
+        lay_part(n, couplers, gates, from, out)
+    }
 }

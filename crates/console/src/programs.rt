@@ -1,13 +1,13 @@
 // The texts that the programs write, each piece as soon as it is printed.
-ghost use Rattle.std.specs.Prelude.{◌≡◌, ◌+◌, length, OnOk, IfOk};
+ghost use Rattle.std.specs.Prelude.{◌≡◌, ◌+◌, length, take, OnOk, IfOk};
 ghost use Rattle.std.specs.Io.KnownBytes.{Appends};
 ghost use Rattle.circuit.specs.Phase.{phases};
-ghost use Rattle.console.specs.Forms.{PartsFit};
 ghost use Rattle.console.specs.Parts.{parts_from, phase_from, phase_of_text};
 ghost use Rattle.console.specs.Printed.{refusal_of, phase_line, laid_text, counted_text};
 
-use crate::form::{Form, Lines};
-use crate::{COUPLER_LINES, GATE_LINES, OUTPUT, counting, front, parts, printing, refusing};
+use crate::form::Lines;
+use crate::parts::Parts;
+use crate::{COUPLER_LINES, GATE_LINES, INPUT, OUTPUT, counting, front, printing, refusing};
 use circuit::wires;
 use lines::put;
 use std::io;
@@ -15,7 +15,7 @@ use std::io::Write;
 use verdicts::verdict::Verdict;
 
 // The parts from the one that begins at `from`, each printed into `out` where the one before was: the common phase, which was `phase`, with their shares.
-pub fn write_parts<W: Write, F: Form, const ROOM: usize>(
+pub fn write_parts<W: Write, F: Parts<ROOM>, const ROOM: usize>(
     writer: &mut W,
     form: F,
     n: usize,
@@ -25,14 +25,13 @@ pub fn write_parts<W: Write, F: Form, const ROOM: usize>(
     phase: u32,
     out: &mut [u8; ROOM],
 ) -> io::Result<u32>
-    requires { PartsFit (F.line form) (F.text form) ROOM }
     ensures bytes { OnOk result (Appends (W.contents writer.old) (W.contents writer.new) (parts_from (F.text form) n couplers.now gates.now (length gates.now + 1) from)) }
     ensures phase { IfOk result (λ g. phases g 0 ≡ phases (phase_from n couplers.now gates.now (length gates.now + 1) from phase) 0) }
 {
     let mut from = from;
     let mut phase = phase;
     while from <= gates.len() {
-        let part = parts::print_part(form, n, couplers, gates, from, &mut *out);
+        let part = form.lay_part(n, couplers, gates, from, &mut *out);
         writer.write_all(front::first(out, part.bytes))?;
         phase = wires::together(phase, part.phase);
         from = part.next;
@@ -40,15 +39,15 @@ pub fn write_parts<W: Write, F: Form, const ROOM: usize>(
     Ok(phase)
 }
 
-// What the laying program writes for a text. No text has a line for the common phase, which is returned.
-pub fn write_laid<W: Write>(writer: &mut W, text: &[u8]) -> io::Result<u32>
-    ensures bytes { OnOk result (Appends (W.contents writer.old) (W.contents writer.new) (laid_text text.now)) }
-    ensures phase { IfOk result (λ g. phases g 0 ≡ phases (phase_of_text text.now) 0) }
+// What the laying program writes for `len` bytes of `input`. No text has a line for the common phase, which is returned.
+pub fn write_laid<W: Write>(writer: &mut W, input: &[u8; INPUT], len: usize) -> io::Result<u32>
+    ensures bytes { OnOk result (Appends (W.contents writer.old) (W.contents writer.new) (laid_text (take len input.now))) }
+    ensures phase { IfOk result (λ g. phases g 0 ≡ phases (phase_of_text (take len input.now)) 0) }
 {
     let mut couplers = [0u32; COUPLER_LINES];
     let mut gates = [0u32; GATE_LINES];
     let mut out = [0u8; OUTPUT];
-    let begun = printing::begin_text(text, &mut couplers, &mut gates, &mut out);
+    let begun = printing::begin(input, len, &mut couplers, &mut gates, &mut out);
     writer.write_all(front::first(&out, begun.bytes))?;
     let job = begun.job;
     write_parts(
@@ -63,12 +62,12 @@ pub fn write_laid<W: Write>(writer: &mut W, text: &[u8]) -> io::Result<u32>
     )
 }
 
-// What the counting program writes for it.
-pub fn write_counts<W: Write>(writer: &mut W, text: &[u8]) -> io::Result<()>
-    ensures { OnOk result (Appends (W.contents writer.old) (W.contents writer.new) (counted_text text.now)) }
+// What the counting program writes for them.
+pub fn write_counts<W: Write>(writer: &mut W, input: &[u8; INPUT], len: usize) -> io::Result<()>
+    ensures { OnOk result (Appends (W.contents writer.old) (W.contents writer.new) (counted_text (take len input.now))) }
 {
     let mut out = [0u8; OUTPUT];
-    let k = counting::count(text, &mut out);
+    let k = counting::count_text(input, len, &mut out);
     writer.write_all(front::first(&out, k))
 }
 

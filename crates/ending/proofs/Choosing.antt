@@ -10,9 +10,11 @@ use Rattle.std.specs.Prelude.{Option, None}
 use Rattle.sets.specs.Size.{only_of}
 use Rattle.spares.specs.Spare.{spare_of}
 use Rattle.gates.specs.declared.gate.Gate.{Gate}
-use Rattle.gathering.specs.Order.{order_of}
-use Rattle.gathering.specs.Gather.{exchanged, gather_of, along_of, cnot_of, cnots_of, turns}
-use Rattle.gathering.proofs.GatherCode.{along-order}
+use Rattle.gathering.specs.declared.gather.Order.{Order}
+use Rattle.gathering.specs.declared.gather.Moves.{Moves}
+use Rattle.gathering.specs.Order.{order_of, order_in}
+use Rattle.gathering.specs.Gather.{exchanged, gather_of, along_of, cnot_of, cnots_of, moves_of, moves_in, turns}
+use Rattle.gathering.proofs.GatherCode.{along-order, along-back}
 use Rattle.ending.specs.declared.clearing.Clearing.{Clearing}
 use Rattle.ending.specs.declared.clearing.Best.{Best}
 use Rattle.ending.specs.declared.clearing.Taking.{Taking}
@@ -26,28 +28,31 @@ use Rattle.ending.proofs.Choice.{from_step, seen-length}
 
 -- ---- both gatherings of a choice
 
--- F and S are gathered along the order from its qubit
-pub out-is : (near : List ℕ) (Q : ℕ) (N C : List ℕ) (ch : Clearing) (os : List ℕ) → os ≡ order_of near Q ch.qubit → (F S : List Gate) (x y z : ℕ) → x ≡ row_at N C ch.qubit ch.mirrored
-    → F ≡ along_of near Q os x → y ≡ row_at N C ch.qubit (not ch.mirrored) → z ≡ turns (exchanged F) y → S ≡ along_of near Q os z
-    → seen ch.mirrored (F ++ exchanged S) ≡ out_of near Q N C ch
-unfolding out_of second_moves first_moves
-out-is near Q N C ch os eo F S x y z ex ef ey ez es = ap₂ (λ (F S : List Gate). seen ch.mirrored (F ++ exchanged S)) first second
-  where
-    first : F ≡ gather_of near Q ch.qubit (row_at N C ch.qubit ch.mirrored)
-    first = ef ∙ along-order near os Q x ch.qubit eo ∙ ap (gather_of near Q ch.qubit) ex
+-- m and r are gathered along the order from its qubit
+module _ (near : List ℕ) (Q : ℕ) (N C : List ℕ) (ch : Clearing) (o : Order) (eo : o ≡ order_in (order_of near Q ch.qubit)) where
+  along-held : (x : ℕ) (m : Moves) → m ≡ moves_in (along_of near Q o x) → cnots_of (moves_of m) ≡ gather_of near Q ch.qubit x
+  along-held x m e = ap (λ (m : Moves). cnots_of (moves_of m)) e ∙ along-back near Q o x ∙ along-order near Q ch.qubit x o eo
 
-    second : S ≡ gather_of near Q ch.qubit (turns (exchanged (gather_of near Q ch.qubit (row_at N C ch.qubit ch.mirrored))) (row_at N C ch.qubit (not ch.mirrored)))
-    second = es ∙ along-order near os Q z ch.qubit eo ∙ ap (gather_of near Q ch.qubit) (ez ∙ ap₂ (λ (g : List Gate) (w : ℕ). turns (exchanged g) w) first ey)
+  pub out-is : (m r : Moves) (x y z : ℕ) → x ≡ row_at N C ch.qubit ch.mirrored → m ≡ moves_in (along_of near Q o x) → y ≡ row_at N C ch.qubit (not ch.mirrored)
+      → z ≡ turns (exchanged (cnots_of (moves_of m))) y → r ≡ moves_in (along_of near Q o z) → seen ch.mirrored (cnots_of (moves_of m) ++ exchanged (cnots_of (moves_of r))) ≡ out_of near Q N C ch
+  unfolding out_of second_moves first_moves
+  out-is m r x y z ex em ey ez er = ap₂ (λ (F S : List Gate). seen ch.mirrored (F ++ exchanged S)) first second
+    where
+      first : cnots_of (moves_of m) ≡ gather_of near Q ch.qubit (row_at N C ch.qubit ch.mirrored)
+      first = along-held x m em ∙ ap (gather_of near Q ch.qubit) ex
+
+      second : cnots_of (moves_of r) ≡ gather_of near Q ch.qubit (turns (exchanged (gather_of near Q ch.qubit (row_at N C ch.qubit ch.mirrored))) (row_at N C ch.qubit (not ch.mirrored)))
+      second = along-held z r er ∙ ap (gather_of near Q ch.qubit) (ez ∙ ap₂ (λ (g : List Gate) (w : ℕ). turns (exchanged g) w) first ey)
 
 module _ (t : Taking) where
   abbrev b : Bool
   b = t.mirrored
 
   abbrev F : List Gate
-  F = cnots_of t.first.items
+  F = cnots_of (moves_of t.first)
 
   abbrev S : List Gate
-  S = cnots_of t.second.items
+  S = cnots_of (moves_of t.second)
 
   pub gates-both : gates_in t ≡ seen b F ++ seen (not b) S
   unfolding gates_in
@@ -65,11 +70,11 @@ module _ (t : Taking) where
       go true = exchanged-twice (F ++ exchanged S)
       go false = exchanged-append F (exchanged S) ∙ ap (λ (l : List Gate). exchanged F ++ l) (exchanged-twice S)
 
-  pub gates-length : length (gates_in t) ≡ length t.first.items + length t.second.items
+  pub gates-length : length (gates_in t) ≡ length (moves_of t.first) + length (moves_of t.second)
   unfolding gates_in
   gates-length =
       seen-length b (F ++ exchanged S) ∙ length-append F (exchanged S)
-      ∙ ap₂ ◌+◌ (length-map t.first.items cnot_of) (exchanged-length S ∙ length-map t.second.items cnot_of)
+      ∙ ap₂ ◌+◌ (length-map (moves_of t.first) cnot_of) (exchanged-length S ∙ length-map (moves_of t.second) cnot_of)
 
   -- both kinds of rows after one gathering and then the other
   pub without-is : (i : Island) (q d : ℕ) (n1 n2 c1 c2 : List ℕ) → d ≡ only_of q → n1 ≡ map (turns (seen b F)) i.asked → n2 ≡ map (turns (seen (not b) S)) n1

@@ -1,7 +1,7 @@
 // The ways to take one qubit out of an island, and the cheapest of them.
 ghost use Rattle.std.specs.Prelude.{◌≡◌, ◌<◌, map, length};
 ghost use Rattle.gates.specs.Limits.{most_qubits};
-ghost use Rattle.gathering.specs.Order.{order_of};
+ghost use Rattle.gathering.specs.Order.{order_of, order_in};
 ghost use Rattle.ending.specs.Clear.{row_at, out_of, cost_of, cheaper_of, choices_at, cheapest_in, cheapest_of};
 ghost use Rattle.ending.specs.Held.{gates_in, without_of};
 
@@ -38,7 +38,7 @@ impl Taking {
     fn len(&self) -> usize
         ensures { result ≡ length (gates_in self.now) }
     {
-        self.first.len() + self.second.len()
+        self.first.as_slice().len() + self.second.as_slice().len()
     }
 }
 
@@ -67,7 +67,7 @@ impl Island {
 
     // A choice. Both gatherings go along the order from its qubit.
     fn along(&self, order: &Order, choice: Clearing) -> Taking
-        requires { (choice.qubit < most_qubits) × (order.now.items ≡ order_of self.now.near self.now.set choice.qubit) }
+        requires { (choice.qubit < most_qubits) × (order.now ≡ order_in (order_of self.now.near self.now.set choice.qubit)) }
         ensures { let i = self.now in gates_in result ≡ out_of i.near i.set i.asked i.mirror choice }
     {
         let Clearing { qubit, mirrored } = choice;

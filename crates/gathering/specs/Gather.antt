@@ -1,7 +1,8 @@
 -- Gathering a set at one of its qubits by moves along couplers (our own way; docs/LAYING.md). A move "u by p" is CNOT u,p.
-use Rattle.std.specs.Prelude.{◌≡◌, ◌≢◌, List, [], ◌∷◌, ◌++◌, map, ℕ, zero, suc, ◌+◌, ◌-◌, ◌*◌, ◌^◌, ◌≤◌, eqb, get_or, length}
+use Rattle.std.specs.Prelude.{◌≡◌, ◌≢◌, List, [], ◌∷◌, ◌++◌, map, ℕ, zero, suc, ◌+◌, ◌-◌, ◌*◌, ◌^◌, ◌≤◌, min, eqb, get_or, length, replicate, take}
 use Rattle.std.specs.Int.Bits.{bit_and, bit_xor}
 use Rattle.std.specs.Int.Count.{ones}
+use Rattle.std.proofs.lemmas.List.Edits.{sets}
 use Rattle.sets.specs.Pick.{pick}
 use Rattle.sets.specs.Bit.{has, In}
 use Rattle.sets.specs.Size.{lowest_of, only_of}
@@ -11,7 +12,9 @@ use Rattle.gates.specs.Limits.{most_qubits}
 use Rattle.gates.specs.declared.gate.Gate.{Gate}
 use Rattle.gates.specs.declared.gate.Gate.TheVariants.{Cnot, Rotation, X, Bad}
 use Rattle.sets.specs.Lists.{All}
+use Rattle.gathering.specs.declared.gather.Order.{Order}
 use Rattle.gathering.specs.declared.gather.Move.{Move}
+use Rattle.gathering.specs.declared.gather.Moves.{Moves}
 use Rattle.gathering.specs.Order.{order_of}
 
 -- ---- what gates do to sets of wires, and which gates they are
@@ -68,9 +71,9 @@ gather_from near os (suc k) S x =
 unfoldable pub gather_of : List ℕ → ℕ → ℕ → ℕ → List Gate
 gather_of near Q v x = gather_from near (order_of near Q v) (length (order_of near Q v) - 1) Q x
 
--- the same along any list of qubits, from its last one to its second
-unfoldable pub along_of : List ℕ → ℕ → List ℕ → ℕ → List Gate
-along_of near Q os x = gather_from near os (length os - 1) Q x
+-- the same along an order as the code holds it
+unfoldable pub along_of : List ℕ → ℕ → Order → ℕ → List Gate
+along_of near Q o x = gather_from near o.qubit (min o.len most_qubits - 1) Q x
 
 -- the moves L bring x to v alone, by two for each other member of S at most; v itself stays if it is in x
 pub record Gathers (near : List ℕ) (v S x : ℕ) (L : List Gate) : Type 0 where
@@ -91,3 +94,22 @@ cnot_of m = Cnot m.to m.by
 
 abbrev pub cnots_of : List Move → List Gate
 cnots_of ms = map cnot_of ms
+
+-- a CNOT as a move; no other gate is one
+abbrev pub move_of : Gate → Move
+move_of (Cnot c t) = record { to = c; by = t }
+move_of (Rotation q a) = record { to = 0; by = 0 }
+move_of (X q) = record { to = 0; by = 0 }
+move_of Bad = record { to = 0; by = 0 }
+
+-- the moves that are held
+abbrev pub moves_of : Moves → List Move
+moves_of m = take m.len m.moves
+
+-- CNOTs held as moves: those in front, "0 by 0" behind them
+unfoldable pub moves_in : List Gate → Moves
+moves_in gs = record { moves = sets (replicate most_moves (record { to = 0; by = 0 })) 0 (map move_of gs); len = length gs }
+
+-- CNOTs put behind the moves that are held
+unfoldable pub stored : Moves → List Gate → Moves
+stored m gs = record { moves = sets m.moves m.len (map move_of gs); len = m.len + length gs }

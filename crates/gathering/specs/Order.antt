@@ -1,11 +1,13 @@
 -- The members of a connected set by distance inside it from one of them, then by number (our own order for gathering; docs/LAYING.md).
-use Rattle.std.specs.Prelude.{◌≡◌, List, [], ◌∷◌, ℕ, zero, suc, ◌^◌, ◌-◌, eqb, get_or}
+use Rattle.std.specs.Prelude.{◌≡◌, List, [], ◌∷◌, ℕ, zero, suc, ◌^◌, ◌-◌, eqb, get_or, length, replicate, take}
 use Rattle.std.specs.Int.Bits.{bit_xor}
+use Rattle.std.proofs.lemmas.List.Edits.{sets}
 use Rattle.sets.specs.Pick.{pick}
 use Rattle.sets.specs.Bit.{bit, In}
 use Rattle.sets.specs.Size.{lowest_of, only_of}
 use Rattle.gates.specs.Limits.{most_qubits}
 use Rattle.chip.specs.Graph.{Near, grow}
+use Rattle.gathering.specs.declared.gather.Order.{Order}
 
 -- the neighbours of S inside Q that are not in S: one step further away
 unfoldable pub beyond_of : List ℕ → ℕ → ℕ → ℕ
@@ -33,3 +35,11 @@ pub data Along (near os : List ℕ) : ℕ → ℕ → Type 0 where
   root : {S : ℕ} → S ≡ 2 ^ get_or os 0 0 → Along near os 0 S
   then : {k E S : ℕ} (w : ℕ) → Along near os k E → bit E (get_or os (suc k) 0) ≡ 0 → In w E → Near near w (get_or os (suc k) 0)
       → S ≡ bit_xor E (2 ^ get_or os (suc k) 0) → Along near os (suc k) S
+
+-- as the code holds it: the numbers in front, 0 behind them
+unfoldable pub order_in : List ℕ → Order
+order_in os = record { qubit = sets (replicate most_qubits 0) 0 os; len = length os }
+
+-- and the numbers that it holds
+abbrev pub members_of : Order → List ℕ
+members_of o = take o.len o.qubit

@@ -5,9 +5,9 @@ use mathlib.Core.List.{List, [], ◌∷◌, ◌++◌}
 use Prim.Native.Nat.{ℕ, zero, suc, ◌+◌, ◌^◌, ◌/◌, ◌%◌, ◌≤◌, ◌<◌}
 use native.Mathlib.Omega.{arith}
 use lib.ListN.{length, get_or, take, drop, length-append, take-append-drop}
-use lib.Seq.{sets, sets-eq, take_all}
-use lib.Dec.{ltb}
-use borrow.Author.Tests.{ltb-true, ltb-false, lt-ltb, le-ltb, le-leb}
+use lib.Seq.{sets, sets-eq, length-sets, take_all}
+use lib.Dec.{leb, ltb}
+use borrow.Author.Tests.{ltb-true, ltb-false, lt-ltb, le-ltb, leb-true, le-leb}
 use Rattle.std.proofs.lemmas.List.{length-take-le}
 use Rattle.sets.specs.Pick.{pick}
 use Rattle.gates.specs.Layout.{kind_in, a_in, b_in}
@@ -41,6 +41,18 @@ pub fitted-front : (l text : List ℕ) {m : List ℕ} {e : ℕ} → length text 
 fitted-front l text h p =
     let w = fitted-wrote l 0 text (omega (arith, h)) p in
     (omega (arith, w.0), w.1 ∙ sets-onto text l h)
+
+-- the bytes of a text that was put to the front are there
+module _ (text l m : List ℕ) (r : ℕ) (p : Fitted l 0 text m r) where
+  pub fitted-within : r ≤ length m
+  fitted-within = go (leb (0 + length text) (length l)) refl p.0 p.1
+    where
+      go : (t : Bool) → leb (0 + length text) (length l) ≡ t → r ≡ pick t (0 + length text) 0 → m ≡ pick t (sets l 0 text) l → r ≤ length m
+      go true b e d = omega (arith, e, leb-true (0 + length text) (length l) b, ap length d, length-sets l 0 text)
+      go false b e d = omega (arith, e)
+
+  pub fitted-long : r ≡ length (take r m)
+  fitted-long = sym (length-take-le r m fitted-within)
 
 -- ---- numbers
 

@@ -14,12 +14,20 @@ pub enum Kind {
 }
 
 impl Kind {
-    // A record whose number no kind has is written as a Hadamard.
-    #[tactic(auto, using(crate::proofs::Shown::kind_from), unfolding(gates::specs::Layout::kind_in))]
+    // The kind of a record.
+    #[tactic(auto, unfolding(gates::specs::Layout::kind_in))]
     pub fn of(x: u32) -> Kind
         ensures { result ≡ kind_of (kind_in x) }
     {
-        match x / 16777216 {
+        Kind::numbered(x / 16777216)
+    }
+
+    // The kind that has the number; what no kind has is written as a Hadamard.
+    #[tactic(auto, using(crate::proofs::Shown::kind_from))]
+    pub fn numbered(kind: u32) -> Kind
+        ensures { result ≡ kind_of kind }
+    {
+        match kind {
             0 => Kind::Coupler,
             1 => Kind::Cnot,
             2 => Kind::Rotation,

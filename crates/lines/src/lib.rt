@@ -3,6 +3,7 @@
 #![tactic(auto)]
 
 pub mod kind;
+pub mod letter;
 mod page;
 pub mod pattern;
 pub mod print;

@@ -1,12 +1,11 @@
 // The meaning of a list of gates, told by feeding them one by one.
-ghost use Rattle.std.specs.Prelude.{◌≡◌, []};
-ghost use Rattle.std.specs.Result.{is_err};
-ghost use Rattle.meaning.specs.Told.{meaning_of, fed_to, fed_meaning, told_of};
+ghost use Rattle.std.specs.Prelude.{◌≡◌};
+ghost use Rattle.meaning.specs.Told.{told_of};
 
 use circuit::wires::{Wires, borne_on, shift, taken, together};
 use gates::gate;
 use gates::gate::Gate;
-use table::sums::{Full, Sums};
+use table::sums::Sums;
 
 #[derive(Clone, Copy)]
 pub struct Meaning {
@@ -23,48 +22,33 @@ pub struct Told {
     pub fed: usize,
 }
 
-impl Meaning {
-    // Before the first gate.
-    fn none() -> Meaning
-        ensures { result ≡ meaning_of [] }
-    {
-        let wires = Wires::new();
-        let sums = Sums::none();
-        Meaning {
-            wires,
-            sums,
-            phase: 0,
-        }
-    }
-
-    // One gate more. One that would bring the 257th parity changes nothing.
-    fn feed(&mut self, g: Gate) -> Result<(), Full>
-        ensures { fed_to self.new (is_err result) ≡ fed_meaning self.old g }
-    {
-        match g {
-            Gate::Rotation { qubit, angle } => {
-                let Wires { parity, flip } = self.wires;
-                let f = borne_on(flip, qubit);
-                self.sums.add(borne_on(parity, qubit), taken(f, angle))?;
-                self.phase = together(self.phase, shift(f, angle));
-            }
-            _ => {
-                self.wires = self.wires.feed(g);
-            }
-        }
-        Ok(())
-    }
-}
-
+// The wires, the table and the phase are locals of their own: the wires come back changed for each gate, and would be
+// copied out of a meaning and into it each time.
 pub fn tell(records: &[u32], n: usize) -> Told
     ensures { result ≡ told_of n records.now }
 {
-    let mut meaning = Meaning::none();
+    let mut wires = Wires::new();
+    let mut sums = Sums::none();
+    let mut phase: u32 = 0;
     for (fed, &x) in records.iter().enumerate() {
-        if meaning.feed(gate::decode(x, n)).is_err() {
-            return Told { meaning, fed };
+        let g = gate::decode(x, n);
+        match g {
+            Gate::Rotation { qubit, angle } => {
+                let Wires { parity, flip } = wires;
+                let f = borne_on(flip, qubit);
+                let added = sums.add(borne_on(parity, qubit), taken(f, angle));
+                if added.is_err() {
+                    let meaning = Meaning { wires, sums, phase };
+                    return Told { meaning, fed };
+                }
+                phase = together(phase, shift(f, angle));
+            }
+            _ => {
+                wires = wires.feed(g);
+            }
         }
     }
+    let meaning = Meaning { wires, sums, phase };
     Told {
         meaning,
         fed: records.len(),

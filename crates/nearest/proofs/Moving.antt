@@ -10,8 +10,10 @@ use Rattle.gates.specs.declared.gate.Gate.TheVariants.{Cnot}
 use Rattle.columns.specs.Pieces.{idle, followed_by, Memory, held, wrote}
 use Rattle.columns.specs.Turning.{lay_cnot}
 use Rattle.columns.specs.Striking.{strike_off}
-use Rattle.gathering.specs.Gather.{gather_of, cnots_of}
+use Rattle.gathering.specs.Gather.{gather_of, cnots_of, moves_of, moves_in}
 use Rattle.gathering.specs.declared.gather.Move.{Move}
+use Rattle.gathering.specs.declared.gather.Moves.{Moves}
+use Rattle.gathering.proofs.GatherCode.{gather-back}
 use Rattle.columns.proofs.Piecing.{wrote_none, wrote_on}
 use Rattle.nearest.specs.Moves.{lay_move, lay_moves}
 use Rattle.nearest.specs.Nearest.{gather_next}
@@ -47,8 +49,8 @@ module _ (angles : List ℕ) (ms : List Move) where
 
 -- ---- a gathering is laid
 
-pub next-wrote : (near angles : List ℕ) (Q k v : ℕ) (xs out : List ℕ) (at x : ℕ) (ms ns : List Move) {w : Memory} → x ≡ get_or xs k 0 → cnots_of ms ≡ gather_of near Q v x → ns ≡ ms
-    → w ≡ wrote out at (lay_moves angles (cnots_of ns) xs) → w ≡ wrote out at (gather_next near angles Q k v xs)
+pub next-wrote : (near angles : List ℕ) (Q k v : ℕ) (xs out : List ℕ) (at x : ℕ) (m : Moves) (ms : List Move) {w : Memory} → x ≡ get_or xs k 0 → m ≡ moves_in (gather_of near Q v x) → ms ≡ moves_of m
+    → w ≡ wrote out at (lay_moves angles (cnots_of ms) xs) → w ≡ wrote out at (gather_next near angles Q k v xs)
 unfolding gather_next
-next-wrote near angles Q k v xs out at x ms ns ex em en h =
-    h ∙ ap (λ (g : List Gate). wrote out at (lay_moves angles g xs)) (ap cnots_of en ∙ em ∙ ap (gather_of near Q v) ex)
+next-wrote near angles Q k v xs out at x m ms ex em es h =
+    h ∙ ap (λ (g : List Gate). wrote out at (lay_moves angles g xs)) (ap cnots_of es ∙ ap (λ (m : Moves). cnots_of (moves_of m)) em ∙ gather-back near Q v x ∙ ap (gather_of near Q v) ex)

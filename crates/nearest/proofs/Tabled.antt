@@ -1,28 +1,16 @@
--- The orders from all qubits, one after another. Assumes nothing.
-use mathlib.Core.Path.{◌≡◌, sym, ap, ap₂, ◌∙◌}
-use mathlib.Core.List.{List, [], ◌∷◌, ◌++◌, map, map-append}
-use Prim.Native.Nat.{ℕ, ◌+◌, ◌<◌}
-use native.Mathlib.Omega.{arith}
-use lib.ListN.{length, get_or, length-map}
-use Rattle.std.specs.List.{range_with_len}
-use Rattle.std.proofs.lemmas.List.{get_or-map}
-use Rattle.std.proofs.lemmas.List.FromFn.{length-map-range_with_len, get_or-map-range_with_len, map-range_with_len_more}
-use Rattle.arrayvec.specs.ArrayVec.{ArrayVec}
-use Rattle.gathering.specs.Order.{order_of}
-use Rattle.nearest.specs.Orders.{lists}
+-- The orders from all qubits. Assumes nothing.
+use mathlib.Core.Path.{◌≡◌, ap, ◌∙◌}
+use mathlib.Core.List.{List}
+use Prim.Native.Nat.{ℕ, ◌<◌}
+use lib.ListN.{get_or}
+use Rattle.sets.proofs.Tabling.{tab-at}
+use Rattle.gathering.specs.declared.gather.Order.{Order}
+use Rattle.gathering.specs.Order.{order_of, order_in, members_of}
+use Rattle.gathering.proofs.OrderCode.{members-are}
+use Rattle.nearest.specs.Orders.{orders_of}
 
-module _ (near : List ℕ) (Q n : ℕ) (from : ArrayVec (ArrayVec ℕ)) (e : lists from ≡ map (order_of near Q) (range_with_len 0 n)) where
-  pub rows-count : length from.items ≡ n
-  rows-count = sym (length-map from.items (λ (o : ArrayVec ℕ). o.items)) ∙ ap length e ∙ length-map-range_with_len (order_of near Q) 0 n
-
-  pub rows-next : (o : ArrayVec ℕ) (next : ArrayVec (ArrayVec ℕ)) → o.items ≡ order_of near Q n → next.items ≡ from.items ++ o ∷ [] → lists next ≡ map (order_of near Q) (range_with_len 0 (n + 1))
-  rows-next o next eo en =
-      ap (map (λ (o : ArrayVec ℕ). o.items)) en ∙ map-append (λ (o : ArrayVec ℕ). o.items) from.items (o ∷ [])
-      ∙ ap₂ (λ (a : List (List ℕ)) (b : List ℕ). a ++ b ∷ []) e eo ∙ sym (map-range_with_len_more (order_of near Q) 0 n n (omega arith))
-
-  -- the order d from v, as the code finds it
-  pub row-is : (v : ℕ) (xs : List (ArrayVec ℕ)) (d : ArrayVec ℕ) (os : List ℕ) → v < n → xs ≡ from.items → d ≡ get_or xs v d → os ≡ d.items → os ≡ order_of near Q v
-  row-is v xs d os l ex ed eo =
-      eo ∙ ap (λ (o : ArrayVec ℕ). o.items) (ed ∙ ap (λ (xs : List (ArrayVec ℕ)). get_or xs v d) ex)
-      ∙ sym (get_or-map (λ (o : ArrayVec ℕ). o.items) from.items v d d.items (omega (arith, rows-count))) ∙ ap (λ (os : List (List ℕ)). get_or os v d.items) e
-      ∙ get_or-map-range_with_len (order_of near Q) 0 n v v d.items l (omega arith)
+-- the order from v, as the code finds it
+pub row-is : (near : List ℕ) (Q : ℕ) (from : List Order) → from ≡ orders_of near Q → (v : ℕ) (d : Order) (os : List ℕ) → v < 20 → os ≡ members_of (get_or from v d) → os ≡ order_of near Q v
+unfolding orders_of
+row-is near Q from e v d os l eo =
+    eo ∙ members-are near Q v (get_or from v d) (ap (λ (from : List Order). get_or from v d) e ∙ tab-at 20 (λ (v : ℕ). order_in (order_of near Q v)) v d l)

@@ -82,7 +82,7 @@ impl Orders {
         requires { (v < most_qubits) × (has x v ≡ true) }
         ensures { result ≡ min most (length (gather_of self.now.near self.now.set v x)) }
     {
-        let [_, others @ ..] = self.from.as_slice()[v].as_slice() else {
+        let [_, others @ ..] = self.from[v].as_slice() else {
             return 0;
         };
         let mut earlier = self.set;

@@ -1,24 +1,21 @@
 // The orders from all qubits of a set, worked out once, and whether its gatherings are sure to work.
-ghost use Rattle.std.specs.Prelude.{◌≡◌, map};
-ghost use Rattle.std.specs.List.{range_with_len};
-ghost use Rattle.gates.specs.Limits.{most_qubits};
-ghost use Rattle.gathering.specs.Order.{order_of};
-ghost use Rattle.nearest.specs.Orders.{lists};
+ghost use Rattle.std.specs.Prelude.{◌≡◌};
+ghost use Rattle.nearest.specs.Orders.{orders_of};
 ghost use Rattle.nearest.specs.Sure.{Tested, Whenever};
 
 use crate::sure;
-use arrayvec::ArrayVec;
 use gates::job::Job;
 use gathering::gather;
 use gathering::gather::Order;
+use std::array;
 
 #[derive(Drop)]
 pub struct Orders {
     pub near: [u32; Job::QUBITS],
     pub set: u32,
     pub sure: bool,
-    pub from: ArrayVec<Order, { Job::QUBITS }>,
-    ghost orderly: { lists from ≡ map (order_of near set) (range_with_len 0 most_qubits) },
+    pub from: [Order; Job::QUBITS],
+    ghost orderly: { from ≡ orders_of near set },
     ghost certain: { Whenever sure (Tested near set) },
 }
 
@@ -26,15 +23,11 @@ impl Orders {
     pub(crate) fn new(near: [u32; Job::QUBITS], set: u32) -> Self
         ensures { (result.near ≡ near) × (result.set ≡ set) }
     {
-        let mut from = ArrayVec::new();
-        for v in 0..Job::QUBITS {
-            from.push(gather::by_distance(near, set, v));
-        }
         Orders {
             near,
             set,
             sure: sure::sure(near, set),
-            from,
+            from: array::from_fn(|v| gather::by_distance(near, set, v)),
         }
     }
 }

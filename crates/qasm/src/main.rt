@@ -2,7 +2,7 @@
 // couplers' file. It knows `qasm_console`, and alone with the other programs the operating system.
 #![tactic(auto)]
 
-ghost use Rattle.std.specs.Prelude.{OnOk};
+ghost use Rattle.std.specs.Prelude.{OnOk, take};
 ghost use Rattle.std.specs.Io.{ReadsAtMost};
 ghost use Rattle.streams.specs.Printing.{PrintsFor};
 ghost use Rattle.qasm_console.specs.Printed.{laid_texts};
@@ -53,13 +53,18 @@ fn read_listing<R: Files>(files: &R, name: &str, listing: &mut [u8]) -> io::Resu
     streams::read_full(&mut file, listing)
 }
 
-// The couplers are read to their end before the circuit.
-fn lay<R: Read, W: Write>(listing: &[u8], reader: &mut R, writer: &mut W) -> io::Result<()>
-    ensures { OnOk result (PrintsFor (laid_texts listing.now) (R.remaining reader.old) (W.contents writer.old) (W.contents writer.new)) }
+// The couplers are read to their end before the circuit: `listed` bytes of `listing`.
+fn lay<R: Read, W: Write>(
+    listing: &[u8; INPUT],
+    listed: usize,
+    reader: &mut R,
+    writer: &mut W,
+) -> io::Result<()>
+    ensures { OnOk result (PrintsFor (laid_texts (take listed listing.now)) (R.remaining reader.old) (W.contents writer.old) (W.contents writer.new)) }
 {
     let mut input = [0u8; INPUT];
     let n = streams::read_full(reader, &mut input)?;
-    programs::write_laid(writer, listing, &input[..n])
+    programs::write_laid(writer, listing, listed, &input, n)
 }
 
 // The file that the only argument names is read, and then the circuit. What is wrong with the file is told in one line on standard error, and so is how to call the
@@ -81,7 +86,7 @@ fn main(rt: HostRuntime) -> io::Result<()> {
     };
     let mut listing = [0u8; INPUT];
     match read_listing(&rt, path, &mut listing) {
-        Ok(listed) => lay(&listing[..listed], &mut rt.reader(), &mut io::writer(&rt)),
+        Ok(listed) => lay(&listing, listed, &mut rt.reader(), &mut io::writer(&rt)),
         Err(error) => fail_as(&mut errors, rt.alloc(), &name[..n], error),
     }
 }

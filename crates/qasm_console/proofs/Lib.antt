@@ -1,5 +1,3 @@
-pub mod Sizes
-pub mod Partly
 pub mod Whole
 pub mod Reading
 pub mod Beginning

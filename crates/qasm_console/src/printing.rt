@@ -9,7 +9,7 @@ ghost use Rattle.qasm_console.specs.Parts.{front_circuit, nothing_handed, handed
 
 use crate::OUTPUT;
 use crate::form::Statements;
-use console::parts::LaidPart;
+use console::parts::{LaidPart, Parts};
 use console::{COUPLER_LINES, GATE_LINES, INPUT, front, parts, refusing};
 use gates::job::Job;
 use qasm_lines::put;
@@ -164,6 +164,19 @@ pub fn lay_part(
     ensures { Prints most_shown (part_text (gates_text version) n couplers.now gates.now from) out.old result.bytes out.new × (result.next ≡ next_part n gates.now from) × (result.phase ≡ share_part n couplers.now gates.now from) }
 {
     parts::print_part(Statements { version }, n, couplers, gates, from, out)
+}
+
+impl Parts<{ OUTPUT }> for Statements {
+    fn lay_part(
+        self,
+        n: usize,
+        couplers: &[u32],
+        gates: &[u32],
+        from: usize,
+        out: &mut [u8; OUTPUT],
+    ) -> LaidPart {
+        lay_part(self.version, n, couplers, gates, from, out)
+    }
 }
 
 // Prints the whole common phase, behind the last part; nothing where it is 0.

@@ -1,9 +1,13 @@
 -- The line of each kind of gate, the head and the line of a common phase, spelt out. Assumes nothing.
 use mathlib.Core.Path.{◌≡◌, refl, ap}
+use mathlib.Core.Bool.{Bool, true, false}
 use mathlib.Core.List.{List, [], ◌∷◌, ◌++◌}
-use Prim.Native.Nat.{ℕ, zero, suc, ◌%◌}
+use Prim.Native.Nat.{ℕ, zero, suc, ◌%◌, ◌≤◌}
 use native.Mathlib.Omega.{arith}
+use lib.Dec.{eqb}
+use lib.ListN.{length}
 use borrow.Author.Tests.{eq-eqb, ne_eqb}
+use Rattle.sets.specs.Pick.{pick}
 use Rattle.gates.specs.Layout.{kind_in, a_in, b_in}
 use Rattle.lines.specs.Kinds.{number_of, kind_of}
 use Rattle.lines.specs.declared.kind.Kind.TheVariants.{Rotation}
@@ -11,7 +15,42 @@ use Rattle.lines.specs.Lines.{digits}
 use Rattle.lines.specs.Pattern.{filled}
 use Rattle.versions.specs.declared.Version.{Version}
 use Rattle.versions.specs.declared.Version.TheVariants.{Two, Three}
-use Rattle.qasm_lines.specs.Spelling.{pattern, numbers_in, gate_text, head_text, phase_text}
+use Rattle.qasm_lines.specs.Spelling.{cx_pattern, turn_pattern, x_pattern, h_pattern, pattern, numbers_in, gate_text, head_pattern, head_text, phase_pattern, phase_text}
+
+-- ---- the pattern of a kind
+
+module _ (v : Version) (kind : ℕ) where
+  pub pattern-short : (kind ≡ 1 → ⊥) → (kind ≡ 2 → ⊥) → 8 ≡ length (pattern v kind)
+  unfolding pattern
+  pattern-short a b = rw (ne_eqb kind 1 a, ne_eqb kind 2 b) (go (eqb kind 3))
+    where
+      go : (t : Bool) → 8 ≡ length (pick t x_pattern h_pattern)
+      go true = refl
+      go false = refl
+
+-- ---- how long a pattern is
+
+turn-most : (v : Version) → length (turn_pattern v) ≤ 21
+turn-most Two = omega arith
+turn-most Three = omega arith
+
+pub pattern-most : (v : Version) (kind : ℕ) → length (pattern v kind) ≤ 21
+unfolding pattern
+pattern-most v kind = go (eqb kind 1) (eqb kind 2) (eqb kind 3)
+  where
+    go : (t u w : Bool) → length (pick t cx_pattern (pick u (turn_pattern v) (pick w x_pattern h_pattern))) ≤ 21
+    go true u w = omega arith
+    go false true w = turn-most v
+    go false false true = omega arith
+    go false false false = omega arith
+
+pub head-pattern-most : (v : Version) → length (head_pattern v) ≤ 50
+head-pattern-most Two = omega arith
+head-pattern-most Three = omega arith
+
+pub phase-pattern-most : (v : Version) → length (phase_pattern v) ≤ 27
+phase-pattern-most Two = omega arith
+phase-pattern-most Three = omega arith
 
 -- no line where the phase is 0
 pub phase-text-none : (v : Version) (g : ℕ) → g % 131072 ≡ 0 → phase_text v g ≡ []

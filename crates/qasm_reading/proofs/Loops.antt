@@ -112,6 +112,10 @@ pub no-record : (o : Option ℕ) → is_some o ≡ false → length (option_to_l
 no-record None e = refl
 no-record (Some x) e = let z : ◌≡◌ {A = ℕ} 0 1 = cc e in absurd (omega arith)
 
+pub fill-next : (gate : Bool) (n : ℕ) {k : ℕ} → pick gate (n + 1) 0 ≤ k → n ≤ k → n + pick gate 1 0 ≤ k
+fill-next true n h l = h
+fill-next false n h l = omega arith
+
 -- n records stand at the front of out, and l is left
 pub record FillingGates (v : Version) (name : List ℕ) (from : List Word) (old out : List ℕ) (n : ℕ) (l : List Word) : Type 0 where
   pub put : take n out ++ (statement_run v name l).records ≡ (statement_run v name from).records

@@ -5,7 +5,7 @@
 
 ghost use Rattle.std.specs.Prelude.{◌≤◌, length, IfOk, IfSome};
 
-use console::programs;
+use console::{INPUT, front, programs};
 use qasm_reading::read;
 use qasm_text::write;
 use std::io;
@@ -70,7 +70,11 @@ fn read_scant<W: Write>(writer: &mut W, text: &[u8]) -> io::Result<()> {
 }
 
 fn answer<W: Write>(writer: &mut W, listing: &[u8], text: &[u8]) -> io::Result<()> {
-    qasm_console::programs::write_laid(writer, listing, text)?;
+    let mut first = [0u8; INPUT];
+    front::lend(listing, &mut first);
+    let mut second = [0u8; INPUT];
+    front::lend(text, &mut second);
+    qasm_console::programs::write_laid(writer, &first, listing.len(), &second, text.len())?;
     read_scant(writer, text)
 }
 

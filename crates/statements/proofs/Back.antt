@@ -128,6 +128,15 @@ qubit-most name o g e =
     let f = found-parts s.first.value (taken (mark 93) (Some s.first.rest)) g s.behind in
     omega (arith, number-most 255 _ s.first s.read, f.0)
 
+pub turn-le : (o : Option (List Word)) (name word : List ℕ) (t : TurnSaid) → read_turn word name o ≡ Some t → t.qubit ≤ 255
+unfolding read_turn read_tail
+turn-le o name word t e =
+    let k = steps (read_angle Units (read_opening word o)) _ t e in
+    let l = steps (read_tail name (Some k.first.rest)) _ t k.behind in
+    let m = steps (read_qubit name (taken (mark 41) (Some k.first.rest))) _ l.first l.read in
+    let f = found-parts m.first.value (taken (mark 59) (Some m.first.rest)) l.first m.behind in
+    omega (arith, qubit-most name _ m.first m.read, f.0, ap (λ (x : TurnSaid). x.qubit) (same_Some _ _ l.behind))
+
 -- what was read has a form, which stood there
 pub record GateBack (v : Version) (name : List ℕ) (o : Option (List Word)) (s : Said) (bs : List (List ℕ)) (t : List Word) : Type 0 where
   pub form : Form

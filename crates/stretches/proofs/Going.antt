@@ -1,12 +1,13 @@
 -- Going over the stretches of a job from the first gate to the last, as the code does. Assumes nothing.
 use mathlib.Core.Path.{◌≡◌, refl, sym, ap, ap₂, ◌∙◌}
-use mathlib.Core.Bool.{Bool, true}
+use mathlib.Core.Bool.{Bool, true, false}
 use mathlib.Core.List.{List, [], ◌∷◌}
 use Prim.Native.Nat.{ℕ, suc, ◌+◌, ◌-◌, ◌≤◌, ◌<◌}
 use native.Mathlib.Omega.{arith}
+use native.Mathlib.Numerals.{add-one}
 use native.Mathlib.Decide.{dec_lt}
 use lib.ListN.{length, get_or, take, drop, length-drop, drop_of_length-le}
-use lib.Seq.{take_all, drop-cons, drop-drop, get_or-drop, length-take-le}
+use lib.Seq.{take_all, take-nil, drop-cons, drop-drop, get_or-drop, length-take-le}
 use borrow.Author.Tests.{le-leb, lt-leb}
 use Rattle.sets.specs.Pick.{pick}
 use Rattle.gates.specs.Hadamards.{is_hadamard}
@@ -43,6 +44,33 @@ module _ (n : ℕ) (xs : List ℕ) where
   end-le : (k : ℕ) → k ≤ length xs → end_at n xs k ≤ length xs
   unfolding end_at
   end-le k l = omega (arith, first-le (is_hadamard n) (drop k xs), length-drop k xs)
+
+  module _ (k : ℕ) (l : k < length xs) (b : Bool) (e : b ≡ is_hadamard n (get_or xs k 0)) where
+    first : first_at (is_hadamard n) (drop k xs) ≡ pick b 0 (suc (first_at (is_hadamard n) (drop (suc k) xs)))
+    unfolding first_at
+    first = ap (first_at (is_hadamard n)) (drop-cons xs k 0 l) ∙ ap (λ (s : Bool). pick s 0 (suc (first_at (is_hadamard n) (drop (suc k) xs)))) (sym e)
+
+    pub end-here : b ≡ true → end_at n xs k ≡ k
+    unfolding end_at
+    end-here y = let f : first_at (is_hadamard n) (drop k xs) ≡ 0 = first ∙ ap (λ (s : Bool). pick s 0 (suc (first_at (is_hadamard n) (drop (suc k) xs)))) y in omega arith
+
+    pub end-next : b ≡ false → end_at n xs k ≡ end_at n xs (k + 1)
+    unfolding end_at
+    end-next y =
+        let f : first_at (is_hadamard n) (drop k xs) ≡ suc (first_at (is_hadamard n) (drop (suc k) xs)) = first ∙ ap (λ (s : Bool). pick s 0 (suc (first_at (is_hadamard n) (drop (suc k) xs)))) y in
+        omega (arith, f, ap (λ (m : ℕ). first_at (is_hadamard n) (drop m xs)) (add-one k))
+
+  pub end-past : (k : ℕ) → length xs ≤ k → end_at n xs k ≡ k
+  unfolding end_at first_at
+  end-past k l = let f : first_at (is_hadamard n) (drop k xs) ≡ 0 = ap (first_at (is_hadamard n)) (drop_of_length-le xs l) in omega arith
+
+  -- above the number of gates there is no stretch
+  pub stretch-none : (k : ℕ) → length xs < end_at n xs k → stretch_at n xs k ≡ []
+  stretch-none k l = ap (take (end_at n xs k - k)) (drop_of_length-le xs (past (dec_lt (length xs) k))) ∙ take-nil (end_at n xs k - k)
+    where
+      past : Dec (length xs < k) → length xs ≤ k
+      past (yes m) = omega (arith, m)
+      past (no m) = absurd (omega (arith, l, end-le k (omega (arith, m))))
 
   -- ---- one stretch more
 

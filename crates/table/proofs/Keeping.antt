@@ -66,6 +66,16 @@ pub keeping_none : (parity sum : List ℕ) (n : ℕ) → Keeping parity sum n 0 
 unfolding kept empty
 keeping_none parity sum n = record { first = refl; second = refl; count = refl; few = omega arith }
 
+-- past the first n nothing is looked at
+pub keeping-past : (parity sum : List ℕ) (n i : ℕ) (t : Sums) → Keeping parity sum n i t → n ≤ i → Keeping parity sum n (i + 1) t
+keeping-past parity sum n i t k b = record { first = rw (same parity, same sum) k.first; second = rw (same sum) k.second; count = rw (same sum) k.count; few = omega (arith, k.few) }
+  where
+    short : (xs : List ℕ) (j : ℕ) → n ≤ j → take j (take n xs) ≡ take n xs
+    short xs j l = take_all j (take n xs) (omega (arith, length-take n xs))
+
+    same : (xs : List ℕ) → take (i + 1) (take n xs) ≡ take i (take n xs)
+    same xs = short xs (i + 1) (omega arith) ∙ sym (short xs i b)
+
 module _ (parity sum : List ℕ) (n i : ℕ) (t : Sums) (lp : length parity ≡ 256) (ls : length sum ≡ 256) (k : Keeping parity sum n i t) (h : i < 256) (b : i < n) where
   more : (xs : List ℕ) → length xs ≡ 256 → take (i + 1) (take n xs) ≡ take i (take n xs) ++ get_or xs i 0 ∷ []
   more xs e =

@@ -24,6 +24,14 @@ pub stop-past : (xs : List ℕ) (n p i : ℕ) → n ≤ i → stops_at xs n p i 
 unfolding stops_at
 stop-past xs n p i h = simp (le-leb n i h)
 
+pub stop-found : (xs : List ℕ) (n p i : ℕ) → i < n → p ≤ get_or xs i 0 → stops_at xs n p i ≡ true
+unfolding stops_at
+stop-found xs n p i h g = simp (lt-leb n i h, le-leb p (get_or xs i 0) g)
+
+pub stop-not : (xs : List ℕ) (n p i : ℕ) → i < n → get_or xs i 0 < p → stops_at xs n p i ≡ false
+unfolding stops_at
+stop-not xs n p i h g = simp (lt-leb n i h, lt-leb p (get_or xs i 0) g)
+
 -- ---- the rank
 
 pub rank-le : (xs : List ℕ) (n p : ℕ) → rank_of xs n p ≤ n

@@ -56,6 +56,14 @@ pub layers-end : (n : ℕ) (xs : List ℕ) (i : ℕ) (L : List ℕ) → length x
 unfolding layers_from
 layers-end n xs i L h = rw (drop_of_length-le xs h)
 
+pub highest-step : (L : List ℕ) (q : ℕ) → q < length L → highest (drop q L) ≡ max (get_or L q 0) (highest (drop (q + 1) L))
+unfolding highest
+highest-step L q h = rw (add-one, drop-cons L q 0)
+
+pub highest-end : (L : List ℕ) (q : ℕ) → length L ≤ q → highest (drop q L) ≡ 0
+unfolding highest
+highest-end L q h = rw (drop_of_length-le L h)
+
 -- a fold that keeps the later of two finds the highest
 pub highest-folded : (L : List ℕ) (m : ℕ) → fold (λ a k. max k a) m L ≡ max m (highest L)
 unfolding highest

@@ -120,6 +120,10 @@ rotations-most gs = tally-bounded one_rotation one-rotation gs
 
 -- ---- the bound
 
+pub bound-none : (n t : ℕ) → n ≡ 0 → t ≡ bound_of n t
+unfolding bound_of
+bound-none n t e = rw e (omega arith)
+
 pub product_le : (a b c d : ℕ) → a ≤ c → b ≤ d → a * b ≤ c * d
 product_le a b c d h g = omega (arith, mul-le-mul_right b h, mul-le-mul_left c g)
 

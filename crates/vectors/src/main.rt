@@ -4,7 +4,7 @@
 
 ghost use Rattle.std.specs.Prelude.{◌≤◌, length, IfOk, IfSome};
 
-use console::programs;
+use console::{front, programs};
 use std::io;
 use std::io::{Read, Write};
 
@@ -35,8 +35,10 @@ fn turn<W: Write>(writer: &mut W, text: &[u8]) -> io::Result<usize>
     let Some(own) = closed(text) else {
         return Ok(text.len());
     };
-    let phase = programs::write_laid(writer, own)?;
-    programs::write_counts(writer, own)?;
+    let mut input = [0u8; console::INPUT];
+    front::lend(own, &mut input);
+    let phase = programs::write_laid(writer, &input, own.len())?;
+    programs::write_counts(writer, &input, own.len())?;
     programs::write_phase(writer, phase)?;
     Ok(0)
 }

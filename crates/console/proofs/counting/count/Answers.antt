@@ -1,4 +1,5 @@
 -- `console::counting::count` meets its contract. Assumes nothing.
+use native.Mathlib.Omega.{arith}
 use Prim.Native.Nat.{ℕ}
 use lib.ListN.{length-replicate}
 use Rattle.tallies.specs.Tally.{bound_of}
@@ -25,4 +26,4 @@ returns-in-Ok c = prints-same (text-read _ _ _ _ _ (length-replicate {A = ℕ} m
 
 pub returns-in-Err : goal.returns-in-Err
 unfolding bound_of counted_text
-returns-in-Err c = prints-same (text-unread _ _ _ (length-replicate {A = ℕ} most_coupler_lines 0) (length-replicate {A = ℕ} most_gate_lines 0) _ _ c.read.ensures.0 c.in-Err.is _) c.print_refusal.ensures
+returns-in-Err c = prints-same (text-unread _ _ _ (length-replicate {A = ℕ} most_coupler_lines 0) (length-replicate {A = ℕ} most_gate_lines 0) _ _ c.read.ensures.0 c.in-Err.is _) (c.print_refusal.ensures.prints (omega arith))

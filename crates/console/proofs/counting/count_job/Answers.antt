@@ -1,4 +1,5 @@
 -- `console::counting::count_job` meets its contract. Assumes nothing.
+use native.Mathlib.Omega.{arith}
 use borrow.Author.Rules.{rules}
 use mathlib.Core.Path.{sym, ◌∙◌}
 use Rattle.tallies.specs.Tally.{bound_of}
@@ -12,7 +13,7 @@ use Rattle.console.proofs.counting.count_job.Goals as goal
 
 pub returns-in-Err : goal.returns-in-Err
 unfolding bound_of
-returns-in-Err c = prints-same (counted-refused _ _ _ _ (sym c.in-Err.is ∙ c.judge.ensures) (stopped c.judge.ensures c.in-Err.is)) c.print_refusal.ensures
+returns-in-Err c = prints-same (counted-refused _ _ _ _ (sym c.in-Err.is ∙ c.judge.ensures) (stopped c.judge.ensures c.in-Err.is)) (c.print_refusal.ensures.prints (omega arith))
 
 pub count_stretches-counts-requires : goal.count_stretches-counts-requires
 count_stretches-counts-requires c = let p = job-passed _ _ _ (went c.judge.ensures c.in-Ok.is) in (p.accepts, p.short)

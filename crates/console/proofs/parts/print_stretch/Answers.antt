@@ -24,8 +24,8 @@ unfolding bound_of
 returns-in-Ok-clause-prints g c =
     let lent = length-replicate {A = ℕ} largest 0 in
     let z = laid-passed _ _ _ _ lent _ c.lay.ensures.0 _ c.lay.ensures.1 _ c.in-Ok.is in
-    let f = c.requires.form in
-    let h = c.requires.hadamard in
+    let f = g.met.F.Form.fits c.args.form in
+    let h = c.requires in
     let text = g.F.Form.text c.args.form in
     prints-same (unless-passed _ _ z)
     (both-printed _ (g.F.Form.line c.args.form) text f.none f.more _ _ _ c.args.out.now _ _ _ _ (search rules) (alone-is _ _ _ _ _ lent _ c.lay.ensures.0 c.lay.ensures.1 _ c.in-Ok.is)
@@ -38,7 +38,7 @@ returns-in-Ok-clause-phase g c = laid-share _ _ _ _ (length-replicate {A = ℕ} 
 
 pub returns-in-Err-clause-prints : goal.returns-in-Err-clause-prints
 unfolding bound_of
-returns-in-Err-clause-prints g c = prints-same (refused-said _ _ _ (replicate largest 0) (length-replicate {A = ℕ} largest 0) _ c.lay.ensures.0 _ c.in-Err.is _) c.print_refusal.ensures
+returns-in-Err-clause-prints g c = prints-same (refused-said _ _ _ (replicate largest 0) (length-replicate {A = ℕ} largest 0) _ c.lay.ensures.0 _ c.in-Err.is _) (c.print_refusal.ensures.prints (g.met.F.Form.fits c.args.form).refused)
 
 pub returns-in-Err-clause-phase : goal.returns-in-Err-clause-phase
 unfolding bound_of

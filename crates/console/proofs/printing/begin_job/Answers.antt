@@ -1,4 +1,5 @@
 -- `console::printing::begin_job` meets its contract. Assumes nothing.
+use native.Mathlib.Omega.{arith}
 use mathlib.Core.Path.{sym, ◌∙◌}
 use Rattle.verdicts.proofs.Judged.{went, stopped}
 use Rattle.tallies.specs.Tally.{bound_of}
@@ -9,7 +10,7 @@ use Rattle.console.proofs.printing.begin_job.Goals as goal
 
 pub returns-in-Err : goal.returns-in-Err
 unfolding bound_of
-returns-in-Err c = (prints-same (front-refused _ _ _ _ (sym c.in-Err.is ∙ c.judge.ensures) (stopped c.judge.ensures c.in-Err.is)) c.print_refusal.ensures, first-refused _ _ _ (stopped c.judge.ensures c.in-Err.is))
+returns-in-Err c = (prints-same (front-refused _ _ _ _ (sym c.in-Err.is ∙ c.judge.ensures) (stopped c.judge.ensures c.in-Err.is)) (c.print_refusal.ensures.prints (omega arith)), first-refused _ _ _ (stopped c.judge.ensures c.in-Err.is))
 
 pub print_head-requires : goal.print_head-requires
 print_head-requires c = head-accepted _ _ _ (went c.judge.ensures c.in-Ok.is)

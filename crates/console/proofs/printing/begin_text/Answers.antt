@@ -1,4 +1,5 @@
 -- `console::printing::begin_text` meets its contract. Assumes nothing.
+use native.Mathlib.Omega.{arith}
 use borrow.Author.Rules.{rules}
 use mathlib.Core.Path.{ap₂, ◌∙◌}
 use Rattle.tallies.specs.Tally.{bound_of}
@@ -16,4 +17,4 @@ returns-in-Ok c = begun-read _ _ _ _ _ (search rules) (search rules) _ c.read.en
 
 pub returns-in-Err : goal.returns-in-Err
 unfolding bound_of
-returns-in-Err c = begun-unread _ _ _ _ _ (search rules) (search rules) _ c.read.ensures.0 c.read.ensures.1 c.read.ensures.2 c.args.out.now _ _ 1 _ c.in-Err.is c.print_refusal.ensures
+returns-in-Err c = begun-unread _ _ _ _ _ (search rules) (search rules) _ c.read.ensures.0 c.read.ensures.1 c.read.ensures.2 c.args.out.now _ _ 1 _ c.in-Err.is (c.print_refusal.ensures.prints (omega arith))

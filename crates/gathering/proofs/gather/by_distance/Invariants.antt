@@ -1,10 +1,9 @@
 use Prim.Native.Nat.{◌-◌}
-use lib.ListN.{length}
 use Rattle.gathering.proofs.OrderCode.{Ordering}
 use Rattle.gathering.proofs.gather.by_distance.Given as goal
 
-abbrev pub invariant-loop-near : goal.invariant-loop-near
-invariant-loop-near l = Ordering l.near l.set l.v l.order.items l.done l.left
+abbrev pub invariant-loop-len : goal.invariant-loop-len
+invariant-loop-len l = Ordering l.near l.set l.v l.qubit l.len l.done l.left
 
-abbrev pub decreases-loop-near : goal.decreases-loop-near
-decreases-loop-near l = 20 - length l.order.items
+abbrev pub decreases-loop-len : goal.decreases-loop-len
+decreases-loop-len l = 20 - l.len

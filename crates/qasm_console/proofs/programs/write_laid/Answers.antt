@@ -1,26 +1,20 @@
 -- `qasm_console::programs::write_laid` meets its contract: the front, the parts and the common phase are the whole text. Assumes nothing.
-use Rattle.std.proofs.Common.{ℕ, ◌+◌, List, ◌++◌, arith, sym, ap, ap₂, ◌∙◌, subst, length}
+use Rattle.std.proofs.Common.{ℕ, ◌+◌, List, ◌++◌, arith, sym, ap, ap₂, ◌∙◌, subst, length, take}
 use Rattle.std.proofs.lemmas.Result.{on_ok_weaker}
 use Rattle.std.specs.Io.KnownBytes.{Appends}
 use Rattle.std.proofs.KnownBytes.{Appends-trans}
-use Rattle.tallies.specs.Tally.{bound_of}
 use Rattle.qasm_lines.specs.Spelling.{gates_text, phase_text}
 use Rattle.console.specs.Parts.{parts_from, phase_from}
 use Rattle.console.proofs.Fronts.{front-is}
 use Rattle.qasm_console.specs.Parts.{front_texts, behind_text}
-use Rattle.qasm_console.proofs.Partly.{statements-fit}
 use Rattle.qasm_console.proofs.InParts.{phase-text, in_parts}
 use Rattle.qasm_console.proofs.programs.write_laid.Goals as goal
-
-pub write_parts-requires : goal.write_parts-requires
-unfolding bound_of
-write_parts-requires g c = (omega arith, statements-fit c.begin_texts-begun.result.version)
 
 pub returns : goal.returns
 unfolding behind_text
 returns g c =
-    let b = c.begin_texts-begun.ensures in
-    let r = c.begin_texts-begun.result in
+    let b = c.begin-begun.ensures.begins_texts in
+    let r = c.begin-begun.result in
     let p = c.end-k.ensures in
     let old = g.W.Write.contents c.args.writer.now in
     let begun = g.W.Write.contents c.write_all.new.self in
@@ -30,7 +24,7 @@ returns g c =
     parts_from (gates_text r.version) r.job.qubits xs ys (m + 1) r.from ++ phase_text r.version (phase_from r.job.qubits xs ys (m + 1) r.from r.phase) in
     let whole = ap₂ (λ (xs ys : List ℕ). going xs ys (length ys)) c.first-2.ensures c.first-3.ensures in
     on_ok_weaker c.write_all-2.result
-    (λ a. subst (Appends old now') (ap (λ (x : List ℕ). front_texts c.args.listing.now c.args.text.now ++ x) whole ∙ sym (in_parts b))
+    (λ a. subst (Appends old now') (ap (λ (x : List ℕ). front_texts (take c.args.listed c.args.listing.now) (take c.args.len c.args.input.now) ++ x) whole ∙ sym (in_parts b))
     (Appends-trans old begun now' _ _ (subst (Appends old begun) (c.first.ensures ∙ front-is _ _ _ _ b.prints.bytes b.prints.memory) c.in_ok-write_all.ensures.bytes)
     (Appends-trans begun parted now' _ _ c.in_ok-phase.ensures.bytes
     (subst (Appends parted now') (c.first-4.ensures ∙ front-is _ _ _ _ p.bytes p.memory ∙ phase-text r.version _ _ c.in_ok-phase.ensures.phase) a))))

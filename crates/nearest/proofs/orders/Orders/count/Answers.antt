@@ -17,7 +17,7 @@ use Rattle.nearest.proofs.orders.Orders.count.Goals as goal
 pub returns-in_default : goal.returns-in_default
 returns-in_default c =
     let o = c.args.self.now in
-    let e = row-is _ _ _ _ o.orderly c.args.v _ _ _ c.requires.0 c.as_slice.ensures.value c.index-as_slice-v.is c.as_slice-2.ensures.value in
+    let e = row-is _ _ _ o.orderly _ _ _ c.requires.0 c.as_slice.ensures in
     absurd (omega (arith, ap length e, order-few o.near o.set c.args.v))
 
 pub loop-u-init : goal.loop-u-init
@@ -35,7 +35,7 @@ overflow_add-bound c = omega (arith, bound-few _ _ _ _ _ _ c.loop-u.invariant.3.
 pub loop-u-preserved : goal.loop-u-preserved
 loop-u-preserved c =
     let o = c.args.self.now in
-    let first = behind-first _ _ (row-is _ _ _ _ o.orderly c.args.v _ _ _ c.requires.0 c.as_slice.ensures.value c.index-as_slice-v.is c.as_slice-2.ensures.value) in
+    let first = behind-first _ _ (row-is _ _ _ o.orderly _ _ _ c.requires.0 c.as_slice.ensures) in
     let road = YieldsList-from_rev_slice {s = c.into_iter-u-iterator.result} (drop 1 (order_of o.near o.set c.args.v)) (cc) in
     let t = YieldsList-turn road c.loop-u.yielded _ c.loop-u.yielded_by _ _ c.in-Some.field-0 c.in-Some.is c.next.ensures.steps in
     let u = later-one _ _ _ t in
@@ -53,7 +53,7 @@ loop-u-preserved c =
 pub returns : goal.returns
 returns c =
     let o = c.args.self.now in
-    let first = behind-first _ _ (row-is _ _ _ _ o.orderly c.args.v _ _ _ c.requires.0 c.as_slice.ensures.value c.index-as_slice-v.is c.as_slice-2.ensures.value) in
+    let first = behind-first _ _ (row-is _ _ _ o.orderly _ _ _ c.requires.0 c.as_slice.ensures) in
     let road = YieldsList-from_rev_slice {s = c.into_iter-u-iterator.result} (drop 1 (order_of o.near o.set c.args.v)) (cc) in
     let t = YieldsList-end road c.loop-u.yielded _ c.loop-u.yielded_by _ _ c.in-None.is c.next.ensures.steps in
     omega (arith, c.min.ensures, counting-all _ _ _ _ _ _ _ c.loop-u.invariant.2 (all-later _ _ t.1))

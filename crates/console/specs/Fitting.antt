@@ -1,12 +1,13 @@
--- The lines of a job are a form of printing gates. Assumes nothing.
+-- The lines of a job are a form of printing gates: the proof of a law of `Form`, which code can only take from here. Assumes nothing.
 use mathlib.Core.Path.{◌≡◌, refl}
 use mathlib.Core.List.{List, []}
 use Prim.Native.Nat.{ℕ, ◌+◌, ◌*◌, ◌≤◌}
 use native.Mathlib.Omega.{arith}
 use lib.ListN.{length, drop, length-map, length-take}
+use Rattle.gates.specs.Limits.{most_couplers}
 use Rattle.gates.specs.Layout.{record_of}
 use Rattle.verdicts.specs.Verdicts.{number_of}
-use Rattle.tallies.specs.Tally.{largest}
+use Rattle.tallies.specs.Tally.{bound_of, largest}
 use Rattle.judging.specs.Tests.{verdict_of}
 use Rattle.laying.specs.Answers.{circuit_of}
 use Rattle.laying.proofs.Demands.{demand-2-fits}
@@ -39,3 +40,8 @@ lines-fit = record {
   refused = omega arith;
   part = part-fits;
 }
+
+-- the same with the largest B in numbers, as the code has it
+pub lines-form : PartsFit record_text records_text (6 + 12 * most_couplers + 12 * 10764)
+unfolding bound_of
+lines-form = lines-fit
