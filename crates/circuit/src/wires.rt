@@ -24,8 +24,7 @@ pub fn borne_on(parity: [u32; Job::QUBITS], q: usize) -> u32
     parity.get(q).copied().unwrap_or(0)
 }
 
-// A CNOT changes the parities, or the flips, in place: to copy them for each gate would cost more
-// than all the rest. Nothing changes where a wire is past the end.
+// A CNOT changes the parities, or the flips; nothing where a wire is past the end.
 fn join(next: &mut [u32; Job::QUBITS], control: usize, target: usize)
     ensures { next.new ≡ cnot control target next.old }
 {
@@ -34,7 +33,7 @@ fn join(next: &mut [u32; Job::QUBITS], control: usize, target: usize)
     }
 }
 
-// An X changes the flips in place.
+// An X changes the flips; nothing where the wire is past the end.
 fn turn_over(next: &mut [u32; Job::QUBITS], q: usize)
     ensures { next.new ≡ flip_step (X q) next.old }
 {
