@@ -5,6 +5,7 @@ use mathlib.Core.List.{List, [], ◌∷◌, ◌++◌, map, reverse}
 use Rattle.std.proofs.lemmas.List.{get_or-reverse, get_or_default, get_or-take, length-reverse, length-drop, length-take, take_all}
 use Prim.Native.Nat.{ℕ, zero, suc, ◌+◌, ◌-◌, ◌*◌, ◌≤◌, ◌<◌, min}
 use native.Mathlib.Omega.{arith}
+use native.Mathlib.Decide.{dec_lt}
 use lib.Bits.{bit_and, bit_xor}
 use lib.Dec.{eqb}
 use lib.ListN.{get_or, length, set, take, drop, replicate, length-append, length-map, length-replicate}
@@ -12,6 +13,7 @@ use lib.Seq.{sets}
 use Rattle.sets.specs.Pick.{pick}
 use Rattle.sets.specs.Bit.{has}
 use Rattle.sets.specs.Size.{lowest_of, only_of}
+use Rattle.gates.specs.Limits.{most_qubits}
 use Rattle.gates.specs.declared.gate.Gate.{Gate}
 use Rattle.gates.specs.declared.gate.Gate.TheVariants.{Cnot, Rotation, X, Bad}
 use Rattle.gathering.specs.declared.gather.Order.{Order}
@@ -19,7 +21,6 @@ use Rattle.gathering.specs.declared.gather.Move.{Move}
 use Rattle.gathering.specs.declared.gather.Moves.{Moves}
 use Rattle.gathering.specs.Order.{order_of, order_in, members_of}
 use Rattle.gathering.specs.Gather.{moves_at, left_at, gather_from, gather_of, along_of, most_moves, cnots_of, move_of, moves_of, moves_in, stored}
-use Rattle.gathering.proofs.OrderGrows.{order-few}
 use Rattle.gathering.proofs.OrderCode.{front-is, order-size, members-are}
 use Rattle.gathering.proofs.GatherWorks.{gather-step, gather_none, moves-few, gather-few, gather-from-few}
 
@@ -113,27 +114,35 @@ module _ (near : List ℕ) (Q : ℕ) (o : Order) (x : ℕ) (l : length o.qubit �
   unfolding along_of
   along-none h = ap (λ (j : ℕ). gather_from near o.qubit j Q x) (omega (arith, members-count)) ∙ gather_none near o.qubit Q x
 
-  pub along-is : 1 ≤ length (members_of o) → gather_from near (members_of o) (length (members_of o) - 1) Q x ≡ along_of near Q o x
+  pub along-is : gather_from near (members_of o) (length (members_of o) - 1) Q x ≡ along_of near Q o x
   unfolding along_of
-  along-is h =
-      gather-same near o.qubit (members_of o) (length (members_of o) - 1) Q x (λ j i. get_or-take o.len o.qubit j 0 (omega (arith, members-count)))
-      ∙ ap (λ (j : ℕ). gather_from near o.qubit j Q x) (omega (arith, members-count))
+  along-is = go (dec_lt 0 (length (members_of o)))
+    where
+      go : Dec (0 < length (members_of o)) → gather_from near (members_of o) (length (members_of o) - 1) Q x ≡ gather_from near o.qubit (min o.len most_qubits - 1) Q x
+      go (yes h) =
+          gather-same near o.qubit (members_of o) (length (members_of o) - 1) Q x (λ j i. get_or-take o.len o.qubit j 0 (omega (arith, members-count)))
+          ∙ ap (λ (j : ℕ). gather_from near o.qubit j Q x) (omega (arith, members-count))
+      go (no m) =
+          ap (λ (j : ℕ). gather_from near (members_of o) j Q x) (omega (arith, m)) ∙ gather_none near (members_of o) Q x
+          ∙ sym (ap (λ (j : ℕ). gather_from near o.qubit j Q x) (omega (arith, m, members-count)) ∙ gather_none near o.qubit Q x)
 
-  pub gathered-start : (ms : Moves) (k : ℕ) → 1 ≤ length (members_of o) → k ≡ length (members_of o) - 1 → ms ≡ moves_in [] → Gathered near (members_of o) ms k Q x (moves_in (along_of near Q o x))
+  pub gathered-start : (ms : Moves) (k : ℕ) → k ≡ length (members_of o) - 1 → ms ≡ moves_in [] → Gathered near (members_of o) ms k Q x (moves_in (along_of near Q o x))
   unfolding moves_in
-  gathered-start ms k h ek e =
+  gathered-start ms k ek e =
       rw (e, ek)
       (record {
         room = omega (arith, members-count);
-        holds = stored-start (gather_from near (members_of o) (length (members_of o) - 1) Q x) ∙ ap moves_in (along-is h);
+        holds = stored-start (gather_from near (members_of o) (length (members_of o) - 1) Q x) ∙ ap moves_in along-is;
       })
 
 module _ (near : List ℕ) (Q v x : ℕ) where
-  pub along-order : (o : Order) → o ≡ order_in (order_of near Q v) → along_of near Q o x ≡ gather_of near Q v x
+  -- an order whose members are those, whatever stands behind them
+  pub along-members : (o : Order) → length o.qubit ≡ 20 → members_of o ≡ order_of near Q v → along_of near Q o x ≡ gather_of near Q v x
   unfolding gather_of
-  along-order o e =
-      sym (along-is near Q o x (order-size near Q v o e) (omega (arith, ap length (members-are near Q v o e), order-few near Q v)))
-      ∙ ap (λ (os : List ℕ). gather_from near os (length os - 1) Q x) (members-are near Q v o e)
+  along-members o l e = sym (along-is near Q o x l) ∙ ap (λ (os : List ℕ). gather_from near os (length os - 1) Q x) e
+
+  pub along-order : (o : Order) → o ≡ order_in (order_of near Q v) → along_of near Q o x ≡ gather_of near Q v x
+  along-order o e = along-members o (order-size near Q v o e) (members-are near Q v o e)
 
 -- ---- the qubits behind the first, from the last one on
 

@@ -12,7 +12,7 @@ use lib.ListN.{length, drop}
 use Rattle.gathering.proofs.gather.along.Goals as goal
 
 pub loop-u-init : goal.loop-u-init
-loop-u-init c = (tt, tt, gathered-start _ _ c.args.order.now _ (search rules) _ _ (omega (arith, ap length c.as_slice.ensures)) (omega arith) c.new-moves.ensures)
+loop-u-init c = (tt, tt, gathered-start _ _ c.args.order.now _ (search rules) _ _ (omega arith) c.new-moves.ensures)
 
 pub loop-u-preserved : goal.loop-u-preserved
 loop-u-preserved c =
