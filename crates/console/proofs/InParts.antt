@@ -7,7 +7,9 @@ use native.Mathlib.Omega.{arith}
 use native.Mathlib.Decide.{ℕ_discrete}
 use lib.ListN.{length, take, get_or}
 use borrow.Author.Tests.{eq-eqb, ne_eqb}
-use Rattle.std.specs.Prelude.{Result, Ok, Err}
+use Rattle.std.specs.Prelude.{Option, Result, Ok, Err}
+use Rattle.std.specs.Io.KnownBytes.{Appends}
+use Rattle.std.proofs.KnownBytes.{Appends-trans}
 use Rattle.verdicts.specs.declared.verdict.Refusal.{Refusal}
 use Rattle.sets.specs.Pick.{pick}
 use Rattle.circuit.specs.Phase.{phases}
@@ -33,7 +35,7 @@ use Rattle.reading.proofs.Said.{read-says, unread-says}
 use Rattle.console.proofs.Choosing.{unless-passed, unless-refused}
 use Rattle.console.proofs.Fronts.{front-is}
 use Rattle.console.proofs.Reading.{couplers-counted, gates-counted}
-use Rattle.console.proofs.Beginning.{first-passed, first-refused}
+use Rattle.console.proofs.Beginning.{first-passed, first-refused, gates-whole}
 use Rattle.console.proofs.Partly.{parts-past, parts_are}
 use Rattle.console.proofs.Going.{phase-past}
 
@@ -152,3 +154,17 @@ module _ {s couplers gates out couplers' gates' out' : List ℕ} {r : Begun} (b 
       go (Err v) e =
           ap (λ (l : List ℕ). get_or l 0 0) (unread-as shares v e) ∙ phase-past 0 [] [] 1 1 0 (omega arith)
           ∙ sym (ap (λ (t : Bool). phases (pick t (phase_from n xs ys (length ys + 1) (first_part n xs ys) 0) 0) 0) (ne_eqb (number_of (judged_reading s most_coupler_lines most_gate_lines)) 0 (unread-says s most_coupler_lines most_gate_lines v e).0))
+
+  -- a writer that gets the front and then these parts gets the whole text; fs is the front, and ms and os are the lists that are handed on
+  module _ {fs ms os : List ℕ} (f : fs ≡ take r.bytes out') (c : ms ≡ take r.job.couplers couplers') (g : os ≡ take r.job.gates gates') where
+    counted-as : {A : Type 0} (P : List ℕ → List ℕ → ℕ → A) → P ms os (length os) ≡ P (take r.job.couplers couplers') (take r.job.gates gates') r.job.gates
+    counted-as P = ap₂ (λ (us ws : List ℕ). P us ws (length ws)) c g ∙ ap (P (take r.job.couplers couplers') (take r.job.gates gates')) (sym (gates-whole b))
+
+    pub text-written : (old now now' : Option (List ℕ)) → Appends old now fs → Appends now now' (parts_from records_text r.job.qubits ms os (length os + 1) r.from) → Appends old now' (laid_text s)
+    text-written old now now' p q =
+        subst (Appends old now') (sym in_parts)
+        (Appends-trans old now now' _ _ (subst (Appends old now) (f ∙ front-is _ _ _ _ b.prints.bytes b.prints.memory) p)
+        (subst (Appends now now') (counted-as (λ (us ws : List ℕ) (m : ℕ). parts_from records_text r.job.qubits us ws (m + 1) r.from)) q))
+
+    pub text-shared : (h : ℕ) → phases h 0 ≡ phases (phase_from r.job.qubits ms os (length os + 1) r.from 0) 0 → phases h 0 ≡ phases (phase_of_text s) 0
+    text-shared h e = e ∙ counted-as (λ (us ws : List ℕ) (m : ℕ). phases (phase_from r.job.qubits us ws (m + 1) r.from 0) 0) ∙ in_shares

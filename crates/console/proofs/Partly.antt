@@ -1,11 +1,12 @@
 -- A part as the program prints it: the lines of a stretch, and behind them that of a Hadamard. Assumes nothing.
 use mathlib.Core.Path.{◌≡◌, refl, sym, ap, ap₂, ◌∙◌, subst}
-use mathlib.Core.Bool.{Bool}
+use mathlib.Core.Bool.{Bool, true, false}
 use mathlib.Core.List.{List, [], ◌∷◌, ◌++◌}
 use Prim.Native.Nat.{ℕ, zero, suc, ◌+◌, ◌≤◌, ◌<◌}
 use native.Mathlib.Omega.{arith}
 use native.Mathlib.Decide.{dec_lt}
 use lib.ListN.{length, length-append}
+use lib.Dec.{leb}
 use lib.Seq.{sets, length-sets}
 use borrow.Author.Tests.{le-leb, lt-leb}
 use Rattle.sets.specs.Pick.{pick}
@@ -27,12 +28,13 @@ use Rattle.stretches.proofs.Alone.{alone-counts}
 use Rattle.sets.proofs.Lists.{all_head, all_tail}
 use Rattle.stretches.proofs.Judging.{lent-step}
 use Rattle.stretches.proofs.Parting.{parts_none, parts-step}
-use Rattle.lines.specs.Lent.{lines_end, lines_at, Wrote}
+use Rattle.lines.specs.Lent.{fitted_end, fitted_at, lines_end, lines_at, Wrote, Fitted, FittedLines}
 use Rattle.lines.proofs.Writes.{wrote_then, sets-onto}
 use Rattle.lines.proofs.Joined.{joined-append}
 use Rattle.lines.proofs.Recorded.{lines_fit}
 use Rattle.console.specs.Printed.{Prints, refusal_of, unless}
 use Rattle.console.specs.Parts.{part_text, next_part, share_part, parts_from}
+use Rattle.console.specs.Forms.{FittedUnless, FittedPart}
 use Rattle.console.proofs.Choosing.{unless-passed, unless-refused}
 
 -- two lists of records written one behind the other, a line each, where there is room for both
@@ -60,6 +62,40 @@ module _ (room : ℕ) (line : ℕ → List ℕ) (text : List ℕ → List ℕ) (
         memory = w.1 ∙ ap (sets out 0) (sym e) ∙ sets-onto (text (R ++ h)) out l;
       }
 
+-- ---- the same in a room of any size, where those are written that fit
+
+module _ (line : ℕ → List ℕ) where
+  fitted-same : (text : List ℕ) (at : ℕ) (old : List ℕ) → length (fitted_at text at old) ≡ length old
+  fitted-same text at old = go (leb (at + length text) (length old))
+    where
+      go : (b : Bool) → length (pick b (sets old at text) old) ≡ length old
+      go true = length-sets old at text
+      go false = refl
+
+  lines-same : (xs : List ℕ) (at : ℕ) (old : List ℕ) → length (lines_at line xs at old) ≡ length old
+  lines-same [] at old = refl
+  lines-same (x ∷ xs) at old = lines-same xs (fitted_end (line x) at (length old)) (fitted_at (line x) at old) ∙ fitted-same (line x) at old
+
+  lines-both : (xs ys : List ℕ) (at : ℕ) (old : List ℕ) → FittedLines line (lines_at line xs at old) (lines_end line xs at (length old)) ys (lines_at line (xs ++ ys) at old) (lines_end line (xs ++ ys) at (length old))
+  lines-both [] ys at old = (refl, refl)
+  lines-both (x ∷ xs) ys at old =
+      let m = fitted_at (line x) at old in
+      let e = fitted_end (line x) at (length old) in
+      let same : length m ≡ length old = fitted-same (line x) at old in
+      let rest = lines-both xs ys e m in (
+        sym (ap (lines_end line (xs ++ ys) e) same) ∙ rest.0 ∙ ap (λ (l : ℕ). lines_end line ys (lines_end line xs e l) (length (lines_at line xs e m))) same,
+        rest.1 ∙ ap (λ (l : ℕ). lines_at line ys (lines_end line xs e l) (lines_at line xs e m)) same,
+      )
+
+module _ (line : ℕ → List ℕ) (R h L out out₁ out₂ : List ℕ) (at bytes : ℕ) (is : L ≡ R)
+    (a : at ≡ lines_end line L 0 (length out)) (b : out₁ ≡ lines_at line L 0 out) (c : bytes ≡ lines_end line h at (length out₁)) (d : out₂ ≡ lines_at line h at out₁) where
+  pub both-fitted : FittedLines line out 0 (R ++ h) out₂ bytes
+  both-fitted =
+      let w = lines-both line R h 0 out in
+      let at' : at ≡ lines_end line R 0 (length out) = a ∙ ap (λ (x : List ℕ). lines_end line x 0 (length out)) is in
+      let out' : out₁ ≡ lines_at line R 0 out = b ∙ ap (λ (x : List ℕ). lines_at line x 0 out) is in
+      (c ∙ ap₂ (λ (i : ℕ) (x : List ℕ). lines_end line h i (length x)) at' out' ∙ sym w.0, d ∙ ap₂ (λ (i : ℕ) (x : List ℕ). lines_at line h i x) at' out' ∙ sym w.1)
+
 -- a stretch that was laid into a memory, which was `old`
 module _ (n : ℕ) (xs s old : List ℕ) (long : length old ≡ largest) (a : Answer) (e : a ≡ answered n xs s (length old)) where
   at-largest : answered n xs s largest ≡ a
@@ -69,6 +105,9 @@ module _ (n : ℕ) (xs s old : List ℕ) (long : length old ≡ largest) (a : An
     pub laid-passed : number_of (verdict_of n xs s largest) ≡ 0
     laid-passed = sym (ap (λ (room : ℕ). number_of (verdict_of n xs s room)) long) ∙ (alone-counts n xs s old laid long a e m r l).passed
 
+    pub passed-fitted : {line : ℕ → List ℕ} {us out out' : List ℕ} {k : ℕ} → FittedLines line out 0 us out' k → FittedUnless line (verdict_of n xs s largest) us out k out'
+    passed-fitted f = record { passed = λ _. f; refused = λ ne. absurd (ne laid-passed) }
+
     pub laid-share : r.phase ≡ phase_in (answered n xs s largest)
     laid-share = sym (ap phase_in (at-largest ∙ l))
 
@@ -77,6 +116,11 @@ module _ (n : ℕ) (xs s old : List ℕ) (long : length old ≡ largest) (a : An
     refused-said text =
         let r = refused_says n xs s largest v (at-largest ∙ l) in
         ap refusal_of (sym r) ∙ unless-refused (verdict_of n xs s largest) text (stopped refl r)
+
+    pub refused-fitted : {line : ℕ → List ℕ} {us out out' : List ℕ} {k : ℕ} → Fitted out 0 (refusal_of (Err v)) out' k → FittedUnless line (verdict_of n xs s largest) us out k out'
+    refused-fitted {out = out} {out' = out'} {k = k} f =
+        let r = refused_says n xs s largest v (at-largest ∙ l) in
+        record { passed = λ z. absurd (stopped refl r z); refused = λ _. subst (λ (t : List ℕ). Fitted out 0 t out' k) (ap refusal_of (sym r)) f }
 
     pub refused-share : 0 ≡ phase_in (answered n xs s largest)
     refused-share = sym (ap phase_in (at-largest ∙ l))
@@ -94,6 +138,17 @@ module _ (text : List ℕ → List ℕ) (n : ℕ) (xs ys : List ℕ) (k : ℕ) w
   pub part-text : k ≤ length ys → (s h : List ℕ) → s ≡ stretch_at n ys k → h ≡ hadamard_at n ys k → part_of s h ≡ part_text text n xs ys k
   unfolding part_text
   part-text l s h e d = ap₂ part_of e d ∙ sym (ap (λ (b : Bool). pick b (part_of (stretch_at n ys k) (hadamard_at n ys k)) []) (le-leb k (length ys) l))
+
+module _ (line : ℕ → List ℕ) (n : ℕ) (xs ys : List ℕ) (k : ℕ) {out out' : List ℕ} {r : ℕ} where
+  pub past-fitted : length ys < k → (r ≡ 0) × (out' ≡ out) → FittedPart line n xs ys k out r out'
+  past-fitted l p = record { within = λ m. absurd (omega (arith, l, m)); past = λ _. p }
+
+  pub part-fitted : k ≤ length ys → (s h : List ℕ) → s ≡ stretch_at n ys k → h ≡ hadamard_at n ys k → FittedUnless line (verdict_of n xs s largest) (stretch_records n xs s ++ h) out r out' → FittedPart line n xs ys k out r out'
+  part-fitted l s h e d f =
+      record {
+        within = λ _. subst (λ (t : List ℕ). FittedUnless line (verdict_of n xs t largest) (stretch_records n xs t ++ hadamard_at n ys k) out r out') e (subst (λ (t : List ℕ). FittedUnless line (verdict_of n xs s largest) (stretch_records n xs s ++ t) out r out') d f);
+        past = λ m. absurd (omega (arith, l, m));
+      }
 
 module _ (n : ℕ) (xs ys : List ℕ) (k : ℕ) where
   pub past_next : length ys < k → k ≡ next_part n ys k

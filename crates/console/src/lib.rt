@@ -14,6 +14,7 @@ pub mod parts;
 pub mod printing;
 pub mod programs;
 pub mod refusing;
+mod slices;
 
 // Lent for what is read: one byte more than a job's text may have, so that the reader sees a longer one.
 pub const INPUT: usize = read::MOST_BYTES + 1;

@@ -7,8 +7,9 @@ ghost use Rattle.stretches.specs.Laid.{stretch_records};
 ghost use Rattle.stretches.specs.Parts.{hadamard_at};
 ghost use Rattle.console.specs.Printed.{Prints, unless};
 ghost use Rattle.console.specs.Parts.{part_text, next_part, share_part};
+ghost use Rattle.console.specs.Forms.{PartsFit, FittedUnless, FittedPart};
 
-use crate::form::Form;
+use crate::form::{Fitting, Form};
 use crate::refusing;
 use laying::lay;
 use stretches::cut;
@@ -30,7 +31,7 @@ pub struct Printed {
 }
 
 // A stretch laid, and the Hadamard behind it.
-fn print_stretch<F: Form<ROOM>, const ROOM: usize>(
+fn print_stretch<F: Form, const ROOM: usize>(
     form: F,
     n: usize,
     couplers: &[u32],
@@ -39,7 +40,8 @@ fn print_stretch<F: Form<ROOM>, const ROOM: usize>(
     out: &mut [u8; ROOM],
 ) -> Printed
     requires { (gates : List ℕ) × (k : ℕ) × (hadamard.now ≡ hadamard_at n gates k) }
-    ensures prints { Prints ROOM (unless (verdict_of n couplers.now stretch.now largest) (F.text form (stretch_records n couplers.now stretch.now ++ hadamard.now))) out.old result.bytes out.new }
+    ensures fitted { FittedUnless (F.line form) (verdict_of n couplers.now stretch.now largest) (stretch_records n couplers.now stretch.now ++ hadamard.now) out.old result.bytes out.new }
+    ensures prints { PartsFit (F.line form) (F.text form) ROOM → Prints ROOM (unless (verdict_of n couplers.now stretch.now largest) (F.text form (stretch_records n couplers.now stretch.now ++ hadamard.now))) out.old result.bytes out.new }
     ensures phase { result.phase ≡ phase_in (answered n couplers.now stretch.now largest) }
 {
     let mut laid = [0u32; tally::LARGEST];
@@ -57,8 +59,8 @@ fn print_stretch<F: Form<ROOM>, const ROOM: usize>(
     }
 }
 
-// Prints the part of the stretch that begins at `from`; nothing above the number of gates.
-pub fn print_part<F: Form<ROOM>, const ROOM: usize>(
+// Prints the part of the stretch that begins at `from`, the whole of it where there is room for each part; nothing above the number of gates.
+pub fn print_part<F: Form, const ROOM: usize>(
     form: F,
     n: usize,
     couplers: &[u32],
@@ -66,7 +68,8 @@ pub fn print_part<F: Form<ROOM>, const ROOM: usize>(
     from: usize,
     out: &mut [u8; ROOM],
 ) -> LaidPart
-    ensures prints { Prints ROOM (part_text (F.text form) n couplers.now gates.now from) out.old result.bytes out.new }
+    ensures fitted { FittedPart (F.line form) n couplers.now gates.now from out.old result.bytes out.new }
+    ensures prints { PartsFit (F.line form) (F.text form) ROOM → Prints ROOM (part_text (F.text form) n couplers.now gates.now from) out.old result.bytes out.new }
     ensures next { result.next ≡ next_part n gates.now from }
     ensures share { result.phase ≡ share_part n couplers.now gates.now from }
 {
@@ -87,8 +90,24 @@ pub fn print_part<F: Form<ROOM>, const ROOM: usize>(
     }
 }
 
+// The same in a form whose memory has the room.
+pub fn print_whole_part<F: Fitting<ROOM>, const ROOM: usize>(
+    form: F,
+    n: usize,
+    couplers: &[u32],
+    gates: &[u32],
+    from: usize,
+    out: &mut [u8; ROOM],
+) -> LaidPart
+    ensures prints { Prints ROOM (part_text (F.text form) n couplers.now gates.now from) out.old result.bytes out.new }
+    ensures next { result.next ≡ next_part n gates.now from }
+    ensures share { result.phase ≡ share_part n couplers.now gates.now from }
+{
+    print_part(form, n, couplers, gates, from, out)
+}
+
 // A form whose parts an entry point of its own prints.
-pub trait Parts<const ROOM: usize>: Form<ROOM> {
+pub trait Parts<const ROOM: usize>: Fitting<ROOM> {
     fn lay_part(
         self,
         n: usize,

@@ -122,7 +122,7 @@ pub fn lay_part(
 ) -> LaidPart
     ensures { Prints most_printed (part_text records_text n couplers.now gates.now from) out.old result.bytes out.new × (result.next ≡ next_part n gates.now from) × (result.phase ≡ share_part n couplers.now gates.now from) }
 {
-    parts::print_part(Lines, n, couplers, gates, from, out)
+    parts::print_whole_part(Lines, n, couplers, gates, from, out)
 }
 
 impl Parts<{ OUTPUT }> for Lines {

@@ -7,6 +7,7 @@ ghost use Rattle.console.specs.Printed.{refusal_of, phase_line, laid_text, count
 
 use crate::form::Lines;
 use crate::parts::Parts;
+pub use crate::slices::{write_counts, write_laid, write_parts};
 use crate::{COUPLER_LINES, GATE_LINES, INPUT, OUTPUT, counting, front, printing, refusing};
 use circuit::wires;
 use lines::put;
@@ -14,8 +15,8 @@ use std::io;
 use std::io::Write;
 use verdicts::verdict::Verdict;
 
-// The parts from the one that begins at `from`, each printed into `out` where the one before was: the common phase, which was `phase`, with their shares.
-pub fn write_parts<W: Write, F: Parts<ROOM>, const ROOM: usize>(
+// The parts from the one that begins at `from`, each printed by its form's own `lay_part` into `out` where the one before was: the common phase, which was `phase`, with their shares.
+pub fn write_laid_parts<W: Write, F: Parts<ROOM>, const ROOM: usize>(
     writer: &mut W,
     form: F,
     n: usize,
@@ -40,7 +41,11 @@ pub fn write_parts<W: Write, F: Parts<ROOM>, const ROOM: usize>(
 }
 
 // What the laying program writes for `len` bytes of `input`. No text has a line for the common phase, which is returned.
-pub fn write_laid<W: Write>(writer: &mut W, input: &[u8; INPUT], len: usize) -> io::Result<u32>
+pub fn write_laid_input<W: Write>(
+    writer: &mut W,
+    input: &[u8; INPUT],
+    len: usize,
+) -> io::Result<u32>
     ensures bytes { OnOk result (Appends (W.contents writer.old) (W.contents writer.new) (laid_text (take len input.now))) }
     ensures phase { IfOk result (λ g. phases g 0 ≡ phases (phase_of_text (take len input.now)) 0) }
 {
@@ -50,7 +55,7 @@ pub fn write_laid<W: Write>(writer: &mut W, input: &[u8; INPUT], len: usize) -> 
     let begun = printing::begin(input, len, &mut couplers, &mut gates, &mut out);
     writer.write_all(front::first(&out, begun.bytes))?;
     let job = begun.job;
-    write_parts(
+    write_laid_parts(
         writer,
         Lines,
         job.qubits,
@@ -63,7 +68,11 @@ pub fn write_laid<W: Write>(writer: &mut W, input: &[u8; INPUT], len: usize) -> 
 }
 
 // What the counting program writes for them.
-pub fn write_counts<W: Write>(writer: &mut W, input: &[u8; INPUT], len: usize) -> io::Result<()>
+pub fn write_counts_input<W: Write>(
+    writer: &mut W,
+    input: &[u8; INPUT],
+    len: usize,
+) -> io::Result<()>
     ensures { OnOk result (Appends (W.contents writer.old) (W.contents writer.new) (counted_text (take len input.now))) }
 {
     let mut out = [0u8; OUTPUT];

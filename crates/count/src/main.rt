@@ -15,7 +15,7 @@ fn count<R: Read, W: Write>(reader: &mut R, writer: &mut W) -> io::Result<()>
 {
     let mut input = [0u8; console::INPUT];
     let n = streams::read_full(reader, &mut input)?;
-    programs::write_counts(writer, &input, n)
+    programs::write_counts_input(writer, &input, n)
 }
 
 // A read or a write that fails ends it, with the reason on standard error and exit status 1.

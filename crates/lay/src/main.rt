@@ -16,7 +16,7 @@ fn lay<R: Read, W: Write>(reader: &mut R, writer: &mut W) -> io::Result<()>
 {
     let mut input = [0u8; console::INPUT];
     let n = streams::read_full(reader, &mut input)?;
-    programs::write_laid(writer, &input, n)?;
+    programs::write_laid_input(writer, &input, n)?;
     Ok(())
 }
 

@@ -64,7 +64,7 @@ fn lay<R: Read, W: Write>(
 {
     let mut input = [0u8; INPUT];
     let n = streams::read_full(reader, &mut input)?;
-    programs::write_laid(writer, listing, listed, &input, n)
+    programs::write_laid_input(writer, listing, listed, &input, n)
 }
 
 // The file that the only argument names is read, and then the circuit. What is wrong with the file is told in one line on standard error, and so is how to call the

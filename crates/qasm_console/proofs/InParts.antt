@@ -8,7 +8,9 @@ use native.Mathlib.Decide.{ℕ_discrete, dec_lt}
 use lib.Dec.{eqb}
 use lib.ListN.{length, take}
 use borrow.Author.Tests.{eq-eqb}
-use Rattle.std.specs.Prelude.{Result, Ok, Err}
+use Rattle.std.specs.Prelude.{Option, Result, Ok, Err}
+use Rattle.std.specs.Io.KnownBytes.{Appends}
+use Rattle.std.proofs.KnownBytes.{Appends-trans}
 use Rattle.verdicts.specs.declared.verdict.Refusal.{Refusal}
 use Rattle.sets.specs.Pick.{pick}
 use Rattle.verdicts.specs.Verdicts.{number_of}
@@ -36,6 +38,7 @@ use Rattle.versions.specs.declared.Version.{Version}
 use Rattle.qasm_lines.specs.Spelling.{head_text, gates_text, phase_pattern, phase_text, circuit_text}
 use Rattle.lines.specs.Pattern.{filled}
 use Rattle.qasm_lines.proofs.Placed.{gates-append}
+use Rattle.console.proofs.Fronts.{front-is}
 use Rattle.qasm_reading.specs.declared.read.Circuit.{Circuit}
 use Rattle.qasm_reading.specs.Parsing.{parsed_circuit}
 use Rattle.qasm_reading.specs.Readings.{circuit_gates, circuit_in, judged_circuit_text, circuit_reading}
@@ -191,3 +194,15 @@ module _ {s t couplers gates out couplers' gates' out' : List ℕ} {r : BegunCir
       go : (w : Result Job Refusal) → couplers_reading s most_coupler_lines ≡ w → laid_texts s t ≡ front_texts s t ++ going
       go (Ok i) e = listed-parts i e
       go (Err v) e = unlisted-parts v e
+
+  -- a writer that gets the front, then these parts and last the line of the common phase gets the whole text; fs is the front, es the line, and ms and os are the lists that are handed on
+  module _ {fs ms os : List ℕ} (f : fs ≡ take r.bytes out') (c : ms ≡ take r.job.couplers couplers') (g : os ≡ take r.job.gates gates') where
+    pub texts-written : (old begun parted now' : Option (List ℕ)) (es : List ℕ) (h : ℕ) → Appends old begun fs → Appends begun parted (parts_from (gates_text r.version) r.job.qubits ms os (length os + 1) r.from)
+        → phases h 0 ≡ phases (phase_from r.job.qubits ms os (length os + 1) r.from r.phase) 0 → es ≡ phase_text r.version h → Appends parted now' es → Appends old now' (laid_texts s t)
+    unfolding behind_text
+    texts-written old begun parted now' es h p q e d w =
+        let behind : List ℕ → List ℕ → List ℕ = λ us ws.
+        parts_from (gates_text r.version) r.job.qubits us ws (length ws + 1) r.from ++ phase_text r.version (phase_from r.job.qubits us ws (length ws + 1) r.from r.phase) in
+        subst (Appends old now') (ap (λ (x : List ℕ). front_texts s t ++ x) (ap₂ behind c g) ∙ sym in_parts)
+        (Appends-trans old begun now' _ _ (subst (Appends old begun) (f ∙ front-is _ _ _ _ b.prints.bytes b.prints.memory) p)
+        (Appends-trans begun parted now' _ _ q (subst (Appends parted now') (d ∙ phase-text r.version _ _ e) w)))

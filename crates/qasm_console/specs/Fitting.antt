@@ -1,4 +1,4 @@
--- The statements of a circuit are a form of printing gates, and there is room for each part: the proof of a law of `Form`, which code can only take from here. Assumes nothing.
+-- The statements of a circuit are a form of printing gates, and there is room for each part: the proof of a law of `Fitting`, which code can only take from here. Assumes nothing.
 use mathlib.Core.Path.{◌≡◌, refl}
 use mathlib.Core.List.{List}
 use Prim.Native.Nat.{ℕ, ◌+◌, ◌*◌, ◌≤◌}

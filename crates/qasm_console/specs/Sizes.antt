@@ -1,4 +1,4 @@
--- How many bytes the statements of a part have: 26 at most for each laid gate, and for the Hadamard behind them. A law of `Form` rests on it, and so it stands here. Assumes nothing.
+-- How many bytes the statements of a part have: 26 at most for each laid gate, and for the Hadamard behind them. A law of `Fitting` rests on it, and so it stands here. Assumes nothing.
 use mathlib.Core.Path.{◌≡◌, sym, ap, ◌∙◌}
 use mathlib.Core.Bool.{true}
 use mathlib.Core.List.{List, [], ◌∷◌, map}

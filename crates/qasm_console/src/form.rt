@@ -4,7 +4,7 @@ ghost use Rattle.qasm_lines.specs.Spelling.{gate_text, gates_text};
 ghost use Rattle.qasm_console.specs.Fitting.{statements-form};
 
 use crate::OUTPUT;
-use console::form::Form;
+use console::form::{Fitting, Form};
 use qasm_lines::put;
 use versions::Version;
 
@@ -13,7 +13,7 @@ pub struct Statements {
     pub version: Version,
 }
 
-impl Form<{ OUTPUT }> for Statements {
+impl Form for Statements {
     ghost line = { λ s. gate_text s.version };
 
     ghost text = { λ s. gates_text s.version };
@@ -21,6 +21,8 @@ impl Form<{ OUTPUT }> for Statements {
     fn put(self, out: &mut [u8], from: usize, gates: &[u32]) -> usize {
         put::put_gates(out, from, self.version, gates)
     }
+}
 
+impl Fitting<{ OUTPUT }> for Statements {
     ghost fits = { λ s. statements-form s.version };
 }

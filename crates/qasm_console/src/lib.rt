@@ -8,6 +8,7 @@ use tallies::tally;
 pub mod form;
 pub mod printing;
 pub mod programs;
+mod slices;
 
 // Lent for what is printed at a time: 26 bytes for each gate of a stretch, and for the Hadamard behind it.
 pub const OUTPUT: usize = 26 * (tally::LARGEST + 1);

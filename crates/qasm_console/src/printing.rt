@@ -163,7 +163,7 @@ pub fn lay_part(
 ) -> LaidPart
     ensures { Prints most_shown (part_text (gates_text version) n couplers.now gates.now from) out.old result.bytes out.new × (result.next ≡ next_part n gates.now from) × (result.phase ≡ share_part n couplers.now gates.now from) }
 {
-    parts::print_part(Statements { version }, n, couplers, gates, from, out)
+    parts::print_whole_part(Statements { version }, n, couplers, gates, from, out)
 }
 
 impl Parts<{ OUTPUT }> for Statements {

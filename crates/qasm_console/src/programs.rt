@@ -4,13 +4,14 @@ ghost use Rattle.std.specs.Io.KnownBytes.{Appends};
 ghost use Rattle.qasm_console.specs.Printed.{laid_texts};
 
 use crate::form::Statements;
+pub use crate::slices::write_laid;
 use crate::{OUTPUT, printing};
 use console::{COUPLER_LINES, GATE_LINES, INPUT, front, programs};
 use std::io;
 use std::io::Write;
 
 // For a couplers' text, `listed` bytes of `listing`, and a circuit's, `len` of `input`: the front, the parts, and last the common phase.
-pub fn write_laid<W: Write>(
+pub fn write_laid_input<W: Write>(
     writer: &mut W,
     listing: &[u8; INPUT],
     listed: usize,
@@ -34,7 +35,7 @@ pub fn write_laid<W: Write>(
     writer.write_all(front::first(&out, begun.bytes))?;
     let job = begun.job;
     let version = begun.version;
-    let phase = programs::write_parts(
+    let phase = programs::write_laid_parts(
         writer,
         Statements { version },
         job.qubits,

@@ -74,7 +74,7 @@ fn answer<W: Write>(writer: &mut W, listing: &[u8], text: &[u8]) -> io::Result<(
     front::lend(listing, &mut first);
     let mut second = [0u8; INPUT];
     front::lend(text, &mut second);
-    qasm_console::programs::write_laid(writer, &first, listing.len(), &second, text.len())?;
+    qasm_console::programs::write_laid_input(writer, &first, listing.len(), &second, text.len())?;
     read_scant(writer, text)
 }
 

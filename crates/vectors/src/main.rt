@@ -37,8 +37,8 @@ fn turn<W: Write>(writer: &mut W, text: &[u8]) -> io::Result<usize>
     };
     let mut input = [0u8; console::INPUT];
     front::lend(own, &mut input);
-    let phase = programs::write_laid(writer, &input, own.len())?;
-    programs::write_counts(writer, &input, own.len())?;
+    let phase = programs::write_laid_input(writer, &input, own.len())?;
+    programs::write_counts_input(writer, &input, own.len())?;
     programs::write_phase(writer, phase)?;
     Ok(0)
 }

@@ -9,4 +9,4 @@ use Rattle.lay.proofs.lay.Goals as goal
 pub returns : goal.returns
 returns g c =
     let read = c.in_ok-n.ensures in
-    printed-for laid_text (most_bytes + 1) laid-enough (g.R.Read.remaining c.args.reader.now) _ _ _ c.in_ok-n.n c.read_full.new.buf (search rules) read.bytes read.bound.0 read.end c.in_ok-write_laid.ensures.bytes
+    printed-for laid_text (most_bytes + 1) laid-enough (g.R.Read.remaining c.args.reader.now) _ _ _ c.in_ok-n.n c.read_full.new.buf (search rules) read.bytes read.bound.0 read.end c.in_ok-write_laid_input.ensures.bytes

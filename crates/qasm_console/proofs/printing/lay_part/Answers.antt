@@ -4,4 +4,4 @@ use Rattle.qasm_console.proofs.printing.lay_part.Goals as goal
 
 pub returns : goal.returns
 unfolding bound_of
-returns c = (c.print_part.ensures.prints, c.print_part.ensures.next, c.print_part.ensures.share)
+returns c = (c.print_whole_part.ensures.prints, c.print_whole_part.ensures.next, c.print_whole_part.ensures.share)

@@ -1,11 +1,11 @@
--- `console::programs::write_parts` meets its contract: each part begins behind the one before, and so it ends. Assumes nothing.
+-- `console::programs::write_laid_parts` meets its contract: each part begins behind the one before, and so it ends. Assumes nothing.
 use Rattle.std.proofs.Common.{arith, ap, ◌∙◌, refl, subst}
 use Rattle.std.specs.Io.KnownBytes.{Appends}
 use Rattle.circuit.specs.Phase.{phases}
 use Rattle.console.proofs.Fronts.{front-is}
 use Rattle.console.proofs.Partly.{next-later}
 use Rattle.console.proofs.Going.{going-none, going-on, going-written, going-added}
-use Rattle.console.proofs.programs.write_parts.Goals as goal
+use Rattle.console.proofs.programs.write_laid_parts.Goals as goal
 
 pub loop-from-init : goal.loop-from-init
 loop-from-init g c = going-none _ _ _ _ c.args.from c.args.phase _
