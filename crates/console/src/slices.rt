@@ -13,7 +13,7 @@ use circuit::wires;
 use std::io;
 use std::io::Write;
 
-// The parts from the one that begins at `from`, the whole of each where there is room for it: the common phase, which was `phase`, with their shares.
+// The parts from the one that begins at `from`, the whole of each where there is room for each part: the common phase, which was `phase`, with their shares.
 pub fn write_parts<W: Write, F: Form, const ROOM: usize>(
     writer: &mut W,
     form: F,

@@ -8,7 +8,7 @@ mod tests {
     use reading::read;
     use std::test::Fail;
 
-    // A job, its laid job and the line of its counts. The first two lines of the laid job are the front, two more the part up to the Hadamard, and one is the last part.
+    // A job, its laid job and the line of its counts. The first two lines of the laid job are the front, three more the first part, its Hadamard last, and one is the last part.
     const JOB: &'static [u8] = b"q\t2\ne\t0\t1\nn\t0\nr\t0\t5\nh\t1\nc\t0\t1\n";
 
     const LAID: &'static [u8] = b"q\t2\ne\t0\t1\nr\t0\t65531\nn\t0\nh\t1\nc\t0\t1\n";

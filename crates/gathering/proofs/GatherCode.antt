@@ -136,7 +136,7 @@ module _ (near : List ℕ) (Q : ℕ) (o : Order) (x : ℕ) (l : length o.qubit �
       })
 
 module _ (near : List ℕ) (Q v x : ℕ) where
-  -- an order whose members are those, whatever stands behind them
+  -- an order whose members are those of `order_of`, whatever stands behind them
   pub along-members : (o : Order) → length o.qubit ≡ 20 → members_of o ≡ order_of near Q v → along_of near Q o x ≡ gather_of near Q v x
   unfolding gather_of
   along-members o l e = sym (along-is near Q o x l) ∙ ap (λ (os : List ℕ). gather_from near os (length os - 1) Q x) e
